@@ -1,0 +1,14 @@
+pub mod Stable
+pub mod Rows
+pub mod Closed
+pub mod Substitutes
+pub mod Quantified
+pub mod Cancel
+pub mod Nameless
+pub mod Putting
+pub mod Joint
+pub mod Faithful
+pub mod SameTests
+pub mod SameFormulas
+pub mod Inhabited
+pub mod Pull

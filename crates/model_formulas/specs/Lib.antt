@@ -1,0 +1,9 @@
+pub mod Variables
+pub mod VariableTests
+pub mod Terms
+pub mod Formulas
+pub mod Substitution
+pub mod Nameless
+pub mod WellSorted
+pub mod SameFormulas
+pub mod Satisfaction

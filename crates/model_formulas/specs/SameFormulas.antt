@@ -1,0 +1,73 @@
+-- The tests of sameness, which compute: of values, terms and nameless formulas. Nothing here is to be
+-- believed: the laws say that each is the equality of its two sides.
+use Rattle.std.specs.Prelude.{Bool, true, false, ◌&&◌, ℤ, ◌==◌, int_le, bytes_eq}
+use Rattle.model_shapes.specs.Sorts.{same_data_sort, same_sort}
+use Rattle.model_shapes.specs.Values.{Value, null, nolist, node_number, list_number, int, str, boolean}
+use Rattle.model_formulas.specs.Variables.{same_var}
+use Rattle.model_formulas.specs.Terms.{Term, literal, variable, sum, difference, appended}
+use Rattle.model_formulas.specs.Formulas.{Formula, Side, whole, hole_left, hole_right, truth, falsity, conjunction, disjunction, implication, negation, existential, universal, equality, at_most, empty, bare_hole, node_formula, one_tree, one_root, concatenation, grove_sum, grove_sum_hole, application, hole_adjoint, context_adjoint, same_as, length_is, value_meets}
+
+abbrev pub int_eq : ℤ → ℤ → Bool
+int_eq a b = int_le a b && int_le b a
+
+abbrev pub same_bool : Bool → Bool → Bool
+same_bool true b = b
+same_bool false true = false
+same_bool false false = true
+
+-- whether two plain terms are the same, as a test
+abbrev pub same_value : Value → Value → Bool
+same_value null null = true
+same_value nolist nolist = true
+same_value (int a) (int b) = int_eq a b
+same_value (str a) (str b) = bytes_eq a b
+same_value (boolean a) (boolean b) = same_bool a b
+same_value (node_number a) (node_number b) = a == b
+same_value (list_number a) (list_number b) = a == b
+same_value a b = false
+
+abbrev pub same_term : Term → Term → Bool
+same_term (literal v) (literal w) = same_value v w
+same_term (variable x) (variable y) = same_var x y
+same_term (sum a b) (sum c d) = same_term a c && same_term b d
+same_term (difference a b) (difference c d) = same_term a c && same_term b d
+same_term (appended a b) (appended c d) = same_term a c && same_term b d
+same_term a b = false
+
+abbrev pub same_side : Side → Side → Bool
+same_side whole whole = true
+same_side hole_left hole_left = true
+same_side hole_right hole_right = true
+same_side a b = false
+
+-- whether two nameless formulas are the same, as a test
+abbrev pub same_formula : Formula → Formula → Bool
+same_formula truth truth = true
+same_formula falsity falsity = true
+same_formula (conjunction p q) (conjunction p' q') = same_formula p p' && same_formula q q'
+same_formula (disjunction p q) (disjunction p' q') = same_formula p p' && same_formula q q'
+same_formula (implication p q) (implication p' q') = same_formula p p' && same_formula q q'
+same_formula (negation p) (negation p') = same_formula p p'
+same_formula (existential s p) (existential s' p') = same_sort s s' && same_formula p p'
+same_formula (universal s p) (universal s' p') = same_sort s s' && same_formula p p'
+same_formula (equality a b) (equality a' b') = same_term a a' && same_term b b'
+same_formula (at_most a b) (at_most a' b') = same_term a a' && same_term b b'
+same_formula (empty k) (empty k') = same_data_sort k k'
+same_formula (bare_hole k) (bare_hole k') = same_data_sort k k'
+same_formula (node_formula n i p l) (node_formula n' i' p' l') =
+    same_term n n' && (same_term i i' && (same_formula p p' && same_term l l'))
+same_formula (one_tree p) (one_tree p') = same_formula p p'
+same_formula (one_root p) (one_root p') = same_formula p p'
+same_formula (concatenation d p q) (concatenation d' p' q') =
+    same_side d d' && (same_formula p p' && same_formula q q')
+same_formula (grove_sum p q) (grove_sum p' q') = same_formula p p' && same_formula q q'
+same_formula (grove_sum_hole p q) (grove_sum_hole p' q') = same_formula p p' && same_formula q q'
+same_formula (application h p q) (application h' p' q') =
+    same_data_sort h h' && (same_formula p p' && same_formula q q')
+same_formula (hole_adjoint p q) (hole_adjoint p' q') = same_formula p p' && same_formula q q'
+same_formula (context_adjoint k p q) (context_adjoint k' p' q') =
+    same_data_sort k k' && (same_formula p p' && same_formula q q')
+same_formula (same_as a) (same_as a') = same_term a a'
+same_formula (length_is a) (length_is a') = same_term a a'
+same_formula (value_meets s a p) (value_meets s' a' p') = same_sort s s' && (same_term a a' && same_formula p p')
+same_formula p q = false

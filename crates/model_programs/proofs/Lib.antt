@@ -1,0 +1,12 @@
+pub mod Runs
+pub mod Groves
+pub mod StoreLaws
+pub mod Fine
+pub mod SameRuns
+pub mod Unmodified
+pub mod Blocks
+pub mod Picks
+pub mod Worked
+pub mod Plain
+pub mod Changing
+pub mod InContext

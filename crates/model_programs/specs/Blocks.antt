@@ -1,0 +1,16 @@
+-- A run of pieces followed by others.
+use Rattle.std.specs.Prelude.{◌≡◌, List, ◌++◌}
+use Rattle.model_shapes.specs.Trees.{Trees}
+use Rattle.model_programs.specs.Stores.{Store}
+use Rattle.model_programs.specs.Theories.{Procedures}
+use Rattle.model_programs.specs.Machine.{Pick, Piece, RunOutcome, ended, runs}
+
+abbrev pub Unended : RunOutcome → Type 0
+Unended (ended st g) = ⊥
+Unended o = Unit {0}
+
+pub data Followed (th : Procedures) (ps : List Pick) (k k' : List Piece) (st : Store) (g : Trees) : Type 0 where
+  -- the pieces don't end: the others play no part
+  not_yet : Unended (runs th ps k st g) → runs th ps (k ++ k') st g ≡ runs th ps k st g → Followed th ps k k' st g
+  -- the pieces end with some of the picks: the others have the rest
+  ended_with : (used left : List Pick) (st' : Store) (g' : Trees) → ps ≡ used ++ left → runs th used k st g ≡ ended st' g' → runs th ps (k ++ k') st g ≡ runs th left k' st' g' → Followed th ps k k' st g

@@ -1,0 +1,10 @@
+pub mod Stores
+pub mod Conditions
+pub mod Commands
+pub mod Theories
+pub mod Sorting
+pub mod Groves
+pub mod Machine
+pub mod Outcomes
+pub mod LocalTriples
+pub mod Blocks

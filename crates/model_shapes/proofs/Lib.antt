@@ -1,0 +1,3 @@
+pub mod Basics
+pub mod Sameness
+pub mod Shapes

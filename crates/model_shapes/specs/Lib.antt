@@ -1,0 +1,6 @@
+pub mod Sorts
+pub mod Values
+pub mod Trees
+pub mod Shapes
+pub mod Things
+pub mod Contexts

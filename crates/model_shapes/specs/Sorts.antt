@@ -1,0 +1,74 @@
+-- The sorts of values, of data and of contexts.
+-- Data sorts and contexts are those of POPL 2005 and PODS 2008; the value sorts are the language's own.
+use Rattle.std.specs.Prelude.{Bool, true, false, ◌&&◌}
+use mathlib.Core.HLevel.{Discrete}
+
+-- the sorts of values: node numbers, list numbers, integers, texts and truth values
+pub data ValueSort : Type 0 where
+  node_sort list_sort int_sort str_sort bool_sort : ValueSort
+  deriving Discrete as ValueSort-discrete
+
+-- the sorts of data
+pub data DataSort : Type 0 where
+  tree forest grove : DataSort
+  deriving Discrete as DataSort-discrete
+
+-- a value, a shape, or a context: first the sort of its hole, then the sort of what it gives
+pub data Sort : Type 0 where
+  value : ValueSort → Sort
+  shape : DataSort → Sort
+  context : DataSort → DataSort → Sort
+  deriving Discrete as Sort-discrete
+
+-- which of these are sorts: no tree and no forest has a hole for a grove
+abbrev pub is_sort : Sort → Bool
+is_sort (value v) = true
+is_sort (shape k) = true
+is_sort (context grove grove) = true
+is_sort (context grove tree) = false
+is_sort (context grove forest) = false
+is_sort (context tree k) = true
+is_sort (context forest k) = true
+
+-- the data sort that a shape has and that a context gives; of a value sort nothing is asked
+abbrev pub outer : Sort → DataSort
+outer (value v) = tree
+outer (shape k) = k
+outer (context h k) = k
+
+-- the sort of the hole of a context; of a value sort nothing is asked
+abbrev pub inner : Sort → DataSort
+inner (value v) = tree
+inner (shape k) = k
+inner (context h k) = h
+
+-- the same sort but for the data sort that it gives
+abbrev pub giving : DataSort → Sort → Sort
+giving k (value v) = value v
+giving k (shape j) = shape k
+giving k (context h j) = context h k
+
+-- the tests of equality
+abbrev pub same_value_sort : ValueSort → ValueSort → Bool
+same_value_sort node_sort node_sort = true
+same_value_sort list_sort list_sort = true
+same_value_sort int_sort int_sort = true
+same_value_sort str_sort str_sort = true
+same_value_sort bool_sort bool_sort = true
+same_value_sort a b = false
+
+abbrev pub same_data_sort : DataSort → DataSort → Bool
+same_data_sort tree tree = true
+same_data_sort forest forest = true
+same_data_sort grove grove = true
+same_data_sort a b = false
+
+abbrev pub same_sort : Sort → Sort → Bool
+same_sort (value a) (value b) = same_value_sort a b
+same_sort (shape a) (shape b) = same_data_sort a b
+same_sort (context h k) (context i l) = same_data_sort h i && same_data_sort k l
+same_sort a b = false
+
+-- sorts are equal or not
+pub sort_eq : Discrete Sort
+sort_eq = Sort-discrete ValueSort-discrete DataSort-discrete

@@ -1,0 +1,46 @@
+-- The values of terms and variables.
+-- Node numbers and list numbers are the identifiers of PODS 2008; integers have no bounds here.
+use Rattle.std.specs.Prelude.{ℕ, ◌<◌, ℤ, Bool, List}
+use Rattle.std.proofs.Math.Decide.{ℕ_discrete}
+use Rattle.std.proofs.Math.IntN.{ℤ_discrete}
+use Rattle.std.proofs.Math.Bool.{Bool-discrete}
+use mathlib.Core.HLevel.{Discrete}
+use mathlib.Core.List.{List-discrete}
+use Rattle.model_shapes.specs.Sorts.{ValueSort, node_sort, list_sort, int_sort, str_sort, bool_sort}
+
+-- a value; a text is the list of its bytes
+pub data Value : Type 0 where
+  null nolist : Value
+  node_number list_number : ℕ → Value
+  int : ℤ → Value
+  str : List ℕ → Value
+  boolean : Bool → Value
+  deriving Discrete as Value-discrete
+
+-- the sort of a value
+abbrev pub value_sort : Value → ValueSort
+value_sort null = node_sort
+value_sort (node_number n) = node_sort
+value_sort nolist = list_sort
+value_sort (list_number n) = list_sort
+value_sort (int z) = int_sort
+value_sort (str s) = str_sort
+value_sort (boolean b) = bool_sort
+
+-- the value is of the sort, and the number of a node or a list is positive
+abbrev pub FitsValue : ValueSort → Value → Type 0
+FitsValue node_sort null = Unit
+FitsValue node_sort (node_number n) = 0 < n
+FitsValue list_sort nolist = Unit
+FitsValue list_sort (list_number n) = 0 < n
+FitsValue int_sort (int z) = Unit
+FitsValue str_sort (str s) = Unit
+FitsValue bool_sort (boolean b) = Unit
+FitsValue s x = ⊥
+
+-- texts and values are equal or not
+pub text_eq : Discrete (List ℕ)
+text_eq = List-discrete ℕ_discrete
+
+pub value_eq : Discrete Value
+value_eq = Value-discrete ℕ_discrete ℤ_discrete text_eq Bool-discrete
