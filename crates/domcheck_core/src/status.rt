@@ -1,0 +1,39 @@
+// How a call of the program ends.
+ghost use Rattle.std.specs.Prelude.{◌≡◌};
+ghost use Rattle.domcheck_core.specs.Numbers.{number_of};
+
+/// How a call of the program ended.
+#[derive(Clone, Copy, Debug, PartialEq, Eq)]
+pub enum Status {
+    /// The whole output of the command was written.
+    Done,
+    /// A step isn't an instance of its rule, or a proof doesn't end in its procedure's own triple.
+    StepFails,
+    /// The words have none of the forms.
+    BadWords,
+    /// The file isn't of the form that is read.
+    BadText,
+    /// Memory ran out, at any place; nothing was written.
+    OutOfMemory,
+    /// The library failed while the file was read; nothing was written.
+    ReadFault,
+    /// The sink failed; a prefix of the output was written.
+    WriteFault,
+}
+
+impl Status {
+    /// The exit status of the program, by which scripts tell how it ended.
+    pub fn number(&self) -> u8
+        ensures { result ≡ number_of self.now }
+    {
+        match self {
+            Status::Done => 0,
+            Status::StepFails => 1,
+            Status::BadWords => 2,
+            Status::BadText => 3,
+            Status::OutOfMemory => 10,
+            Status::ReadFault => 11,
+            Status::WriteFault => 12,
+        }
+    }
+}

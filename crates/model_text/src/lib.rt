@@ -1,0 +1,4 @@
+//! Text.
+#![tactic(auto)]
+
+pub fn nothing() {}

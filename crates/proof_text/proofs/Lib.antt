@@ -1,0 +1,4 @@
+pub mod Leaves
+pub mod Judgements
+pub mod Steps
+pub mod Theories

@@ -1,0 +1,4 @@
+//! Theories from lexemes.
+#![tactic(auto)]
+
+pub fn nothing() {}

@@ -1,0 +1,5 @@
+pub mod Terminals
+pub mod Sound
+pub mod Only
+pub mod Whole
+pub mod Lists
