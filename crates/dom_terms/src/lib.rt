@@ -5,6 +5,7 @@
 #![tactic(auto)]
 
 mod conditions;
+mod copied;
 mod limits;
 mod list;
 mod memory;
@@ -15,6 +16,7 @@ mod values;
 mod verdicts;
 
 pub use conditions::Cond;
+pub use copied::Copied;
 pub use limits::LimitKind;
 pub use list::List;
 pub use memory::OutOfMemory;

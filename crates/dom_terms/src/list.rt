@@ -1,5 +1,6 @@
-ghost use Rattle.std.specs.Prelude.{◌≡◌, ◌≤◌, ◌↔◌, [], ◌∷◌, ◌++◌, length, IsTrue, OnOk, OnErr, slice_get, option_copied, IsNone};
+ghost use Rattle.std.specs.Prelude.{◌≡◌, ◌≤◌, ◌↔◌, [], ◌∷◌, ◌++◌, length, map, IsTrue, IfOk, OnOk, OnErr, slice_get, option_copied, IsNone};
 
+use crate::copied::Copied;
 use crate::memory::OutOfMemory;
 use std::alloc::Global;
 use std::marker::Model;
@@ -66,5 +67,23 @@ impl<T: Drop> List<T> {
     {
         self.items.push(item)?;
         Ok(())
+    }
+}
+
+impl<T: Copied> Copied for List<T> {
+    ghost use Rattle.std.specs.Prelude as plain;
+
+    ghost Seen = { plain.List T.Seen };
+
+    ghost seen = { map T.seen };
+
+    fn copy(&self, alloc: Global) -> Result<List<T>, OutOfMemory>
+        ensures { IfOk result (λ copied. map T.seen copied ≡ map T.seen self.now) }
+    {
+        let mut copied = List::new(alloc);
+        for item in self.as_slice() {
+            copied.push(item.copy(alloc)?)?;
+        }
+        Ok(copied)
     }
 }

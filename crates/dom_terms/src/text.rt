@@ -1,6 +1,7 @@
 ghost use Rattle.std.specs.Prelude.{◌≡◌, ◌≤◌, ◌↔◌, [], ◌++◌, length, IfOk, OnOk, OnErr, slice_get, option_copied, IsNone};
 ghost use Rattle.std.specs.Char.{encode_utf8};
 
+use crate::copied::Copied;
 use crate::memory::OutOfMemory;
 use std::alloc::Global;
 use std::marker::Model;
@@ -68,11 +69,18 @@ impl Text {
     {
         self.characters.as_str()
     }
+}
 
-    /// The same text, on memory of its own.
-    pub fn copy(&self, alloc: Global) -> Result<Text, OutOfMemory>
+impl Copied for Text {
+    ghost use Rattle.std.specs.Prelude.{List, ℕ};
+
+    ghost Seen = { List ℕ };
+
+    ghost seen = { λ text. text };
+
+    fn copy(&self, alloc: Global) -> Result<Text, OutOfMemory>
         ensures { IfOk result (λ copied. copied ≡ self.now) }
     {
-        Text::from_str(alloc, self.characters.as_str())
+        Text::from_str(alloc, self.as_str())
     }
 }
