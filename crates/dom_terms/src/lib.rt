@@ -9,6 +9,7 @@ mod copied;
 mod limits;
 mod list;
 mod memory;
+mod same;
 mod sorts;
 mod terms;
 mod text;
@@ -20,6 +21,9 @@ pub use copied::Copied;
 pub use limits::LimitKind;
 pub use list::List;
 pub use memory::OutOfMemory;
+pub use same::{
+    same_data_sort, same_logic_var, same_prog_var, same_sort, same_text, same_value_sort,
+};
 pub use sorts::{DataSort, Sort, ValueSort};
 pub use terms::{LogicVar, ProgVar, Term};
 pub use text::Text;
