@@ -2,9 +2,9 @@
 use Rattle.std.specs.Prelude.{◌≡◌, ℕ, List, Option, Some, None}
 use Rattle.model_programs.specs.Theories.{Theory}
 use Rattle.model_rules.specs.Accepted.{IsAccepted}
-use Rattle.model_text.specs.Files.{SpellsFile}
-use Rattle.model_text.specs.Words.{Request, check}
-use Rattle.model_text.specs.Output.{accepted_line, not_accepted_line, bad_words_line, bad_text_line}
+use Rattle.model_grammar.specs.Files.{SpellsFile}
+use Rattle.model_grammar.specs.Words.{Request, check}
+use Rattle.model_grammar.specs.Output.{accepted_line, not_accepted_line, bad_words_line, bad_text_line}
 use Rattle.domcheck_core.specs.declared.status.Status.{Status}
 use Rattle.domcheck_core.specs.declared.status.Status.TheVariants as status
 

@@ -5,8 +5,8 @@ use Rattle.outside_io.specs.Pieces.{Took, TookPrefix}
 use Rattle.model_programs.specs.Theories.{Theory, procedures_of}
 use Rattle.model_programs.specs.LocalTriples.{MeetsItsSpecification}
 use Rattle.model_rules.specs.Accepted.{Each}
-use Rattle.model_text.specs.Files.{SpellsFile}
-use Rattle.model_text.specs.Words.{Request, check}
+use Rattle.model_grammar.specs.Files.{SpellsFile}
+use Rattle.model_grammar.specs.Words.{Request, check}
 use Rattle.domcheck_core.specs.Answers.{Books, Accepted, IsAnswer, IsTold}
 use Rattle.domcheck_core.specs.declared.status.Status.{Status}
 use Rattle.domcheck_core.specs.declared.status.Status.TheVariants as status

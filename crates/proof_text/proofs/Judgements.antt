@@ -4,8 +4,8 @@ use Rattle.model_shapes.specs.Sorts.{DataSort, grove}
 use Rattle.model_formulas.specs.Formulas.{Named}
 use Rattle.model_programs.specs.Commands.{Command}
 use Rattle.model_programs.specs.Theories.{JudgementOf, triple}
-use Rattle.model_text.specs.Lexemes.{Lexeme, terminal, number}
-use Rattle.model_text.specs.Grammar.{one, SpellsFormula, SpellsCommand, SpellsDataSort, SpellsNumber, small_number, SpellsNumbers, last_number, more_numbers, SpellsPremises, no_premise, some_premises, SpellsJudgement, triple_at}
+use Rattle.model_text.specs.Lexemes.{Lexeme, terminal, number_lexeme}
+use Rattle.model_grammar.specs.Grammar.{one, SpellsFormula, SpellsCommand, SpellsDataSort, SpellsNumber, small_number, SpellsNumbers, last_number, more_numbers, SpellsPremises, no_premise, some_premises, SpellsJudgement, triple_at}
 use Rattle.token_readers.specs.Reading.{Read, ret, then, when, expect, leaf, sep_list, not_next}
 use Rattle.token_readers.proofs.Sound.{Sound, s_ret, s_then, s_case, s_expect, s_close}
 use Rattle.token_readers.proofs.Only.{Only, OrDeep, read, Prefix_free, o_last, o_then}

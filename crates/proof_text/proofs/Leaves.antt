@@ -6,8 +6,8 @@ use Rattle.std.proofs.lemmas.Slice.Eq.{bytes_eq-Decides}
 use Rattle.model_shapes.specs.Sorts.{DataSort, grove}
 use Rattle.model_formulas.specs.Formulas.{Named, truth, empty}
 use Rattle.model_programs.specs.Commands.{Command, skip}
-use Rattle.model_text.specs.Lexemes.{Lexeme, terminal, step_word, name, number, is_reserved}
-use Rattle.model_text.specs.Grammar.{one, SpellsFormula, true_word, empty_grove, SpellsCommand, skip_word, SpellsDataSort, grove_word, SpellsName, plain_name, SpellsWord, plain_word, reserved_word, step_itself, SpellsNumber, small_number}
+use Rattle.model_text.specs.Lexemes.{Lexeme, terminal, step_word, name_lexeme, number_lexeme, is_reserved}
+use Rattle.model_grammar.specs.Grammar.{one, SpellsFormula, true_word, empty_grove, SpellsCommand, skip_word, SpellsDataSort, grove_word, SpellsName, plain_name, SpellsWord, plain_word, reserved_word, step_itself, SpellsNumber, small_number}
 use Rattle.token_readers.specs.Reading.{Read, leaf, leaf_or, Answer, At}
 use Rattle.token_readers.proofs.Sound.{Sound, s_ret, s_fail, s_case, s_leaf, s_close}
 use Rattle.token_readers.proofs.Only.{Only, OrDeep, read, Prefix_free}
@@ -19,11 +19,11 @@ chosen true x a e = (refl, cc)
 chosen false x a e = absurd cc
 
 name_is : (t : Lexeme) (a : List ℕ) → leaf_name t ≡ Some a → SpellsName a (t ∷ [])
-name_is (name w) a e = let h : w ≡ a = cc in subst (λ (z : List ℕ). SpellsName z (name w ∷ [])) h (plain_name w)
+name_is (name_lexeme w) a e = let h : w ≡ a = cc in subst (λ (z : List ℕ). SpellsName z (name_lexeme w ∷ [])) h (plain_name w)
 name_is _ a e = absurd cc
 
 word_is : (t : Lexeme) (a : List ℕ) → leaf_word t ≡ Some a → SpellsWord a (t ∷ [])
-word_is (name w) a e = let h : w ≡ a = cc in subst (λ (z : List ℕ). SpellsWord z (name w ∷ [])) h (plain_word w)
+word_is (name_lexeme w) a e = let h : w ≡ a = cc in subst (λ (z : List ℕ). SpellsWord z (name_lexeme w ∷ [])) h (plain_word w)
 word_is (step_word line) a e = let h : codes "step" ≡ a = cc in subst (λ (z : List ℕ). SpellsWord z (step_word line ∷ [])) h (step_itself line)
 word_is (terminal w) a e =
     let h = chosen (is_reserved w) w a e in
@@ -31,29 +31,29 @@ word_is (terminal w) a e =
 word_is _ a e = absurd cc
 
 number_is : (t : Lexeme) (a : ℕ) → leaf_number t ≡ Some a → SpellsNumber a (t ∷ [])
-number_is (number n) a e =
+number_is (number_lexeme n) a e =
     let h = chosen (nat_le n 4294967295) n a e in
-    subst (λ (z : ℕ). SpellsNumber z (number n ∷ [])) h.1 (small_number n (leb-true n 4294967295 h.0))
+    subst (λ (z : ℕ). SpellsNumber z (number_lexeme n ∷ [])) h.1 (small_number n (leb-true n 4294967295 h.0))
 number_is _ a e = absurd cc
 
 sort_is : (t : Lexeme) (a : DataSort) → leaf_sort t ≡ Some a → SpellsDataSort a (t ∷ [])
-sort_is (name w) a e =
+sort_is (name_lexeme w) a e =
     let h = chosen (bytes_eq w (codes "g")) grove a e in
     let same : codes "g" ≡ w = sym ((bytes_eq-Decides w (codes "g")).0 h.0) in
-    subst (λ (z : DataSort). SpellsDataSort z (name w ∷ [])) h.1 (subst (λ (z : List ℕ). SpellsDataSort grove (name z ∷ [])) same grove_word)
+    subst (λ (z : DataSort). SpellsDataSort z (name_lexeme w ∷ [])) h.1 (subst (λ (z : List ℕ). SpellsDataSort grove (name_lexeme z ∷ [])) same grove_word)
 sort_is _ a e = absurd cc
 
 pub name_sound : (n : ℕ) → Sound n (leaf leaf_name) SpellsName
-name_sound n = s_leaf n leaf_name SpellsName ([], name [] ∷ [], plain_name []) name_is
+name_sound n = s_leaf n leaf_name SpellsName ([], name_lexeme [] ∷ [], plain_name []) name_is
 
 pub word_sound : (n : ℕ) → Sound n (leaf leaf_word) SpellsWord
-word_sound n = s_leaf n leaf_word SpellsWord ([], name [] ∷ [], plain_word []) word_is
+word_sound n = s_leaf n leaf_word SpellsWord ([], name_lexeme [] ∷ [], plain_word []) word_is
 
 pub number_sound : (n : ℕ) → Sound n (leaf leaf_number) SpellsNumber
-number_sound n = s_leaf n leaf_number SpellsNumber (0, number 0 ∷ [], small_number 0 (omega arith)) number_is
+number_sound n = s_leaf n leaf_number SpellsNumber (0, number_lexeme 0 ∷ [], small_number 0 (omega arith)) number_is
 
 pub sort_sound : (n : ℕ) → Sound n (leaf leaf_sort) SpellsDataSort
-sort_sound n = s_leaf n leaf_sort SpellsDataSort (grove, name (codes "g") ∷ [], grove_word) sort_is
+sort_sound n = s_leaf n leaf_sort SpellsDataSort (grove, name_lexeme (codes "g") ∷ [], grove_word) sort_is
 
 pub formula_sound : (n : ℕ) → Sound n formula_at SpellsFormula
 unfolding formula_at

@@ -3,7 +3,7 @@ use Rattle.std.proofs.Common.{◌≡◌, ℕ, ◌≤◌, List, [], ◌∷◌, �
 use Rattle.model_formulas.specs.Formulas.{Named}
 use Rattle.model_programs.specs.Theories.{StepOf}
 use Rattle.model_text.specs.Lexemes.{Lexeme, terminal, step_word}
-use Rattle.model_text.specs.Grammar.{SpellsStep, by_word, SpellsSteps, no_step, one_step}
+use Rattle.model_grammar.specs.Grammar.{SpellsStep, by_word, SpellsSteps, no_step, one_step}
 use Rattle.token_readers.specs.Reading.{Read, leaf, many, not_begun}
 use Rattle.token_readers.proofs.Sound.{Sound, After, s_then, s_expect, s_close}
 use Rattle.token_readers.proofs.Only.{Only, OrDeep, read, Prefix_free, o_last, o_then}

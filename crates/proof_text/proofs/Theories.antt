@@ -5,7 +5,7 @@ use Rattle.model_formulas.specs.Formulas.{Named}
 use Rattle.model_programs.specs.Commands.{Command}
 use Rattle.model_programs.specs.Theories.{StepOf, ProcedureOf, Theory}
 use Rattle.model_text.specs.Lexemes.{Lexeme, terminal}
-use Rattle.model_text.specs.Grammar.{one, SpellsFormula, SpellsCommand, SpellsDataSort, SpellsName, SpellsNumber, SpellsSteps, SpellsProcedure, procedure, SpellsProcedures, last_procedure, more_procedures, SpellsTheory, theory}
+use Rattle.model_grammar.specs.Grammar.{one, SpellsFormula, SpellsCommand, SpellsDataSort, SpellsName, SpellsNumber, SpellsSteps, SpellsProcedure, procedure, SpellsProcedures, last_procedure, more_procedures, SpellsTheory, theory}
 use Rattle.token_readers.specs.Reading.{Read, ret, then, expect, leaf, many, the_terminal, not_begun}
 use Rattle.token_readers.proofs.Sound.{Sound, After, s_ret, s_then, s_expect, s_close, the_terminal_is}
 use Rattle.token_readers.proofs.Only.{Only, OrDeep, read, Prefix_free, o_last, o_then}

@@ -5,26 +5,26 @@ use Rattle.model_shapes.specs.Sorts.{DataSort, grove}
 use Rattle.model_formulas.specs.Formulas.{Named, truth, empty}
 use Rattle.model_programs.specs.Commands.{Command, skip}
 use Rattle.model_programs.specs.Theories.{JudgementOf, triple, by_rule, StepOf, ProcedureOf, Theory}
-use Rattle.model_text.specs.Lexemes.{Lexeme, terminal, step_word, name, number, is_reserved}
+use Rattle.model_text.specs.Lexemes.{Lexeme, terminal, step_word, name_lexeme, number_lexeme, is_reserved}
 use Rattle.token_readers.specs.Reading.{Read, ret, fail, then, when, expect, leaf, sep_list, many, the_terminal}
 
 -- one lexeme: a name, any word, a small number, the sort g, the word `step` with its line
 abbrev pub leaf_name : Lexeme → Option (List ℕ)
-leaf_name (name w) = Some w
+leaf_name (name_lexeme w) = Some w
 leaf_name _ = None
 
 abbrev pub leaf_word : Lexeme → Option (List ℕ)
-leaf_word (name w) = Some w
+leaf_word (name_lexeme w) = Some w
 leaf_word (step_word line) = Some (codes "step")
 leaf_word (terminal w) = cond (is_reserved w) (Some w) None
 leaf_word _ = None
 
 abbrev pub leaf_number : Lexeme → Option ℕ
-leaf_number (number n) = cond (nat_le n 4294967295) (Some n) None
+leaf_number (number_lexeme n) = cond (nat_le n 4294967295) (Some n) None
 leaf_number _ = None
 
 abbrev pub leaf_sort : Lexeme → Option DataSort
-leaf_sort (name w) = cond (bytes_eq w (codes "g")) (Some grove) None
+leaf_sort (name_lexeme w) = cond (bytes_eq w (codes "g")) (Some grove) None
 leaf_sort _ = None
 
 abbrev pub leaf_step : Lexeme → Option ℕ

@@ -5,7 +5,7 @@ use Rattle.model_shapes.specs.Sorts.{DataSort, grove}
 use Rattle.model_formulas.specs.Formulas.{Named, truth, empty}
 use Rattle.model_programs.specs.Commands.{Command, skip}
 use Rattle.model_programs.specs.Theories.{JudgementOf, triple, by_rule, StepOf, ProcedureOf, Theory}
-use Rattle.model_text.specs.Lexemes.{Lexeme, terminal, step_word, name, number, is_reserved}
+use Rattle.model_text.specs.Lexemes.{Lexeme, terminal, step_word, name_lexeme, number_lexeme, is_reserved}
 
 -- a reserved word or symbol by itself
 abbrev pub one : List ℕ → List Lexeme
@@ -22,21 +22,21 @@ pub data SpellsCommand : Command → List Lexeme → Type 0 where
 
 -- DATASORT = "g"
 pub data SpellsDataSort : DataSort → List Lexeme → Type 0 where
-  grove_word : SpellsDataSort grove (name (codes "g") ∷ [])
+  grove_word : SpellsDataSort grove (name_lexeme (codes "g") ∷ [])
 
 -- NAME: a word that isn't reserved
 pub data SpellsName : List ℕ → List Lexeme → Type 0 where
-  plain_name : (w : List ℕ) → SpellsName w (name w ∷ [])
+  plain_name : (w : List ℕ) → SpellsName w (name_lexeme w ∷ [])
 
 -- WORD: any word
 pub data SpellsWord : List ℕ → List Lexeme → Type 0 where
-  plain_word : (w : List ℕ) → SpellsWord w (name w ∷ [])
+  plain_word : (w : List ℕ) → SpellsWord w (name_lexeme w ∷ [])
   reserved_word : (w : List ℕ) → is_reserved w ≡ true → SpellsWord w (one w)
   step_itself : (line : ℕ) → SpellsWord (codes "step") (step_word line ∷ [])
 
 -- NUM, of a step, a premise or a version: at most 4,294,967,295
 pub data SpellsNumber : ℕ → List Lexeme → Type 0 where
-  small_number : (n : ℕ) → n ≤ 4294967295 → SpellsNumber n (number n ∷ [])
+  small_number : (n : ℕ) → n ≤ 4294967295 → SpellsNumber n (number_lexeme n ∷ [])
 
 -- NUM ("," NUM)*
 pub data SpellsNumbers : List ℕ → List Lexeme → Type 0 where

@@ -2,7 +2,7 @@
 use Rattle.std.specs.Prelude.{ℕ, List, [], ◌∷◌, ◌++◌, length, codes}
 use Rattle.std.specs.Fmt.{decimal}
 use Rattle.model_programs.specs.Theories.{Theory}
-use Rattle.model_text.specs.Files.{step_count}
+use Rattle.model_grammar.specs.Files.{step_count}
 
 -- a text with the newline that ends it
 abbrev pub line : List ℕ → List ℕ

@@ -5,7 +5,7 @@ use Rattle.model_formulas.specs.Terms.{Term}
 use Rattle.model_programs.specs.Theories.{Reason, auto, by_rule, StepOf, ProcedureOf, Theory}
 use Rattle.model_text.specs.Tokens.{tokens_of}
 use Rattle.model_text.specs.Lexemes.{Lexeme, lexeme_of}
-use Rattle.model_text.specs.Grammar.{SpellsTheory}
+use Rattle.model_grammar.specs.Grammar.{SpellsTheory}
 
 -- the steps are numbered from this number on
 abbrev pub numbered_from : ℕ → List (StepOf Named) → Bool

@@ -1,0 +1,4 @@
+pub mod Sorts
+pub mod Values
+pub mod Terms
+pub mod Conditions

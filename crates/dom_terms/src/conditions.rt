@@ -1,0 +1,54 @@
+ghost use Rattle.std.specs.Prelude.{◌≡◌, IfOk};
+ghost use Rattle.dom_terms.specs.Conditions.{cond_of};
+
+use crate::copied::Copied;
+use crate::memory::OutOfMemory;
+use crate::terms::{ProgVar, Term};
+use std::alloc::Global;
+
+/// A condition of a command.
+#[derive(Debug, Drop)]
+pub enum Cond {
+    True,
+    False,
+    /// The truth value that a variable has.
+    Holds(ProgVar),
+    /// The terms have one value.
+    Eq(Term, Term),
+    /// The first integer is at most the second.
+    Le(Term, Term),
+    Not(Box<Cond>),
+    And(Box<Cond>, Box<Cond>),
+    Or(Box<Cond>, Box<Cond>),
+}
+
+impl Copied for Cond {
+    ghost use Rattle.model_programs.specs.Conditions as model;
+
+    ghost Seen = { model.Cond };
+
+    ghost seen = { cond_of };
+
+    fn copy(&self, alloc: Global) -> Result<Cond, OutOfMemory>
+        ensures { IfOk result (λ copied. cond_of copied ≡ cond_of self.now) }
+    {
+        Ok(match self {
+            Cond::True => Cond::True,
+            Cond::False => Cond::False,
+            Cond::Holds(variable) => Cond::Holds(variable.copy(alloc)?),
+            Cond::Eq(left, right) => Cond::Eq(left.copy(alloc)?, right.copy(alloc)?),
+            Cond::Le(left, right) => Cond::Le(left.copy(alloc)?, right.copy(alloc)?),
+            Cond::Not(inner) => Cond::Not(Box::new(alloc, inner.copy(alloc)?)?),
+            Cond::And(left, right) => {
+                let left = Box::new(alloc, left.copy(alloc)?)?;
+                let right = Box::new(alloc, right.copy(alloc)?)?;
+                Cond::And(left, right)
+            }
+            Cond::Or(left, right) => {
+                let left = Box::new(alloc, left.copy(alloc)?)?;
+                let right = Box::new(alloc, right.copy(alloc)?)?;
+                Cond::Or(left, right)
+            }
+        })
+    }
+}

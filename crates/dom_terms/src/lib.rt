@@ -1,0 +1,49 @@
+//! Texts, values, terms and conditions as the program holds them, and the lists of each.
+//! Promises that each type is seen as the plain data of the definitions, that a list or a text is
+//! unchanged where memory is refused, and that a copy has the same view.
+//! Stands on the definitions of shapes, formulas and programs.
+#![tactic(auto)]
+
+mod conditions;
+mod copied;
+mod limits;
+mod list;
+mod memory;
+mod same;
+mod sorts;
+mod terms;
+mod text;
+mod values;
+mod verdicts;
+
+pub use conditions::Cond;
+pub use copied::Copied;
+pub use limits::LimitKind;
+pub use list::List;
+pub use memory::OutOfMemory;
+pub use same::{
+    same_data_sort, same_logic_var, same_prog_var, same_sort, same_text, same_value_sort,
+};
+pub use sorts::{DataSort, Sort, ValueSort};
+pub use terms::{LogicVar, ProgVar, Term};
+pub use text::Text;
+pub use values::Value;
+pub use verdicts::{EvalFault, SideName, Verdict};
+
+/// A list of terms.
+pub type Terms = List<Term>;
+
+/// A list of program variables.
+pub type Vars = List<ProgVar>;
+
+/// A list of logic variables.
+pub type LogicVars = List<LogicVar>;
+
+/// A list of values.
+pub type Values = List<Value>;
+
+/// A list of numbers.
+pub type Numbers = List<u32>;
+
+/// A list of texts.
+pub type Texts = List<Text>;

@@ -1,0 +1,89 @@
+ghost use Rattle.std.specs.Prelude.{◌≡◌, ◌≤◌, ◌↔◌, [], ◌∷◌, ◌++◌, length, map, IsTrue, IfOk, OnOk, OnErr, slice_get, option_copied, IsNone};
+
+use crate::copied::Copied;
+use crate::memory::OutOfMemory;
+use std::alloc::Global;
+use std::marker::Model;
+
+/// A list, seen as the list of its items.
+#[derive(Debug, Drop)]
+pub struct List<T> {
+    items: Vec<T>,
+}
+
+impl<T> Model for List<T> {
+    ghost use Rattle.std.specs.Prelude as plain;
+
+    ghost Value = { plain.List T };
+
+    ghost view = { λ list. list.items.items };
+}
+
+impl<T> List<T> {
+    /// The empty list. It takes memory only when it grows.
+    pub fn new(alloc: Global) -> List<T>
+        ensures { result ≡ [] }
+    {
+        List {
+            items: Vec::new(alloc),
+        }
+    }
+
+    /// How many items there are.
+    pub fn len(&self) -> usize
+        ensures { result ≡ length self.now }
+    {
+        self.items.len()
+    }
+
+    /// Whether there is no item.
+    pub fn is_empty(&self) -> bool
+        ensures { IsTrue result ↔ (self.now ≡ []) }
+    {
+        self.items.is_empty()
+    }
+
+    /// The item at a place counted from 0: none exactly where the place isn't below the length.
+    pub fn get(&self, place: usize) -> Option<&T>
+        ensures item { option_copied result ≡ slice_get self.now place }
+        ensures absent { IsNone result ↔ (length self.now ≤ place) }
+    {
+        self.items.as_slice().get(place)
+    }
+
+    /// The items as a slice.
+    pub fn as_slice(&self) -> &[T]
+        ensures { result.now ≡ self.now }
+    {
+        self.items.as_slice()
+    }
+}
+
+impl<T: Drop> List<T> {
+    /// Puts an item at the end. Where memory is refused the list is unchanged and the item dropped.
+    pub fn push(&mut self, item: T) -> Result<(), OutOfMemory>
+        ensures ok { OnOk result (self.new ≡ self.old ++ item ∷ []) }
+        ensures err { OnErr result (self.new ≡ self.old) }
+    {
+        self.items.push(item)?;
+        Ok(())
+    }
+}
+
+impl<T: Copied> Copied for List<T> {
+    ghost use Rattle.std.specs.Prelude as plain;
+
+    ghost Seen = { plain.List T.Seen };
+
+    ghost seen = { map T.seen };
+
+    fn copy(&self, alloc: Global) -> Result<List<T>, OutOfMemory>
+        ensures { IfOk result (λ copied. map T.seen copied ≡ map T.seen self.now) }
+    {
+        let mut copied = List::new(alloc);
+        for item in self.as_slice() {
+            copied.push(item.copy(alloc)?)?;
+        }
+        Ok(copied)
+    }
+}

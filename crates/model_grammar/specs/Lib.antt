@@ -1,0 +1,4 @@
+pub mod Grammar
+pub mod Files
+pub mod Words
+pub mod Output

@@ -1,0 +1,1 @@
+-- What the pieces of a text are seen as.
