@@ -32,6 +32,12 @@ GivesPiece-none found book buffer at e begun piece full =
           ∙ begun
     ]
 
+pub length-found : (found buffer : List ℕ) (count : ℕ) → count ≤ length buffer
+    → length (found ++ take count buffer) ≡ length found + count
+length-found found buffer count le =
+    length-append found (take count buffer)
+    ∙ ap (λ n. length found + n) (length-take-le count buffer le)
+
 -- a piece of what is left goes to the end of what was found
 pub GivesPiece-step : (found book buffer : List ℕ) (at count : ℕ) → at ≡ length found
     → count ≤ length buffer → found ++ drop (length found) book ≡ book
@@ -40,10 +46,7 @@ pub GivesPiece-step : (found book buffer : List ℕ) (at count : ℕ) → at ≡
 GivesPiece-step found book buffer at count at_is le begun piece =
     let same : take count buffer ≡ take count (drop (length found) book) =
       piece.bytes ∙ ap (λ x. take count (drop x book)) at_is in
-    let n : length (found ++ take count buffer) ≡ length found + count =
-      length-append found (take count buffer)
-      ∙ ap (λ x. length found + x) (length-take-le count buffer le) in
-    rw n
+    rw (length-found found buffer count le)
     (append_assoc found (take count buffer) (drop (length found + count) book)
     ∙ ap (λ x. found ++ (x ++ drop (length found + count) book)) same
     ∙ ap (λ x. found ++ (take count (drop (length found) book) ++ x))
