@@ -1,5 +1,6 @@
-ghost use Rattle.std.specs.Prelude.{◌≡◌, None};
+ghost use Rattle.std.specs.Prelude.{◌≡◌, ◌≤◌, None, length, IfOk, OnOk, OnErr};
 ghost use Rattle.std.specs.Io.{ReadsAtMost};
+ghost use Rattle.outside_io.specs.Causes.{next_count};
 
 use crate::{Failed, Library};
 use std::fs::File;
@@ -46,7 +47,12 @@ impl<R: Files> Library for Folder<R> {
 
     ghost faults = { λ folder name. folder };
 
-    fn fetch(&mut self, name: &str, at: u64, into: &mut [u8]) -> Result<usize, Failed> {
+    fn fetch(&mut self, name: &str, at: u64, into: &mut [u8]) -> Result<usize, Failed>
+        ensures bound { IfOk result (λ count. count ≤ length into.old) }
+        ensures later { self.old ≤ self.new }
+        ensures ok { OnOk result (self.new ≡ self.old) }
+        ensures err { OnErr result (self.new ≡ next_count self.old) }
+    {
         match read_at(&self.rt, name, at, into) {
             Ok(count) => Ok(count),
             Err(_) => {

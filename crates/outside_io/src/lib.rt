@@ -10,6 +10,9 @@ mod shelf;
 mod sink;
 mod tape;
 
+#[cfg(test)]
+mod tests;
+
 pub use folder::Folder;
 pub use library::{Library, MOST_BYTES, ReadAllFault, read_all};
 pub use screen::Screen;

@@ -1,5 +1,6 @@
-ghost use Rattle.std.specs.Prelude.{◌≡◌, None};
+ghost use Rattle.std.specs.Prelude.{◌≡◌, ◌<◌, ◌≤◌, None, length, IfOk, OnOk, OnErr};
 ghost use Rattle.std.specs.Io.{WritesAtMost};
+ghost use Rattle.outside_io.specs.Causes.{next_count};
 
 use crate::{Failed, Sink};
 use std::io;
@@ -45,7 +46,13 @@ impl<R: Print> Sink for Screen<R> {
     ghost faults = { λ screen. screen };
 
     // A refused flush and a write of no byte of a piece that has some are failed puts.
-    fn put(&mut self, piece: &[u8]) -> Result<usize, Failed> {
+    fn put(&mut self, piece: &[u8]) -> Result<usize, Failed>
+        ensures bound { IfOk result (λ count. count ≤ length piece.now) }
+        ensures some { IfOk result (λ count. 0 < length piece.now → 0 < count) }
+        ensures later { self.old ≤ self.new }
+        ensures ok { OnOk result (self.new ≡ self.old) }
+        ensures err { OnErr result (self.new ≡ next_count self.old) }
+    {
         match show(&self.rt, piece) {
             Ok(count) if count > 0 || piece.is_empty() => Ok(count),
             _ => {
