@@ -1,5 +1,5 @@
 -- Books on a shelf: one more at the end, and the count of the one that was found raised.
-use Rattle.std.proofs.Common.{◌≡◌, ◌≢◌, ◌⊎◌, inl, inr, ℕ, ◌+◌, ◌≤◌, ◌<◌, Bool, true, false, List, [], ◌∷◌, ◌++◌, length, get_or, set, Option, Some, None, refl, ap, sym, ◌∙◌, cond, arith, position, find, bytes_eq, ltb, eqb, eq-eqb}
+use Rattle.std.proofs.Common.{◌≡◌, ◌≢◌, ◌⊎◌, inl, inr, ℕ, ◌≤◌, ◌<◌, Bool, true, false, List, [], ◌∷◌, ◌++◌, length, get_or, set, Option, Some, None, refl, ap, sym, ◌∙◌, cond, arith, position, find, bytes_eq, ltb, eqb, eq-eqb}
 use Rattle.std.specs.List.{position_or_len, slice_get}
 use Rattle.std.specs.Prelude.{Contains}
 use Rattle.std.specs.Option.{option_or}
@@ -64,15 +64,15 @@ Raised-set xs name i entry new at is same bytes count =
     let place = position-Some (has_name name) xs i entry at in
     let named : bytes_eq entry.name name ≡ true = ap (has_name name) is ∙ place.1 in
     let index : i ≡ position_or_len (has_name name) xs =
-      sym (index_is _ (position_or_len (has_name name) xs) i at) in
+    sym (index_is _ (position_or_len (has_name name) xs) i at) in
     record {
       found = find-Some xs name i entry at is;
       now = find-set (has_name name) xs i new index place.0 (ap (λ n. bytes_eq n name) same ∙ named);
       others = λ other differs.
-        let not : bytes_eq entry.name other ≡ false =
+          let not : bytes_eq entry.name other ≡ false =
           differs_name _ entry.name name other refl ((bytes_eq-Decides entry.name name).0 named) differs in
-        find_past (has_name other) xs i new entry (sym (ap (has_name other) is) ∙ not)
-        (ap (λ n. bytes_eq n other) same ∙ not);
+          find_past (has_name other) xs i new entry (sym (ap (has_name other) is) ∙ not)
+          (ap (λ n. bytes_eq n other) same ∙ not);
       bytes = bytes;
       count = count;
     }

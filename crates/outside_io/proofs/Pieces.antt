@@ -16,8 +16,8 @@ Took-step a b c bytes at k before now = λ t e.
     now (t ++ take at bytes) (before t e)
     ∙ ap (λ x. Some (t ++ take at bytes ++ take k x)) (range_to_end at bytes)
     ∙ ap Some
-      (append_assoc t (take at bytes) (take k (drop at bytes))
-      ∙ ap (λ x. t ++ x) (sym (take-add at k bytes)))
+    (append_assoc t (take at bytes) (take k (drop at bytes))
+    ∙ ap (λ x. t ++ x) (sym (take-add at k bytes)))
 
 -- where a piece is empty and the buffer isn't, the whole book was found
 pub GivesPiece-none : (found book buffer : List ℕ) (at : ℕ) → at ≡ length found
@@ -45,12 +45,12 @@ pub GivesPiece-step : (found book buffer : List ℕ) (at count : ℕ) → at ≡
     → (found ++ take count buffer) ++ drop (length (found ++ take count buffer)) book ≡ book
 GivesPiece-step found book buffer at count at_is le begun piece =
     let same : take count buffer ≡ take count (drop (length found) book) =
-      piece.bytes ∙ ap (λ x. take count (drop x book)) at_is in
+    piece.bytes ∙ ap (λ x. take count (drop x book)) at_is in
     rw (length-found found buffer count le)
     (append_assoc found (take count buffer) (drop (length found + count) book)
     ∙ ap (λ x. found ++ (x ++ drop (length found + count) book)) same
     ∙ ap (λ x. found ++ (take count (drop (length found) book) ++ x))
-      (sym (drop-drop count (length found) book))
+    (sym (drop-drop count (length found) book))
     ∙ ap (λ x. found ++ x) (take-append-drop count (drop (length found) book))
     ∙ begun)
 
@@ -64,9 +64,9 @@ pub GivesPiece-put : (book buffer new : List ℕ) (at count : ℕ)
     → new ≡ take count (drop at book) ++ drop count buffer → GivesPiece book at count new
 GivesPiece-put book buffer new at count is e =
     let put : length (take count (drop at book)) ≡ count =
-      length-take-le count (drop at book) (omega (arith, length-drop at book)) in
+    length-take-le count (drop at book) (omega (arith, length-drop at book)) in
     let full : length new ≡ length buffer =
-      ap length e ∙ omega (arith, put, length-append (take count (drop at book)) (drop count buffer), length-drop count buffer) in
+    ap length e ∙ omega (arith, put, length-append (take count (drop at book)) (drop count buffer), length-drop count buffer) in
     record {
       bytes = ap (take count) e ∙ ap (λ n. take n (take count (drop at book) ++ drop count buffer)) (sym put) ∙ take-append_seam (take count (drop at book)) (drop count buffer);
       none = λ zero_count.

@@ -9,7 +9,6 @@ mod screen;
 mod shelf;
 mod sink;
 mod tape;
-
 #[cfg(test)]
 mod tests;
 

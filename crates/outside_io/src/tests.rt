@@ -1,5 +1,7 @@
-use crate::{Failed, Folder, Library, ReadAllFault, Screen, Shelf, Sink, Tape};
-use crate::{read_all, write_all_of};
+use crate::{
+    Failed, Folder, Library, ReadAllFault, Screen, Shelf, Sink, Tape, read_all, write_all_of,
+};
+use std::fs;
 use std::test::Fail;
 
 #[test]
@@ -32,18 +34,26 @@ fn takes_output(rt: HostRuntime) -> Result<(), Fail> {
     for (text, call, want, taken) in cases {
         let mut tape = tape.copy(rt.alloc())?;
         tape.fail_at(call)?;
-        assert_eq!(rt; write_all_of(&mut tape, text.as_bytes()), want, "{text} at {call}");
+        assert_eq!(rt;
+            write_all_of(&mut tape, text.as_bytes()),
+            want,
+            "{text} at {call}"
+        );
         assert_eq!(rt; tape.taken(), taken.as_bytes());
     }
     Ok(())
 }
 
 #[test]
-fn meets_the_system(rt: HostRuntime) {
+fn meets_the_system(rt: HostRuntime) -> Result<(), Fail> {
+    let name = "outside_io_test_book";
+    fs::write(&rt, name, "a book")?;
     let mut folder = Folder::new(rt);
-    let mut piece = [0u8; 4];
-    assert_eq!(rt; folder.fetch("no such file", 0, &mut piece), Err(Failed));
-    assert_eq!(rt; folder.fetch("/dev/null", 0, &mut piece), Ok(0));
-    let mut screen = Screen::new(rt);
-    assert_eq!(rt; screen.put(b"shown\n"), Ok(6));
+    let mut piece = [0u8; 3];
+    let count = folder.fetch(name, 2, &mut piece);
+    fs::remove_file(&rt, name)?;
+    assert_eq!(rt; (count, &piece), (Ok(3), b"boo"));
+    assert_eq!(rt; folder.fetch(name, 0, &mut piece), Err(Failed));
+    assert_eq!(rt; Screen::new(rt).put(b"shown\n"), Ok(6));
+    Ok(())
 }

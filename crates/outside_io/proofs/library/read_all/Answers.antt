@@ -22,9 +22,9 @@ pieces-preserved g c =
       begun = λ b told.
           rw items
           (GivesPiece-step c.pieces.found.items b c.fetch.new.into c.len.result c.in-Ok.count
-           (c.len.ensures ∙ c.pieces.found.ok.0) fits
-           (c.pieces.invariant.begun b told)
-           (c.in-Ok.ensures.bytes b (c.pieces.invariant.kept c.args.name.now b told)));
+          (c.len.ensures ∙ c.pieces.found.ok.0) fits
+          (c.pieces.invariant.begun b told)
+          (c.in-Ok.ensures.bytes b (c.pieces.invariant.kept c.args.name.now b told)));
       kept = λ other b told. c.fetch.ensures.kept other b (c.pieces.invariant.kept other b told);
       later = λ other. omega (arith, c.pieces.invariant.later other, c.fetch.ensures.later other);
     }

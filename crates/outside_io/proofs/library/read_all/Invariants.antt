@@ -8,15 +8,15 @@ invariant-pieces g l =
     record {
       small : length l.found.items ≤ MOST_BYTES;
       begun :
-        Told (g.L.Library.book l.initial.library l.name)
-        (λ b. l.found.items ++ drop (length l.found.items) b ≡ b);
+          Told (g.L.Library.book l.initial.library l.name)
+          (λ b. l.found.items ++ drop (length l.found.items) b ≡ b);
       kept :
-        (other : List ℕ)
-        → Told (g.L.Library.book l.initial.library other)
+          (other : List ℕ)
+          → Told (g.L.Library.book l.initial.library other)
           (λ b. g.L.Library.book l.library other ≡ Some b);
       later :
-        (other : List ℕ)
-        → g.L.Library.faults l.initial.library other ≤ g.L.Library.faults l.library other;
+          (other : List ℕ)
+          → g.L.Library.faults l.initial.library other ≤ g.L.Library.faults l.library other;
     }
 
 abbrev pub decreases-pieces : goal.decreases-pieces

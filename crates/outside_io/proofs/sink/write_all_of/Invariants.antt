@@ -1,4 +1,4 @@
-use Rattle.std.proofs.Common.{ℕ, ◌≤◌, ◌-◌, length, take}
+use Rattle.std.proofs.Common.{◌≤◌, ◌-◌, length, take}
 use Rattle.outside_io.specs.Pieces.{Took}
 use Rattle.outside_io.proofs.sink.write_all_of.Given as goal
 

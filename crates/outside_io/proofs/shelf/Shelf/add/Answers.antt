@@ -1,5 +1,5 @@
-use Rattle.std.proofs.Common.{◌≡◌, List, Option, Some, None, ap, ◌∙◌, sym}
-use Rattle.outside_io.specs.Shelves.{Entry, shelf_book, bytes_in, faults_in}
+use Rattle.std.proofs.Common.{Some, ap, ◌∙◌}
+use Rattle.outside_io.specs.Shelves.{bytes_in, faults_in}
 use Rattle.outside_io.proofs.Entries.{find-push_here, find-push_elsewhere}
 use Rattle.outside_io.proofs.shelf.Shelf.add.Goals as goal
 
@@ -25,4 +25,4 @@ pub returns-clause-counts : goal.returns-clause-counts
 returns-clause-counts c = λ other differs.
     rw (c.in_ok-push.ensures.items, ← c.self.view_is)
     (ap (faults_in c.self.inside.further)
-     (find-push_elsewhere _ _ other _ c.in_ok-from_str.ensures.ok differs))
+    (find-push_elsewhere _ _ other _ c.in_ok-from_str.ensures.ok differs))
