@@ -1,0 +1,4 @@
+pub mod Causes
+pub mod Pieces
+pub mod Shelves
+pub mod Tapes
