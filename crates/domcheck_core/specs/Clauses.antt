@@ -63,3 +63,10 @@ Complete None books read_rose write_rose s = Unit
 Complete (Some (check file)) books read_rose write_rose s =
     Told (books file) (λ bytes. Accepted bytes → (read_rose file → ⊥) → (write_rose → ⊥)
     → (s ≡ status.Done) ⊎ (s ≡ status.OutOfMemory))
+
+-- the statuses with output
+abbrev pub speaks : Status → Bool
+speaks status.OutOfMemory = false
+speaks status.ReadFault = false
+speaks status.WriteFault = false
+speaks s = true

@@ -1,0 +1,82 @@
+-- What follows from an answer: each clause of the top call.
+use Rattle.std.proofs.Common.{◌≡◌, ◌⊎◌, inl, inr, ℕ, ◌<◌, Bool, true, false, List, Option, Some, None, refl, sym, ◌∙◌, subst, arith, length}
+use Rattle.outside_io.specs.Causes.{Told}
+use Rattle.model_programs.specs.Theories.{Theory}
+use Rattle.model_rules.specs.Accepted.{IsAccepted}
+use Rattle.model_rules.proofs.Sound.{accepted_hold}
+use Rattle.model_grammar.specs.Files.{SpellsFile, most_bytes, lexemes_of}
+use Rattle.model_grammar.specs.Words.{Request, check}
+use Rattle.model_grammar.specs.Output.{bad_words_line}
+use Rattle.proof_text.proofs.Exact.{one_theory}
+use Rattle.domcheck_core.specs.Answers.{Books, Accepted, Refused, Unreadable, CheckAnswer, says_yes, says_no, reads_nothing, IsAnswer, bad_words, checked, IsTold}
+use Rattle.domcheck_core.specs.Clauses.{OfFile, IsProved, ExactlyWhere, GivesUp, Complete, speaks}
+use Rattle.domcheck_core.specs.declared.status.Status.{Status}
+use Rattle.domcheck_core.specs.declared.status.Status.TheVariants as status
+
+-- a file spells at most one theory
+one_file : (bytes : List ℕ) (t u : Theory) → SpellsFile bytes t → SpellsFile bytes u → t ≡ u
+one_file bytes t u a b = one_theory (lexemes_of bytes) t u a.spelled b.spelled
+
+-- no file is both accepted and refused
+not_both : (bytes : List ℕ) → Accepted bytes → Refused bytes → ⊥
+not_both bytes a r = r.2 (subst IsAccepted (one_file bytes a.0 r.0 a.1 r.1) a.2)
+
+-- the answer on the told bytes
+pub told_answer : (books : Books) (file bytes : List ℕ) (s : Status) (output : List ℕ) → IsAnswer books (Some (check file)) s output → books file ≡ Some bytes → CheckAnswer bytes s output
+told_answer books file bytes s output (checked f b e a) told =
+    let same : b ≡ bytes = cc in
+    subst (λ (z : List ℕ). CheckAnswer z s output) same a
+
+-- a fact of the told bytes from the answer
+pub on_file : (r : Option Request) (books : Books) (s : Status) (output : List ℕ) (P : List ℕ → Type 0)
+    → ((bytes : List ℕ) → CheckAnswer bytes s output → P bytes) → (IsTold r books → IsAnswer books r s output) → OfFile r books P
+on_file None books s output P f h = tt
+on_file (Some (check file)) books s output P f h = λ bytes told. f bytes (told_answer books file bytes s output (h (bytes, told)) told)
+
+pub sound : (s : Status) (output bytes : List ℕ) → CheckAnswer bytes s output → s ≡ status.Done → IsProved bytes
+sound s output bytes (says_yes t spells accepted) e = (t, spells, accepted_hold t accepted)
+sound s output bytes (says_no refused) e = absurd cc
+sound s output bytes (reads_nothing none) e = absurd cc
+
+pub yes_exactly : (s : Status) (output bytes : List ℕ) → CheckAnswer bytes s output → ExactlyWhere (Accepted bytes) s status.Done
+yes_exactly s output bytes (says_yes t spells accepted) = (λ e. (t, spells, accepted), λ c. inl refl)
+yes_exactly s output bytes (says_no refused) = (λ e. absurd cc, λ c. absurd (not_both bytes c refused))
+yes_exactly s output bytes (reads_nothing none) = (λ e. absurd cc, λ c. absurd (none c.0 c.1))
+
+pub no_exactly : (s : Status) (output bytes : List ℕ) → CheckAnswer bytes s output → ExactlyWhere (Refused bytes) s status.StepFails
+no_exactly s output bytes (says_yes t spells accepted) = (λ e. absurd cc, λ c. absurd (not_both bytes (t, spells, accepted) c))
+no_exactly s output bytes (says_no refused) = (λ e. refused, λ c. inl refl)
+no_exactly s output bytes (reads_nothing none) = (λ e. absurd cc, λ c. absurd (none c.0 c.1))
+
+pub text_exactly : (s : Status) (output bytes : List ℕ) → CheckAnswer bytes s output → ExactlyWhere (Unreadable bytes) s status.BadText
+text_exactly s output bytes (says_yes t spells accepted) = (λ e. absurd cc, λ c. absurd (c t spells))
+text_exactly s output bytes (says_no refused) = (λ e. absurd cc, λ c. absurd (c refused.0 refused.1))
+text_exactly s output bytes (reads_nothing none) = (λ e. none, λ c. inl refl)
+
+done_or_none : (s : Status) → (s ≡ status.Done) ⊎ GivesUp s → speaks s ≡ true → (s ≡ status.Done) ⊎ (s ≡ status.OutOfMemory)
+done_or_none s (inl e) h = inl e
+done_or_none s (inr (inl e)) h = inr e
+done_or_none s (inr (inr (inl e))) h = absurd cc
+done_or_none s (inr (inr (inr e))) h = absurd cc
+
+pub complete : (r : Option Request) (books : Books) (read_rose : List ℕ → Type 0) (write_rose : Type 0) (s : Status) (output : List ℕ)
+    → (IsTold r books → IsAnswer books r s output) → speaks s ≡ true → Complete r books read_rose write_rose s
+complete None books read_rose write_rose s output h sp = tt
+complete (Some (check file)) books read_rose write_rose s output h sp = λ bytes told accepted no_read no_write.
+    done_or_none s ((yes_exactly s output bytes (told_answer books file bytes s output (h (bytes, told)) told)).1 accepted) sp
+
+-- a file with more bytes than the limit spells nothing
+pub too_large : (bytes : List ℕ) → most_bytes < length bytes → Unreadable bytes
+too_large bytes lt t spells = omega (arith, spells.small)
+
+-- the answer to words without a reading
+pub no_reading : (r : Option Request) (books : Books) (s : Status) (output : List ℕ) → r ≡ None → s ≡ status.BadWords → output ≡ bad_words_line → IsAnswer books r s output
+no_reading r books s output e e' e'' = rw (e, e', e'') bad_words
+
+-- the answer to `check`
+pub checks : (r : Option Request) (books : Books) (file : List ℕ) (s : Status) (output : List ℕ) → r ≡ Some (check file)
+    → Told (books file) (λ b. CheckAnswer b s output) → IsTold r books → IsAnswer books r s output
+checks r books file s output e h told = rw e (go (rw e at told))
+  where
+    go : IsTold (Some (check file)) books → IsAnswer books (Some (check file)) s output
+    go t = checked file t.0 t.1 (h t.0 t.1)
