@@ -2,3 +2,4 @@ pub mod Sorts
 pub mod Values
 pub mod Terms
 pub mod Conditions
+pub mod formers

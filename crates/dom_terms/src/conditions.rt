@@ -29,6 +29,7 @@ impl Copied for Cond {
 
     ghost seen = { cond_of };
 
+    #[cycle(cond_copy)]
     fn copy(&self, alloc: Global) -> Result<Cond, OutOfMemory>
         ensures { IfOk result (λ copied. cond_of copied ≡ cond_of self.now) }
     {
@@ -38,17 +39,17 @@ impl Copied for Cond {
             Cond::Holds(variable) => Cond::Holds(variable.copy(alloc)?),
             Cond::Eq(left, right) => Cond::Eq(left.copy(alloc)?, right.copy(alloc)?),
             Cond::Le(left, right) => Cond::Le(left.copy(alloc)?, right.copy(alloc)?),
-            Cond::Not(inner) => Cond::Not(Box::new(alloc, inner.copy(alloc)?)?),
-            Cond::And(left, right) => {
-                let left = Box::new(alloc, left.copy(alloc)?)?;
-                let right = Box::new(alloc, right.copy(alloc)?)?;
-                Cond::And(left, right)
-            }
-            Cond::Or(left, right) => {
-                let left = Box::new(alloc, left.copy(alloc)?)?;
-                let right = Box::new(alloc, right.copy(alloc)?)?;
-                Cond::Or(left, right)
-            }
+            Cond::Not(inner) => Cond::Not(boxed(alloc, inner)?),
+            Cond::And(left, right) => Cond::And(boxed(alloc, left)?, boxed(alloc, right)?),
+            Cond::Or(left, right) => Cond::Or(boxed(alloc, left)?, boxed(alloc, right)?),
         })
     }
+}
+
+// a copy of the condition, boxed
+#[cycle(cond_copy)]
+fn boxed(alloc: Global, cond: &Cond) -> Result<Box<Cond>, OutOfMemory>
+    ensures { IfOk result (λ copied. cond_of copied.value ≡ cond_of cond.now) }
+{
+    Ok(Box::new(alloc, cond.copy(alloc)?)?)
 }

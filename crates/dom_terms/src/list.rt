@@ -13,8 +13,11 @@ pub struct List<T> {
 
 impl<T> Model for List<T> {
     ghost use Rattle.std.specs.Prelude as plain;
+    ghost use Rattle.std.specs.Coded.{coded_list};
 
     ghost Value = { plain.List T };
+
+    ghost coded = { coded_list T.code };
 
     ghost view = { λ list. list.items.items };
 }

@@ -87,6 +87,7 @@ impl Copied for Term {
 
     ghost seen = { term_of };
 
+    #[cycle(term_copy)]
     fn copy(&self, alloc: Global) -> Result<Term, OutOfMemory>
         ensures { IfOk result (λ copied. term_of copied ≡ term_of self.now) }
     {
@@ -98,21 +99,17 @@ impl Copied for Term {
             Term::Bool(truth) => Term::Bool(*truth),
             Term::Prog(variable) => Term::Prog(variable.copy(alloc)?),
             Term::Logic(variable) => Term::Logic(variable.copy(alloc)?),
-            Term::Add(left, right) => {
-                let left = Box::new(alloc, left.copy(alloc)?)?;
-                let right = Box::new(alloc, right.copy(alloc)?)?;
-                Term::Add(left, right)
-            }
-            Term::Sub(left, right) => {
-                let left = Box::new(alloc, left.copy(alloc)?)?;
-                let right = Box::new(alloc, right.copy(alloc)?)?;
-                Term::Sub(left, right)
-            }
-            Term::Cat(left, right) => {
-                let left = Box::new(alloc, left.copy(alloc)?)?;
-                let right = Box::new(alloc, right.copy(alloc)?)?;
-                Term::Cat(left, right)
-            }
+            Term::Add(left, right) => Term::Add(boxed(alloc, left)?, boxed(alloc, right)?),
+            Term::Sub(left, right) => Term::Sub(boxed(alloc, left)?, boxed(alloc, right)?),
+            Term::Cat(left, right) => Term::Cat(boxed(alloc, left)?, boxed(alloc, right)?),
         })
     }
+}
+
+// a copy of the term, boxed
+#[cycle(term_copy)]
+fn boxed(alloc: Global, term: &Term) -> Result<Box<Term>, OutOfMemory>
+    ensures { IfOk result (λ copied. term_of copied.value ≡ term_of term.now) }
+{
+    Ok(Box::new(alloc, term.copy(alloc)?)?)
 }

@@ -1,0 +1,9 @@
+//! Commands, judgements, proofs, procedures and theories as the program holds them.
+//! Promises that each type is seen as the plain data of the definitions, and that a copy has the
+//! same view.
+//! Stands on the formulas of the program.
+#![tactic(auto)]
+
+mod commands;
+
+pub use commands::{Block, Command};

@@ -1,0 +1,33 @@
+ghost use Rattle.std.specs.Prelude.{◌≡◌, IfOk};
+ghost use Rattle.formula_syntax.specs.Entailments.{entailment_of};
+
+use crate::formulas::Formula;
+use dom_terms::{Copied, OutOfMemory, Sort};
+use std::alloc::Global;
+
+/// That whatever of the sort meets the left formula meets the right one.
+#[derive(Debug, Drop)]
+pub struct Entailment {
+    pub left: Formula,
+    pub right: Formula,
+    pub sort: Sort,
+}
+
+impl Copied for Entailment {
+    ghost use Rattle.model_formulas.specs.Formulas.{Named};
+    ghost use Rattle.model_programs.specs.Theories.{JudgementOf};
+
+    ghost Seen = { JudgementOf Named };
+
+    ghost seen = { entailment_of };
+
+    fn copy(&self, alloc: Global) -> Result<Entailment, OutOfMemory>
+        ensures { IfOk result (λ copied. entailment_of copied ≡ entailment_of self.now) }
+    {
+        Ok(Entailment {
+            left: self.left.copy(alloc)?,
+            right: self.right.copy(alloc)?,
+            sort: self.sort,
+        })
+    }
+}

@@ -1,0 +1,13 @@
+//! Formulas, substitutions and entailments as the program holds them.
+//! Promises that each type is seen as the plain data of the definitions, and that a copy has the
+//! same view.
+//! Stands on the values and terms of the program.
+#![tactic(auto)]
+
+mod entailments;
+mod formulas;
+mod variables;
+
+pub use entailments::Entailment;
+pub use formulas::{Formula, Side};
+pub use variables::{AnyVar, Pair};
