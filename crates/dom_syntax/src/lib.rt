@@ -5,5 +5,13 @@
 #![tactic(auto)]
 
 mod commands;
+mod files;
+mod judgements;
+mod steps;
+mod theories;
 
 pub use commands::{Block, Command};
+pub use files::FileKind;
+pub use judgements::{Judgement, Triple};
+pub use steps::{Reason, Step, Steps};
+pub use theories::{Procedure, Procedures, Theory};

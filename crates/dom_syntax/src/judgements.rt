@@ -1,0 +1,63 @@
+ghost use Rattle.std.specs.Prelude.{◌≡◌, IfOk};
+ghost use Rattle.dom_syntax.specs.Judgements.{triple_of, judgement_of};
+
+use crate::commands::Command;
+use dom_terms::{Copied, DataSort, OutOfMemory};
+use formula_syntax::{Entailment, Formula};
+use std::alloc::Global;
+
+/// That a command, run on what meets the first formula, ends in what meets the second.
+#[derive(Debug, Drop)]
+pub struct Triple {
+    pub pre: Formula,
+    pub command: Command,
+    pub post: Formula,
+    pub sort: DataSort,
+}
+
+/// What a step of a proof says.
+#[derive(Debug, Drop)]
+pub enum Judgement {
+    /// One formula entails another.
+    Entails(Entailment),
+    /// A triple holds.
+    Triple(Triple),
+}
+
+impl Copied for Triple {
+    ghost use Rattle.model_formulas.specs.Formulas.{Named};
+    ghost use Rattle.model_programs.specs.Theories.{JudgementOf};
+
+    ghost Seen = { JudgementOf Named };
+
+    ghost seen = { triple_of };
+
+    fn copy(&self, alloc: Global) -> Result<Triple, OutOfMemory>
+        ensures { IfOk result (λ copied. triple_of copied ≡ triple_of self.now) }
+    {
+        Ok(Triple {
+            pre: self.pre.copy(alloc)?,
+            command: self.command.copy(alloc)?,
+            post: self.post.copy(alloc)?,
+            sort: self.sort,
+        })
+    }
+}
+
+impl Copied for Judgement {
+    ghost use Rattle.model_formulas.specs.Formulas.{Named};
+    ghost use Rattle.model_programs.specs.Theories.{JudgementOf};
+
+    ghost Seen = { JudgementOf Named };
+
+    ghost seen = { judgement_of };
+
+    fn copy(&self, alloc: Global) -> Result<Judgement, OutOfMemory>
+        ensures { IfOk result (λ copied. judgement_of copied ≡ judgement_of self.now) }
+    {
+        match self {
+            Self::Entails(entailment) => Ok(Self::Entails(entailment.copy(alloc)?)),
+            Self::Triple(triple) => Ok(Self::Triple(triple.copy(alloc)?)),
+        }
+    }
+}

@@ -1,0 +1,76 @@
+ghost use Rattle.std.specs.Prelude.{◌≡◌, IfOk};
+ghost use Rattle.dom_syntax.specs.Judgements.{reason_of, step_of};
+
+use crate::judgements::Judgement;
+use dom_terms::{Copied, List, Numbers, OutOfMemory, Terms, Text};
+use std::alloc::Global;
+
+/// A list of steps.
+pub type Steps = List<Step>;
+
+/// Why a step holds.
+#[derive(Debug, Drop)]
+pub enum Reason {
+    /// A gap, to be filled.
+    Auto,
+    /// A rule, the numbers of the steps that it cites, and its arguments.
+    Rule {
+        name: Text,
+        premises: Numbers,
+        arguments: Terms,
+    },
+}
+
+/// A step of a proof: its number, the line on which it begins, its reason and what it says.
+#[derive(Debug, Drop)]
+pub struct Step {
+    pub number: u32,
+    pub line: u32,
+    pub reason: Reason,
+    pub judgement: Judgement,
+}
+
+impl Copied for Reason {
+    ghost use Rattle.model_programs.specs.Theories as model;
+
+    ghost Seen = { model.Reason };
+
+    ghost seen = { reason_of };
+
+    fn copy(&self, alloc: Global) -> Result<Reason, OutOfMemory>
+        ensures { IfOk result (λ copied. reason_of copied ≡ reason_of self.now) }
+    {
+        match self {
+            Self::Auto => Ok(Self::Auto),
+            Self::Rule {
+                name,
+                premises,
+                arguments,
+            } => Ok(Self::Rule {
+                name: name.copy(alloc)?,
+                premises: premises.copy(alloc)?,
+                arguments: arguments.copy(alloc)?,
+            }),
+        }
+    }
+}
+
+impl Copied for Step {
+    ghost use Rattle.model_formulas.specs.Formulas.{Named};
+    ghost use Rattle.model_programs.specs.Theories.{StepOf};
+
+    ghost Seen = { StepOf Named };
+
+    ghost seen = { step_of };
+
+    fn copy(&self, alloc: Global) -> Result<Step, OutOfMemory>
+        ensures { IfOk result (λ copied. step_of copied ≡ step_of self.now) }
+    {
+        Ok(Step {
+            number: self.number,
+            line: self.line,
+            reason: self.reason.copy(alloc)?,
+            judgement: self.judgement.copy(alloc)?,
+        })
+    }
+}

@@ -1,0 +1,74 @@
+ghost use Rattle.std.specs.Prelude.{◌≡◌, IfOk};
+ghost use Rattle.dom_syntax.specs.Theories.{procedure_of, theory_of};
+
+use crate::commands::Command;
+use crate::steps::Steps;
+use dom_terms::{Copied, DataSort, List, LogicVars, OutOfMemory, Text, Vars};
+use formula_syntax::Formula;
+use std::alloc::Global;
+
+/// A list of procedures.
+pub type Procedures = List<Procedure>;
+
+/// A procedure: `pre` is its requires, `post` its ensures, and `proof` the proof of its triple.
+#[derive(Debug, Drop)]
+pub struct Procedure {
+    pub name: Text,
+    pub params: Vars,
+    pub results: Vars,
+    pub sort: DataSort,
+    pub pre: Formula,
+    pub post: Formula,
+    pub body: Command,
+    pub proof: Steps,
+}
+
+/// A theory: the version of the language, the logic variables declared, and the procedures.
+#[derive(Debug, Drop)]
+pub struct Theory {
+    pub version: u32,
+    pub logic: LogicVars,
+    pub procedures: Procedures,
+}
+
+impl Copied for Procedure {
+    ghost use Rattle.model_formulas.specs.Formulas.{Named};
+    ghost use Rattle.model_programs.specs.Theories.{ProcedureOf};
+
+    ghost Seen = { ProcedureOf Named };
+
+    ghost seen = { procedure_of };
+
+    fn copy(&self, alloc: Global) -> Result<Procedure, OutOfMemory>
+        ensures { IfOk result (λ copied. procedure_of copied ≡ procedure_of self.now) }
+    {
+        Ok(Procedure {
+            name: self.name.copy(alloc)?,
+            params: self.params.copy(alloc)?,
+            results: self.results.copy(alloc)?,
+            sort: self.sort,
+            pre: self.pre.copy(alloc)?,
+            post: self.post.copy(alloc)?,
+            body: self.body.copy(alloc)?,
+            proof: self.proof.copy(alloc)?,
+        })
+    }
+}
+
+impl Copied for Theory {
+    ghost use Rattle.model_programs.specs.Theories as model;
+
+    ghost Seen = { model.Theory };
+
+    ghost seen = { theory_of };
+
+    fn copy(&self, alloc: Global) -> Result<Theory, OutOfMemory>
+        ensures { IfOk result (λ copied. theory_of copied ≡ theory_of self.now) }
+    {
+        Ok(Theory {
+            version: self.version,
+            logic: self.logic.copy(alloc)?,
+            procedures: self.procedures.copy(alloc)?,
+        })
+    }
+}
