@@ -1,2 +1,3 @@
 pub mod Formulas
 pub mod Entailments
+pub mod Binders

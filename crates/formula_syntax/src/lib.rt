@@ -6,8 +6,10 @@
 
 mod entailments;
 mod formulas;
+mod same;
 mod variables;
 
 pub use entailments::Entailment;
 pub use formulas::{Formula, Side};
+pub use same::same_formula;
 pub use variables::{AnyVar, Pair};
