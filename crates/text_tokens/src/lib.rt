@@ -4,4 +4,11 @@
 //! Stands on the types of terms, on the definition of tokens and on the Unicode tables.
 #![tactic(auto)]
 
+mod literals;
+mod numbers;
+mod pieces;
 mod symbols;
+mod tokens;
+mod words;
+
+pub use tokens::{Token, TokenKind, Tokens};
