@@ -189,4 +189,4 @@ tokens_from bytes text (suc steps) number = tokens_with bytes text number (piece
 -- The tokens of the bytes. Each step reads a character or more, so one more step than there are
 -- characters is enough.
 unfoldable pub tokens_of : List ℕ → List Token
-tokens_of bytes = let text = characters bytes in tokens_from bytes text (length text + 1) 0
+tokens_of bytes = let text = characters bytes in tokens_from bytes text (suc (length text)) 0

@@ -7,6 +7,7 @@
 mod literals;
 mod numbers;
 mod pieces;
+mod positions;
 mod symbols;
 mod tokens;
 mod words;
