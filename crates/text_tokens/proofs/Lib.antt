@@ -1,3 +1,4 @@
 pub mod NumberLemmas
 pub mod PositionLemmas
+pub mod ReadingLemmas
 pub mod SymbolLemmas

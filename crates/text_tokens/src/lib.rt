@@ -8,8 +8,10 @@ mod literals;
 mod numbers;
 mod pieces;
 mod positions;
+mod reading;
 mod symbols;
 mod tokens;
 mod words;
 
+pub use reading::token_list;
 pub use tokens::{Token, TokenKind, Tokens};
