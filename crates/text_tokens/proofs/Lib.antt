@@ -1,3 +1,4 @@
+pub mod LexemeLemmas
 pub mod NumberLemmas
 pub mod PositionLemmas
 pub mod ReadingLemmas

@@ -9,6 +9,7 @@ mod numbers;
 mod pieces;
 mod positions;
 mod reading;
+mod reserved;
 mod symbols;
 mod tokens;
 mod words;
