@@ -1,2 +1,4 @@
 pub mod Computing
+pub mod Pieces
+pub mod Steps
 pub mod Worked

@@ -2,7 +2,7 @@
 use Rattle.std.specs.Prelude.{ℕ, Bool, List, [], ◌∷◌, bytes_eq, codes, if◌then◌else◌}
 use Rattle.std.specs.List.{list_any}
 use Rattle.std.specs.Str.Parse.{digits_value}
-use Rattle.model_text.specs.Tokens.{TokenKind, word_token, logic_token, number_token, literal_token, symbol_token, bad_token, Token}
+use Rattle.model_text.specs.Tokens.{TokenKind, word_token, logic_token, number_token, literal_token, symbol_token, bad_token, Token, digits_fit}
 
 pub data Lexeme : Type 0 where
   -- a reserved word or a symbol, by its text
@@ -41,11 +41,15 @@ abbrev pub word_lexeme : List ℕ → ℕ → Lexeme
 word_lexeme text line = if bytes_eq text (codes "step") then step_word line
     else (if is_reserved text then terminal text else name_lexeme text)
 
+-- what it sees of a number; digits that write none stand in no text
+abbrev pub digits_lexeme : List ℕ → Lexeme
+digits_lexeme text = if digits_fit text then number_lexeme (digits_value 10 text) else bad_lexeme
+
 -- what it sees of a token of the kind
 abbrev pub lexeme_at : TokenKind → List ℕ → ℕ → Lexeme
 lexeme_at word_token text line = word_lexeme text line
 lexeme_at logic_token text line = logic_lexeme text
-lexeme_at number_token text line = number_lexeme (digits_value 10 text)
+lexeme_at number_token text line = digits_lexeme text
 lexeme_at literal_token text line = literal_lexeme text
 lexeme_at symbol_token text line = terminal text
 lexeme_at bad_token text line = bad_lexeme

@@ -84,10 +84,19 @@ abbrev pub longest_at_front : List (List ℕ) → List ℕ → ℕ
 longest_at_front [] text = 0
 longest_at_front (symbol ∷ others) text = max (length_at_front text symbol) (longest_at_front others text)
 
--- digits with no leading zero but in `0` itself, at most 9,223,372,036,854,775,807
+-- a 0 stands before another character
+abbrev pub leading_zero : List ℕ → Bool
+leading_zero [] = false
+leading_zero (c ∷ []) = false
+leading_zero (c ∷ d ∷ rest) = c == 48
+
+-- these are digits, and the number that they write is at most 9,223,372,036,854,775,807
+abbrev pub digits_fit : List ℕ → Bool
+digits_fit run = list_all is_ascii_digit run && nat_le (digits_value 10 run) 9223372036854775807
+
+-- digits with no leading zero but in `0` itself, of a number that isn't too great
 abbrev pub is_number : List ℕ → Bool
-is_number run = (list_all is_ascii_digit run && (bytes_eq run (codes "0") || not (starts_with nat_eq run (codes "0"))))
-    && nat_le (digits_value 10 run) 9223372036854775807
+is_number run = not (leading_zero run) && digits_fit run
 
 -- what stands at the front of a text, with its number of characters
 pub data Piece : Type 0 where
@@ -180,4 +189,4 @@ tokens_from bytes text (suc steps) number = tokens_with bytes text number (piece
 -- The tokens of the bytes. Each step reads a character or more, so one more step than there are
 -- characters is enough.
 unfoldable pub tokens_of : List ℕ → List Token
-tokens_of bytes = let text = characters bytes in tokens_from bytes text (length text + 1) 0
+tokens_of bytes = let text = characters bytes in tokens_from bytes text (suc (length text)) 0

@@ -2,3 +2,11 @@
 //! Promises nothing by itself: the definitions stand in `specs/`, and their laws are functions here.
 //! Stands on std and on the Unicode tables of identifiers alone.
 #![tactic(auto)]
+
+ghost use Rattle.std.specs.Prelude.{◌≡◌, ℕ, suc, ◌+◌, ◌≤◌, List, length};
+ghost use Rattle.model_text.specs.Tokens.{tokens_from};
+
+/// One step for each character that is left, and one more, are enough: more steps read the same.
+pub fn enough_steps()
+    ensures { (bytes text : List ℕ) (j k number : ℕ) → length text ≤ number + j → length text ≤ number + k → tokens_from bytes text (suc j) number ≡ tokens_from bytes text (suc k) number }
+{}

@@ -4,4 +4,15 @@
 //! Stands on the types of terms, on the definition of tokens and on the Unicode tables.
 #![tactic(auto)]
 
+mod literals;
+mod numbers;
+mod pieces;
+mod positions;
+mod reading;
+mod reserved;
 mod symbols;
+mod tokens;
+mod words;
+
+pub use reading::token_list;
+pub use tokens::{Token, TokenKind, Tokens};

@@ -1,0 +1,5 @@
+pub mod LexemeLemmas
+pub mod NumberLemmas
+pub mod PositionLemmas
+pub mod ReadingLemmas
+pub mod SymbolLemmas

@@ -1,0 +1,76 @@
+ghost use Rattle.std.specs.Prelude.{◌≡◌, ◌+◌, ◌≤◌, false, length, encode_utf8_all, IfOk};
+ghost use Rattle.model_text.specs.Tokens.{is_escape, literal_end, literal_length, unescaped};
+
+use dom_terms::{OutOfMemory, Text};
+use std::alloc::Global;
+
+/// Whether the character may stand after a backslash.
+fn is_escape(character: char) -> bool
+    ensures { result ≡ is_escape character }
+{
+    character == '"' || character == '\\' || character == 'n'
+}
+
+/// How many characters a literal has that goes on with the text after its first quote; 0 where it
+/// isn't finished, has a raw newline or another escape.
+fn literal_end(rest: &[char]) -> usize
+    ensures value { result ≡ literal_end false 1 rest.now }
+    ensures within { result ≤ 1 + length rest.now }
+{
+    let mut escaped = false;
+    for (place, character) in rest.iter().enumerate() {
+        if escaped {
+            if !is_escape(*character) {
+                return 0;
+            }
+            escaped = false;
+        } else if *character == '"' {
+            return place + 2;
+        } else if *character == '\n' {
+            return 0;
+        } else {
+            escaped = *character == '\\';
+        }
+    }
+    0
+}
+
+/// How many characters the literal at the front of the text has; 0 where none stands there.
+pub fn literal_length(text: &[char]) -> usize
+    ensures value { result ≡ literal_length text.now }
+    ensures within { result ≤ length text.now }
+{
+    match text {
+        ['"', rest @ ..] => literal_end(rest),
+        _ => 0,
+    }
+}
+
+/// The text that the characters between the quotes of a literal stand for.
+pub fn unescaped(alloc: Global, inside: &[char]) -> Result<Text, OutOfMemory>
+    ensures { IfOk result (λ text. text ≡ encode_utf8_all (unescaped false inside.now)) }
+{
+    let mut text = Text::new(alloc);
+    let mut escaped = false;
+    for character in inside {
+        if *character == '\\' && !escaped {
+            escaped = true;
+            continue;
+        }
+        let meant = if escaped && *character == 'n' { '\n' } else { *character };
+        text.push(meant)?;
+        escaped = false;
+    }
+    Ok(text)
+}
+
+/// The text of the characters.
+pub fn spelled(alloc: Global, characters: &[char]) -> Result<Text, OutOfMemory>
+    ensures { IfOk result (λ text. text ≡ encode_utf8_all characters.now) }
+{
+    let mut text = Text::new(alloc);
+    for character in characters {
+        text.push(*character)?;
+    }
+    Ok(text)
+}

@@ -1,0 +1,84 @@
+ghost use Rattle.std.specs.Prelude.{◌≡◌};
+ghost use Rattle.model_text.specs.Tokens.{is_blank, digits_piece, longer_token, longest_token, piece_at, piece_length};
+ghost use Rattle.text_tokens.specs.Pieces.{piece_of};
+ghost use Rattle.text_tokens.specs.Tokens.{kind_of};
+
+use crate::literals::literal_length;
+use crate::numbers::is_number;
+use crate::symbols::symbol_length;
+use crate::tokens::TokenKind;
+use crate::words::{line_length, logic_length, run_length, word_length};
+
+/// What stands at the front of a text, with its number of characters.
+#[derive(Clone, Copy, Debug)]
+pub enum Piece {
+    /// A blank or a comment.
+    Gap(usize),
+    /// A token.
+    Token(TokenKind, usize),
+    /// No token begins there.
+    Nothing,
+}
+
+impl Piece {
+    /// How many characters the piece has.
+    pub fn len(self) -> usize
+        ensures { result ≡ piece_length (piece_of self) }
+    {
+        match self {
+            Piece::Gap(length) | Piece::Token(_, length) => length,
+            Piece::Nothing => 0,
+        }
+    }
+}
+
+/// Whether the character only separates tokens.
+fn is_blank(character: char) -> bool
+    ensures { result ≡ is_blank character }
+{
+    character == ' ' || character == '\t' || character == '\r' || character == '\n'
+}
+
+/// The token that the run is, of digits and characters of XID_Continue.
+fn digits_piece(run: &[char]) -> Piece
+    ensures { piece_of result ≡ digits_piece run.now }
+{
+    if run == ['0', 'f'].as_slice() || run == ['0', 'g'].as_slice() {
+        Piece::Token(TokenKind::Symbol, run.len())
+    } else if is_number(run) {
+        Piece::Token(TokenKind::Number, run.len())
+    } else {
+        Piece::Nothing
+    }
+}
+
+/// A token of the kind and the length, if it is longer than the other piece.
+fn longer_token(kind: TokenKind, length: usize, other: Piece) -> Piece
+    ensures { piece_of result ≡ longer_token (kind_of kind) length (piece_of other) }
+{
+    if other.len() < length { Piece::Token(kind, length) } else { other }
+}
+
+/// The longest token at the front of a text that begins with no digit.
+fn longest_token(text: &[char]) -> Piece
+    ensures { piece_of result ≡ longest_token text.now }
+{
+    let symbol = longer_token(TokenKind::Symbol, symbol_length(text), Piece::Nothing);
+    let literal = longer_token(TokenKind::Literal, literal_length(text), symbol);
+    let logic = longer_token(TokenKind::LogicName, logic_length(text), literal);
+    longer_token(TokenKind::Word, word_length(text), logic)
+}
+
+/// What stands at the front of the text.
+#[tactic(auto, unfolding(model_text::specs::Tokens::piece_at))]
+pub fn piece_at(text: &[char]) -> Piece
+    ensures { piece_of result ≡ piece_at text.now }
+{
+    match text {
+        [] => Piece::Nothing,
+        [first, ..] if is_blank(*first) => Piece::Gap(1),
+        ['/', '/', ..] => Piece::Gap(line_length(text)),
+        [first, ..] if first.is_ascii_digit() => digits_piece(&text[..run_length(text)]),
+        _ => longest_token(text),
+    }
+}
