@@ -8,7 +8,7 @@ returns-then-count-eq0-clause-whole g c b told =
     let told_now = c.pieces.invariant.kept c.args.name.now b told in
     let piece = rw c.if-count-eq0.true at (c.in-Ok.ensures.bytes b told_now) in
     GivesPiece-none c.pieces.found.items b c.fetch.new.into c.len.result
-    (c.len.ensures ∙ c.pieces.found.ok.0) (c.pieces.invariant.begun b told) piece cc
+    (c.len.ensures ∙ c.pieces.found.ok.0) (c.pieces.invariant.begun b told) piece (omega (arith, c.fetch.auto.into))
 
 pub pieces-preserved : goal.pieces-preserved
 pieces-preserved g c =

@@ -100,8 +100,7 @@ told_is c told is =
 
 pub returns-clause-bytes : goal.returns-clause-bytes
 returns-clause-bytes c = λ told is.
-    rw (← told_is c told is)
-    (GivesPiece-put _ c.args.into.now _ c.args.at _ c.copy_piece.ensures.count c.copy_piece.ensures.piece)
+    rw (← told_is c told is) (GivesPiece-put _ c.args.into.now _ c.args.at _ c.copy_piece.ensures)
 
 pub returns-clause-fails : goal.returns-clause-fails
 returns-clause-fails c =
@@ -118,8 +117,5 @@ returns-clause-fails c =
       ],
     )
 
-pub returns-clause-count : goal.returns-clause-count
-returns-clause-count c = λ told is. rw (← told_is c told is) c.copy_piece.ensures.count
-
 pub returns-clause-piece : goal.returns-clause-piece
-returns-clause-piece c = λ told is. rw (← told_is c told is) c.copy_piece.ensures.piece
+returns-clause-piece c = λ told is. rw (← told_is c told is) c.copy_piece.ensures
