@@ -1,12 +1,15 @@
 -- One more piece: a book is what was found and what is left of it.
-use Rattle.std.proofs.Common.{◌≡◌, ◌⊎◌, inl, inr, ℕ, zero, suc, min, ◌+◌, ◌-◌, ◌≤◌, ◌<◌, List, ◌++◌, length, take, drop, Option, Some, refl, ap, sym, ◌∙◌, append_assoc, take-add, drop-drop, take-append-drop, arith, length-append, length-drop, append-nil, length-take-le}
+use Rattle.std.proofs.Common.{◌≡◌, ◌⊎◌, inl, inr, ℕ, zero, suc, min, ◌+◌, ◌-◌, ◌≤◌, ◌<◌}
+use Rattle.std.proofs.Common.{List, ◌++◌, length, take, drop, Option, Some, refl, ap, sym, ◌∙◌, append_assoc, take-add, drop-drop, take-append-drop}
+use Rattle.std.proofs.Common.{arith, length-append, length-drop, append-nil, length-take-le}
 use Rattle.std.proofs.lemmas.List.{drop_all, take_all, take-append-le}
 use Rattle.outside_io.specs.Pieces.{GivesPiece, Took}
 use Rattle.outside_io.specs.Shelves.{PutsPiece}
 
 -- what is left, asked for as a range to its end
 range_to_end : (at : ℕ) (bytes : List ℕ) → take (length bytes - at) (drop at bytes) ≡ drop at bytes
-range_to_end at bytes = take_all (length bytes - at) (drop at bytes) (omega (arith, length-drop at bytes))
+range_to_end at bytes =
+    take_all (length bytes - at) (drop at bytes) (omega (arith, length-drop at bytes))
 
 -- a put of what is left adds to the prefix that was taken
 pub Took-step : (a b c : Option (List ℕ)) (bytes : List ℕ) (at k : ℕ)

@@ -38,8 +38,8 @@ impl Model for Tape {
 impl Tape {
     /// Nothing taken, no put that fails, and the memory for so many bytes.
     pub fn new(alloc: Global, room: usize) -> Result<Tape, AllocError>
-        ensures { IfOk result
-            (λ tape. tape ≡ record { taken = []; room = room; calls = 0; failing = []; faults = 0 }) }
+        ensures { IfOk result (λ tape. tape ≡
+            record { taken = []; room = room; calls = 0; failing = []; faults = 0 }) }
     {
         Ok(Tape {
             buffer: vec![in alloc; 0u8; room]?,
