@@ -18,10 +18,12 @@ same_or_not : (t : Bool) (a b : List ℕ) → bytes_eq a b ≡ t → (a ≡ b) �
 same_or_not true a b e = inl ((bytes_eq-Decides a b).0 e)
 same_or_not false a b e = inr (λ same. let p = (bytes_eq-Decides a b).1 same in cc)
 
+-- the index that a search found, from the form in which it is computed
 index_is : (t : Bool) (a b : ℕ) → cond t (Some a) None ≡ Some b → a ≡ b
 index_is true a b e = cc
 index_is false a b e = absurd cc
 
+-- a search that found nothing went past the end
 none_below : (t : Bool) (a b : ℕ) → t ≡ ltb a b → cond t (Some a) None ≡ None → b ≤ a
 none_below true a b is e = absurd cc
 none_below false a b is e = ltb-false a b (sym is)
@@ -58,6 +60,7 @@ differs_name true a name other e is differs =
     absurd (differs (sym ((bytes_eq-Decides a other).0 e) ∙ is))
 differs_name false a name other e is differs = e
 
+-- a write at the place of the name raises the count of its book alone
 pub Raised-set : (xs : List Entry) (name : List ℕ) (i : ℕ) (entry new : Entry)
     → position (has_name name) xs ≡ Some i → entry ≡ get_or xs i entry
     → new.name ≡ entry.name → new.bytes ≡ entry.bytes → new.faults ≡ next_count entry.faults
@@ -108,6 +111,7 @@ no_entry : (found : Option Entry) → bytes_in found ≡ None → found ≡ None
 no_entry None none = refl
 no_entry (Some entry) none = absurd cc
 
+-- or nothing adds nothing
 or_none : (found : Option Entry) → option_or found None ≡ found
 or_none None = refl
 or_none (Some entry) = refl

@@ -35,6 +35,7 @@ GivesPiece-none found book buffer at e begun piece full =
           ∙ begun
     ]
 
+-- how much is found after one more piece
 pub length-found : (found buffer : List ℕ) (count : ℕ) → count ≤ length buffer
     → length (found ++ take count buffer) ≡ length found + count
 length-found found buffer count le =
@@ -57,6 +58,7 @@ GivesPiece-step found book buffer at count at_is le begun piece =
     ∙ ap (λ x. found ++ x) (take-append-drop count (drop (length found) book))
     ∙ begun)
 
+-- the lesser of two is none only where one of them is
 zero_min : (a b : ℕ) → min a b ≡ 0 → (b ≡ 0) ⊎ (a ≡ 0)
 zero_min zero b e = inr refl
 zero_min (suc a) b e = inl (omega arith)
