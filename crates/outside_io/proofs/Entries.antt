@@ -1,5 +1,7 @@
 -- Books on a shelf: one more at the end, and the count of the one that was found raised.
-use Rattle.std.proofs.Common.{◌≡◌, ◌≢◌, ◌⊎◌, inl, inr, ℕ, ◌≤◌, ◌<◌, Bool, true, false, List, [], ◌∷◌, ◌++◌, length, get_or, set, Option, Some, None, refl, ap, sym, ◌∙◌, cond, arith, position, find, bytes_eq, ltb, eqb, eq-eqb}
+use Rattle.std.proofs.Common.{◌≡◌, ◌≢◌, ◌⊎◌, inl, inr, ℕ, ◌≤◌, ◌<◌, Bool, true, false, cond, ltb, eqb, eq-eqb}
+use Rattle.std.proofs.Common.{List, [], ◌∷◌, ◌++◌, length, get_or, set, Option, Some, None, position, find}
+use Rattle.std.proofs.Common.{refl, ap, sym, ◌∙◌, arith, bytes_eq}
 use Rattle.std.specs.List.{position_or_len, slice_get}
 use Rattle.std.specs.Prelude.{Contains}
 use Rattle.std.specs.Option.{option_or}
@@ -16,10 +18,12 @@ same_or_not : (t : Bool) (a b : List ℕ) → bytes_eq a b ≡ t → (a ≡ b) �
 same_or_not true a b e = inl ((bytes_eq-Decides a b).0 e)
 same_or_not false a b e = inr (λ same. let p = (bytes_eq-Decides a b).1 same in cc)
 
+-- the index that a search found, from the form in which it is computed
 index_is : (t : Bool) (a b : ℕ) → cond t (Some a) None ≡ Some b → a ≡ b
 index_is true a b e = cc
 index_is false a b e = absurd cc
 
+-- a search that found nothing went past the end
 none_below : (t : Bool) (a b : ℕ) → t ≡ ltb a b → cond t (Some a) None ≡ None → b ≤ a
 none_below true a b is e = absurd cc
 none_below false a b is e = ltb-false a b (sym is)
@@ -56,6 +60,7 @@ differs_name true a name other e is differs =
     absurd (differs (sym ((bytes_eq-Decides a other).0 e) ∙ is))
 differs_name false a name other e is differs = e
 
+-- a write at the place of the name raises the count of its book alone
 pub Raised-set : (xs : List Entry) (name : List ℕ) (i : ℕ) (entry new : Entry)
     → position (has_name name) xs ≡ Some i → entry ≡ get_or xs i entry
     → new.name ≡ entry.name → new.bytes ≡ entry.bytes → new.faults ≡ next_count entry.faults
@@ -67,10 +72,13 @@ Raised-set xs name i entry new at is same bytes count =
     sym (index_is _ (position_or_len (has_name name) xs) i at) in
     record {
       found = find-Some xs name i entry at is;
-      now = find-set (has_name name) xs i new index place.0 (ap (λ n. bytes_eq n name) same ∙ named);
+      now =
+          find-set (has_name name) xs i new index place.0
+          (ap (λ n. bytes_eq n name) same ∙ named);
       others = λ other differs.
           let not : bytes_eq entry.name other ≡ false =
-          differs_name _ entry.name name other refl ((bytes_eq-Decides entry.name name).0 named) differs in
+          differs_name _ entry.name name other refl
+          ((bytes_eq-Decides entry.name name).0 named) differs in
           find_past (has_name other) xs i new entry (sym (ap (has_name other) is) ∙ not)
           (ap (λ n. bytes_eq n other) same ∙ not);
       bytes = bytes;
@@ -103,20 +111,23 @@ no_entry : (found : Option Entry) → bytes_in found ≡ None → found ≡ None
 no_entry None none = refl
 no_entry (Some entry) none = absurd cc
 
+-- or nothing adds nothing
 or_none : (found : Option Entry) → option_or found None ≡ found
 or_none None = refl
 or_none (Some entry) = refl
 
 -- a book added at the end is under its name, where that wasn't there
 pub find-push_here : (xs : List Entry) (name : List ℕ) (entry : Entry) → entry.name ≡ name
-    → bytes_in (find (has_name name) xs) ≡ None → find (has_name name) (xs ++ entry ∷ []) ≡ Some entry
+    → bytes_in (find (has_name name) xs) ≡ None
+    → find (has_name name) (xs ++ entry ∷ []) ≡ Some entry
 find-push_here xs name entry is none =
     find-append (has_name name) xs (entry ∷ [])
     ∙ rw (no_entry _ none, (bytes_eq-Decides entry.name name).1 is) refl
 
 -- under any other name stays what was there
-pub find-push_elsewhere : (xs : List Entry) (name other : List ℕ) (entry : Entry) → entry.name ≡ name
-    → other ≢ name → find (has_name other) (xs ++ entry ∷ []) ≡ find (has_name other) xs
+pub find-push_elsewhere : (xs : List Entry) (name other : List ℕ) (entry : Entry)
+    → entry.name ≡ name → other ≢ name
+    → find (has_name other) (xs ++ entry ∷ []) ≡ find (has_name other) xs
 find-push_elsewhere xs name other entry is differs =
     find-append (has_name other) xs (entry ∷ [])
     ∙ rw (differs_name _ entry.name name other refl is differs) (or_none (find (has_name other) xs))

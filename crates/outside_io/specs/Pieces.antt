@@ -14,4 +14,5 @@ Took before after bytes = (taken : List ℕ) → before ≡ Some taken → after
 -- where the sink told what it had taken, it now has a prefix of these bytes after them
 abbrev pub TookPrefix : Option (List ℕ) → Option (List ℕ) → List ℕ → Type 0
 TookPrefix before after bytes =
-    (taken : List ℕ) → before ≡ Some taken → (count : ℕ) × (after ≡ Some (taken ++ take count bytes))
+    (taken : List ℕ) → before ≡ Some taken
+    → (count : ℕ) × (after ≡ Some (taken ++ take count bytes))

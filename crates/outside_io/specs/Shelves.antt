@@ -1,5 +1,6 @@
 -- What a shelf is to its callers: the library in memory, which tells every book and every count.
-use Rattle.std.specs.Prelude.{◌≡◌, ◌⊎◌, ℕ, Bool, List, Option, Some, None, bytes_eq, find, Contains}
+use Rattle.std.specs.Prelude.{◌≡◌, ◌⊎◌, ℕ, ◌-◌, min, Bool, List, ◌++◌, length, take, drop}
+use Rattle.std.specs.Prelude.{Option, Some, None, bytes_eq, find, Contains}
 use Rattle.outside_io.specs.Causes.{next_count}
 
 -- a book: its name, its bytes, and how often a fetch of it has failed
@@ -40,4 +41,15 @@ shelf_faults shelf name = faults_in shelf.further (find (has_name name) shelf.en
 
 -- the next fetch of a name fails: the name isn't there, or the call is one of those that fail
 abbrev pub FetchFails : ShelfState → List ℕ → Type 0
-FetchFails shelf name = (shelf_book shelf name ≡ None) ⊎ Contains shelf.failing (next_count shelf.calls)
+FetchFails shelf name =
+    (shelf_book shelf name ≡ None) ⊎ Contains shelf.failing (next_count shelf.calls)
+
+-- the books are as before
+abbrev pub SameBooks : ShelfState → ShelfState → Type 0
+SameBooks before after = (name : List ℕ) → shelf_book after name ≡ shelf_book before name
+
+-- as many bytes of the book from `at` on as there are and fit were put over the front of the
+-- buffer, and the rest of it stayed
+pub record PutsPiece (book : List ℕ) (at count : ℕ) (before after : List ℕ) : Type 0 where
+  pub size : count ≡ min (length book - at) (length before)
+  pub bytes : after ≡ take count (drop at book) ++ drop count before

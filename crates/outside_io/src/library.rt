@@ -1,4 +1,5 @@
-ghost use Rattle.std.specs.Prelude.{◌≡◌, ℕ, ◌+◌, ◌<◌, ◌≤◌, List, Option, Some, length, vec_len, IfOk, OnErr, IsErrOf};
+ghost use Rattle.std.specs.Prelude.{◌≡◌, ℕ, ◌<◌, ◌≤◌, List, Option, Some, length};
+ghost use Rattle.std.specs.Prelude.{IfOk, OnErr, IsErrOf};
 ghost use Rattle.outside_io.specs.Causes.{Rose, Told};
 ghost use Rattle.outside_io.specs.Pieces.{GivesPiece};
 
@@ -17,8 +18,10 @@ pub trait Library {
     /// A name that isn't there is a failed fetch. After one, nothing is said of `into`.
     fn fetch(&mut self, name: &str, at: u64, into: &mut [u8]) -> Result<usize, Failed>
         ensures bound { IfOk result (λ count. count ≤ length into.old) }
-        ensures bytes { IfOk result (λ count. Told (book self.old name.now) (λ b. GivesPiece b at count into.new)) }
-        ensures kept { (other : List ℕ) → Told (book self.old other) (λ b. book self.new other ≡ Some b) }
+        ensures bytes { IfOk result
+            (λ count. Told (book self.old name.now) (λ b. GivesPiece b at count into.new)) }
+        ensures kept { (other : List ℕ)
+            → Told (book self.old other) (λ b. book self.new other ≡ Some b) }
         ensures later { (other : List ℕ) → faults self.old other ≤ faults self.new other }
         ensures cause { OnErr result (Rose (faults self.old name.now) (faults self.new name.now)) };
 }
@@ -48,13 +51,17 @@ pub fn read_all<L: Library>(
     library: &mut L,
     name: &str,
 ) -> Result<Vec<u8>, ReadAllFault>
-    ensures whole { IfOk result (λ bytes. Told (L.book library.old name.now) (λ b. bytes.items ≡ b)) }
+    ensures whole { IfOk result
+        (λ bytes. Told (L.book library.old name.now) (λ b. bytes.items ≡ b)) }
     ensures small { IfOk result (λ bytes. length bytes.items ≤ MOST_BYTES) }
-    ensures too_large { IsErrOf result ReadAllFault.TooLarge → Told (L.book library.old name.now) (λ b. MOST_BYTES < length b) }
-    ensures cause { IsErrOf result ReadAllFault.Failed → Rose (L.faults library.old name.now) (L.faults library.new name.now) }
+    ensures too_large { IsErrOf result ReadAllFault.TooLarge
+        → Told (L.book library.old name.now) (λ b. MOST_BYTES < length b) }
+    ensures cause { IsErrOf result ReadAllFault.Failed
+        → Rose (L.faults library.old name.now) (L.faults library.new name.now) }
 
     // The library tells what it told, and no count has fallen.
-    ensures kept { (other : List ℕ) → Told (L.book library.old other) (λ b. L.book library.new other ≡ Some b) }
+    ensures kept { (other : List ℕ)
+        → Told (L.book library.old other) (λ b. L.book library.new other ≡ Some b) }
     ensures later { (other : List ℕ) → L.faults library.old other ≤ L.faults library.new other }
 {
     let mut found = Vec::new(alloc);

@@ -1,7 +1,9 @@
-ghost use Rattle.std.specs.Prelude.{◌≡◌, ◌≢◌, ◌↔◌, ◌≤◌, ◌++◌, ◌-◌, ℕ, List, take, drop, min, Some, None, [], ◌∷◌, IsErr, IsSome, length, IfOk, OnOk, OnErr, position};
+ghost use Rattle.std.specs.Prelude.{◌≡◌, ◌≢◌, ◌↔◌, ◌≤◌, ◌++◌, ℕ, List, Some, None, [], ◌∷◌, length};
+ghost use Rattle.std.specs.Prelude.{IsErr, IsSome, IfOk, OnOk, OnErr, position};
 ghost use Rattle.outside_io.specs.Causes.{next_count, Rose, Told};
 ghost use Rattle.outside_io.specs.Pieces.{GivesPiece};
-ghost use Rattle.outside_io.specs.Shelves.{has_name, shelf_book, shelf_faults, FetchFails};
+ghost use Rattle.outside_io.specs.Shelves.{has_name, shelf_book, shelf_faults};
+ghost use Rattle.outside_io.specs.Shelves.{FetchFails, SameBooks, PutsPiece};
 
 use crate::{Failed, Library};
 use std::alloc::{AllocError, Global};
@@ -21,7 +23,8 @@ impl Model for Book {
 
     ghost Value = { Entry };
 
-    ghost view = { λ b. record { name = string_bytes b.name; bytes = b.bytes.items; faults = b.faults } };
+    ghost view = { λ b.
+        record { name = string_bytes b.name; bytes = b.bytes.items; faults = b.faults } };
 }
 
 impl Book {
@@ -52,7 +55,12 @@ impl Model for Shelf {
 
     ghost Value = { ShelfState };
 
-    ghost view = { λ s. record { entries = s.books.items; further = s.further; calls = s.calls; failing = s.failing.items } };
+    ghost view = { λ s. record {
+      entries = s.books.items;
+      further = s.further;
+      calls = s.calls;
+      failing = s.failing.items;
+    } };
 }
 
 fn place_of(books: &[Book], name: &str) -> Option<usize>
@@ -63,8 +71,7 @@ fn place_of(books: &[Book], name: &str) -> Option<usize>
 
 // Puts bytes from `at` on at the front of `into`, as many as there are and fit.
 fn copy_piece(bytes: &[u8], at: u64, into: &mut [u8]) -> usize
-    ensures count { result ≡ min (length bytes.now - at) (length into.old) }
-    ensures piece { into.new ≡ take result (drop at bytes.now) ++ drop result into.old }
+    ensures { PutsPiece bytes.now at result into.old into.new }
 {
     let start = usize::min(at as usize, bytes.len());
     let count = usize::min(bytes.len() - start, into.len());
@@ -93,8 +100,10 @@ impl Shelf {
         ensures count { OnOk result (shelf_faults self.new name.now ≡ self.old.further) }
 
         // The other books, all other counts and the calls that fail stay.
-        ensures others { (other : List ℕ) → other ≢ name.now → shelf_book self.new other ≡ shelf_book self.old other }
-        ensures counts { (other : List ℕ) → other ≢ name.now → shelf_faults self.new other ≡ shelf_faults self.old other }
+        ensures others { (other : List ℕ) → other ≢ name.now
+            → shelf_book self.new other ≡ shelf_book self.old other }
+        ensures counts { (other : List ℕ) → other ≢ name.now
+            → shelf_faults self.new other ≡ shelf_faults self.old other }
         ensures rest { self.new ≡ record self.old { entries = self.new.entries } }
         ensures err { OnErr result (self.new ≡ self.old) }
     {
@@ -109,7 +118,8 @@ impl Shelf {
 
     /// Has a fetch call fail, counted from 1.
     pub fn fail_at(&mut self, call: u64) -> Result<(), AllocError>
-        ensures ok { OnOk result (self.new ≡ record self.old { failing = self.old.failing ++ call ∷ [] }) }
+        ensures ok { OnOk result
+            (self.new ≡ record self.old { failing = self.old.failing ++ call ∷ [] }) }
         ensures err { OnErr result (self.new ≡ self.old) }
     {
         self.failing.push(call)?;
@@ -142,23 +152,33 @@ impl Library for Shelf {
     fn fetch(&mut self, name: &str, at: u64, into: &mut [u8]) -> Result<usize, Failed>
         // What every library promises.
         ensures bound { IfOk result (λ count. count ≤ length into.old) }
-        ensures bytes { IfOk result (λ count. Told (shelf_book self.old name.now) (λ b. GivesPiece b at count into.new)) }
-        ensures kept { (other : List ℕ) → Told (shelf_book self.old other) (λ b. shelf_book self.new other ≡ Some b) }
-        ensures later { (other : List ℕ) → shelf_faults self.old other ≤ shelf_faults self.new other }
-        ensures cause { OnErr result (Rose (shelf_faults self.old name.now) (shelf_faults self.new name.now)) }
+        ensures bytes { IfOk result
+            (λ count. Told (shelf_book self.old name.now) (λ b. GivesPiece b at count into.new)) }
+        ensures kept { (other : List ℕ)
+            → Told (shelf_book self.old other) (λ b. shelf_book self.new other ≡ Some b) }
+        ensures later { (other : List ℕ)
+            → shelf_faults self.old other ≤ shelf_faults self.new other }
+        ensures cause { OnErr result
+            (Rose (shelf_faults self.old name.now) (shelf_faults self.new name.now)) }
 
         // Which fetch fails, and that as many bytes are put as there are and fit.
         ensures fails { IsErr result ↔ FetchFails self.old name.now }
-        ensures count { IfOk result (λ count. Told (shelf_book self.old name.now) (λ b. count ≡ min (length b - at) (length into.old))) }
-        ensures piece { IfOk result (λ count. Told (shelf_book self.old name.now) (λ b. into.new ≡ take count (drop at b) ++ drop count into.old)) }
+        ensures piece { IfOk result
+            (λ count. Told (shelf_book self.old name.now)
+            (λ b. PutsPiece b at count into.old into.new)) }
 
-        // Which counts rise by one, and that all else stays.
+        // A success counts the call alone. A failure also raises by one the count that serves the
+        // name, which is that of its book or the further one, and no other.
+        ensures ok { OnOk result
+            (self.new ≡ record self.old { calls = next_count self.old.calls }) }
+        ensures raised { let count = next_count (shelf_faults self.old name.now) in
+            OnErr result (shelf_faults self.new name.now ≡ count) }
+        ensures others { (other : List ℕ) → other ≢ name.now → IsSome (shelf_book self.old other)
+            → shelf_faults self.new other ≡ shelf_faults self.old other }
+        ensures further { IsSome (shelf_book self.old name.now)
+            → self.new.further ≡ self.old.further }
+        ensures books { SameBooks self.old self.new }
         ensures call { self.new.calls ≡ next_count self.old.calls }
-        ensures raised { OnErr result (shelf_faults self.new name.now ≡ next_count (shelf_faults self.old name.now)) }
-        ensures level { OnOk result ((other : List ℕ) → shelf_faults self.new other ≡ shelf_faults self.old other) }
-        ensures others { (other : List ℕ) → other ≢ name.now → IsSome (shelf_book self.old other) → shelf_faults self.new other ≡ shelf_faults self.old other }
-        ensures further { IsSome (shelf_book self.old name.now) → self.new.further ≡ self.old.further }
-        ensures books { (other : List ℕ) → shelf_book self.new other ≡ shelf_book self.old other }
         ensures failing { self.new.failing ≡ self.old.failing }
     {
         self.calls = self.calls.saturating_add(1);

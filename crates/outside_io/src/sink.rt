@@ -1,4 +1,5 @@
-ghost use Rattle.std.specs.Prelude.{◌≡◌, ℕ, ◌<◌, ◌≤◌, List, Option, Some, length, take, IfOk, OnOk, OnErr};
+ghost use Rattle.std.specs.Prelude.{◌≡◌, ℕ, ◌<◌, ◌≤◌, List, Option, Some, length, take};
+ghost use Rattle.std.specs.Prelude.{IfOk, OnOk, OnErr};
 ghost use Rattle.outside_io.specs.Causes.{Rose, Told};
 ghost use Rattle.outside_io.specs.Pieces.{Took, TookPrefix};
 
@@ -17,7 +18,8 @@ pub trait Sink {
     fn put(&mut self, piece: &[u8]) -> Result<usize, Failed>
         ensures bound { IfOk result (λ count. count ≤ length piece.now) }
         ensures some { IfOk result (λ count. 0 < length piece.now → 0 < count) }
-        ensures bytes { IfOk result (λ count. Took (taken self.old) (taken self.new) (take count piece.now)) }
+        ensures bytes { IfOk result
+            (λ count. Took (taken self.old) (taken self.new) (take count piece.now)) }
         ensures nothing { OnErr result (Told (taken self.old) (λ t. taken self.new ≡ Some t)) }
         ensures later { faults self.old ≤ faults self.new }
         ensures cause { OnErr result (Rose (faults self.old) (faults self.new)) };

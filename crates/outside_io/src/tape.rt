@@ -1,4 +1,5 @@
-ghost use Rattle.std.specs.Prelude.{◌≡◌, ◌↔◌, ◌≤◌, ◌++◌, ◌<◌, ℕ, List, take, Some, [], ◌∷◌, IsErr, length, IfOk, OnOk, OnErr};
+ghost use Rattle.std.specs.Prelude.{◌≡◌, ◌↔◌, ◌≤◌, ◌++◌, ◌<◌, take, Some, [], ◌∷◌, length};
+ghost use Rattle.std.specs.Prelude.{IsErr, IfOk, OnOk, OnErr};
 ghost use Rattle.outside_io.specs.Causes.{next_count, Rose, Told};
 ghost use Rattle.outside_io.specs.Pieces.{Took};
 ghost use Rattle.outside_io.specs.Tapes.{PutFails};
@@ -23,7 +24,13 @@ impl Model for Tape {
 
     ghost Value = { TapeState };
 
-    ghost view = { λ t. record { taken = take t.len t.buffer.items; room = length t.buffer.items; calls = t.calls; failing = t.failing.items; faults = t.faults } };
+    ghost view = { λ t. record {
+      taken = take t.len t.buffer.items;
+      room = length t.buffer.items;
+      calls = t.calls;
+      failing = t.failing.items;
+      faults = t.faults;
+    } };
 
     ghost invariant = { λ t. t.len ≤ length t.buffer.items };
 }
@@ -31,7 +38,8 @@ impl Model for Tape {
 impl Tape {
     /// Nothing taken, no put that fails, and the memory for so many bytes.
     pub fn new(alloc: Global, room: usize) -> Result<Tape, AllocError>
-        ensures { IfOk result (λ tape. tape ≡ record { taken = []; room = room; calls = 0; failing = []; faults = 0 }) }
+        ensures { IfOk result (λ tape. tape ≡
+            record { taken = []; room = room; calls = 0; failing = []; faults = 0 }) }
     {
         Ok(Tape {
             buffer: vec![in alloc; 0u8; room]?,
@@ -44,7 +52,8 @@ impl Tape {
 
     /// Has a put call fail, counted from 1.
     pub fn fail_at(&mut self, call: u64) -> Result<(), AllocError>
-        ensures ok { OnOk result (self.new ≡ record self.old { failing = self.old.failing ++ call ∷ [] }) }
+        ensures ok { OnOk result
+            (self.new ≡ record self.old { failing = self.old.failing ++ call ∷ [] }) }
         ensures err { OnErr result (self.new ≡ self.old) }
     {
         self.failing.push(call)?;
@@ -81,16 +90,22 @@ impl Sink for Tape {
         // What every sink promises.
         ensures bound { IfOk result (λ count. count ≤ length piece.now) }
         ensures some { IfOk result (λ count. 0 < length piece.now → 0 < count) }
-        ensures bytes { IfOk result (λ count. Took (Some self.old.taken) (Some self.new.taken) (take count piece.now)) }
-        ensures nothing { OnErr result (Told (Some self.old.taken) (λ t. Some self.new.taken ≡ Some t)) }
+        ensures bytes { IfOk result
+            (λ count. Took (Some self.old.taken) (Some self.new.taken) (take count piece.now)) }
+        ensures nothing { OnErr result
+            (Told (Some self.old.taken) (λ t. Some self.new.taken ≡ Some t)) }
         ensures later { self.old.faults ≤ self.new.faults }
         ensures cause { OnErr result (Rose self.old.faults self.new.faults) }
 
         // Which put fails, that the others take the whole piece, and that all else stays.
         ensures fails { IsErr result ↔ PutFails self.old (length piece.now) }
         ensures whole { IfOk result (λ count. count ≡ length piece.now) }
-        ensures ok { OnOk result (self.new ≡ record self.old { taken = self.old.taken ++ piece.now; calls = next_count self.old.calls }) }
-        ensures err { OnErr result (self.new ≡ record self.old { calls = next_count self.old.calls; faults = next_count self.old.faults }) }
+        ensures ok { let taken = self.old.taken ++ piece.now in
+            let calls = next_count self.old.calls in
+            OnOk result (self.new ≡ record self.old { taken = taken; calls = calls }) }
+        ensures err { let calls = next_count self.old.calls in
+            let faults = next_count self.old.faults in
+            OnErr result (self.new ≡ record self.old { calls = calls; faults = faults }) }
     {
         self.calls = self.calls.saturating_add(1);
         let left = self.buffer.len() - self.len;

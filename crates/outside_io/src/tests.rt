@@ -9,9 +9,11 @@ fn reads_whole_books(rt: HostRuntime) -> Result<(), Fail> {
     let long = vec![in rt.alloc(); 7u8; 5_000]?;
     let mut shelf = Shelf::new(rt.alloc());
     shelf.add("long", &long)?;
+    shelf.add("short", b"brief")?;
     let cases = [
         ("long", 4, Ok(5_000)),
         ("long", 2, Err(ReadAllFault::Failed)),
+        ("short", 3, Ok(5)),
         ("missing", 4, Err(ReadAllFault::Failed)),
     ];
     for (name, call, want) in cases {

@@ -8,12 +8,15 @@ returns-then-count-eq0-clause-whole g c b told =
     let told_now = c.pieces.invariant.kept c.args.name.now b told in
     let piece = rw c.if-count-eq0.true at (c.in-Ok.ensures.bytes b told_now) in
     GivesPiece-none c.pieces.found.items b c.fetch.new.into c.len.result
-    (c.len.ensures ∙ c.pieces.found.ok.0) (c.pieces.invariant.begun b told) piece cc
+    (c.len.ensures ∙ c.pieces.found.ok.0) (c.pieces.invariant.begun b told) piece
+    (omega (arith, c.fetch.auto.into))
 
 pub pieces-preserved : goal.pieces-preserved
 pieces-preserved g c =
-    let ok : is_ok c.extend_from_slice.result ≡ true = cc (c.is_err.ensures.negation, c.if-is_err.false) in
-    let fits : c.in-Ok.count ≤ length c.fetch.new.into = omega (arith, c.in-Ok.ensures.bound, c.fetch.auto.into) in
+    let ok : is_ok c.extend_from_slice.result ≡ true =
+    cc (c.is_err.ensures.negation, c.if-is_err.false) in
+    let fits : c.in-Ok.count ≤ length c.fetch.new.into =
+    omega (arith, c.in-Ok.ensures.bound, c.fetch.auto.into) in
     let items = rw ok at c.extend_from_slice.ensures.items in
     record {
       small =

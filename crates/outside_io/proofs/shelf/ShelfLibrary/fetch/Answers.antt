@@ -1,6 +1,8 @@
-use Rattle.std.proofs.Common.{◌≡◌, ℕ, List, inl, inr, refl, sym, ◌∙◌, ap, subst, Some, None, arith, rules, position, find, set, get_or, string_bytes}
+use Rattle.std.proofs.Common.{◌≡◌, ℕ, List, inl, inr, refl, sym, ◌∙◌, ap, subst}
+use Rattle.std.proofs.Common.{Some, None, arith, rules, position, find, set, get_or, string_bytes}
 use Rattle.outside_io.specs.Shelves.{Entry, has_name, shelf_book, faults_in}
-use Rattle.outside_io.proofs.Entries.{find-None, find-Some, not_listed, Raised, Raised-set, Raised-books, Raised-later}
+use Rattle.outside_io.proofs.Entries.{find-None, find-Some, not_listed}
+use Rattle.outside_io.proofs.Entries.{Raised, Raised-set, Raised-books, Raised-later}
 use Rattle.outside_io.proofs.Pieces.{GivesPiece-put}
 use Rattle.outside_io.proofs.shelf.ShelfLibrary.fetch.Goals as goal
 
@@ -49,7 +51,8 @@ raised : (c : goal.After-self-then-contains-1)
     → Raised c.self.inside.books.items
     (set c.self.inside.books.items c.in-Some.place (after c)) c.args.name.now (before c) (after c)
 raised c =
-    let at = sym (c.in-Some.ensures ∙ ap (position (has_name c.args.name.now)) c.deref.ensures.value) in
+    let place = ap (position (has_name c.args.name.now)) c.deref.ensures.value in
+    let at = sym (c.in-Some.ensures ∙ place) in
     Raised-set c.self.inside.books.items c.args.name.now c.in-Some.place (before c) (after c) at
     (subst (λ (b : Entry). b ≡ get_or c.self.inside.books.items c.in-Some.place b)
     (sym c.book.view_is) c.index_mut-book.ensures.value)
@@ -100,13 +103,12 @@ told_is c told is =
 
 pub returns-clause-bytes : goal.returns-clause-bytes
 returns-clause-bytes c = λ told is.
-    rw (← told_is c told is)
-    (GivesPiece-put _ c.args.into.now _ c.args.at _ c.copy_piece.ensures.count c.copy_piece.ensures.piece)
+    rw (← told_is c told is) (GivesPiece-put _ c.args.into.now _ c.args.at _ c.copy_piece.ensures)
 
 pub returns-clause-fails : goal.returns-clause-fails
 returns-clause-fails c =
-    let unlisted =
-    not_listed c.deref-2.result.now c.saturating_add-self-inside.result c.if-contains.ensures.cases in (
+    let call = c.saturating_add-self-inside.result in
+    let unlisted = not_listed c.deref-2.result.now call c.if-contains.ensures.cases in (
       λ no. absurd cc,
       λ fails. elim fails [
         | inl none ↦ let some = rw (← c.self.view_is, present c) at none in absurd cc
@@ -118,8 +120,5 @@ returns-clause-fails c =
       ],
     )
 
-pub returns-clause-count : goal.returns-clause-count
-returns-clause-count c = λ told is. rw (← told_is c told is) c.copy_piece.ensures.count
-
 pub returns-clause-piece : goal.returns-clause-piece
-returns-clause-piece c = λ told is. rw (← told_is c told is) c.copy_piece.ensures.piece
+returns-clause-piece c = λ told is. rw (← told_is c told is) c.copy_piece.ensures
