@@ -1,5 +1,5 @@
--- The commands of the definitions, those of PODS 2008 with blocks, choice, loops, local variables and
--- calls, that the commands of the program stand for.
+-- The commands of the definitions, those of PODS 2008 with blocks, choice, loops, local variables
+-- and calls, that the commands of the program stand for.
 use Rattle.std.specs.Prelude.{List, [], ◌∷◌, map}
 use Rattle.model_programs.specs.Commands as model
 use Rattle.model_programs.specs.Commands.{stop, ◌then◌}

@@ -3,20 +3,22 @@
 pub enum FileKind {
     /// The version of the language isn't 1.
     Version,
-    /// A name is declared twice.
+    /// A logic variable is declared twice, two procedures have one name, or a name is declared
+    /// twice among the parameters, results and locals of a procedure.
     Twice,
-    /// A name isn't declared.
+    /// A variable isn't declared, or there is no procedure of the name that is called.
     Unknown,
-    /// A formula, term or command isn't well sorted.
+    /// A part has the wrong sort or number, or a `local` another sort than in the procedure.
     Sort,
-    /// A constant is out of range.
+    /// A parameter is assigned, takes the result of a call, or is a local.
     Constant,
-    /// The results of a call aren't distinct.
+    /// The results of a call repeat, or one of them stands in its arguments.
     Results,
-    /// A variable stands where it isn't in scope.
+    /// The requires has a program variable that isn't a parameter, or the ensures has one that is
+    /// neither a parameter nor a result.
     Scope,
-    /// There is no rule of the name.
+    /// A step names no rule.
     Rule,
-    /// The steps aren't numbered from 1.
+    /// The number of a step isn't its place in its proof, counted from 1.
     Number,
 }

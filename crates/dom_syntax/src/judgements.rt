@@ -6,7 +6,8 @@ use dom_terms::{Copied, DataSort, OutOfMemory};
 use formula_syntax::{Entailment, Formula};
 use std::alloc::Global;
 
-/// That a command, run on what meets the first formula, ends in what meets the second.
+/// That a command, run on what meets `pre`, never faults and, where it ends, leaves what meets
+/// `post`.
 #[derive(Debug, Drop)]
 pub struct Triple {
     pub pre: Formula,

@@ -1,5 +1,5 @@
--- The variables and terms of the definitions that those of the program stand for. Terms are those of
--- PODS 2008, with sums, differences and texts; a variable is its name and its sort.
+-- The variables and terms of the definitions that those of the program stand for. Terms are those
+-- of PODS 2008, with sums, differences and texts; a variable is its name and its sort.
 use Rattle.model_shapes.specs.Values as values
 use Rattle.model_formulas.specs.Variables as model
 use Rattle.model_formulas.specs.Terms as terms

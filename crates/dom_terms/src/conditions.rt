@@ -9,7 +9,9 @@ use std::alloc::Global;
 /// A condition of a command.
 #[derive(Debug, Drop)]
 pub enum Cond {
+    /// Always.
     True,
+    /// Never.
     False,
     /// The truth value that a variable has.
     Holds(ProgVar),
@@ -17,8 +19,11 @@ pub enum Cond {
     Eq(Term, Term),
     /// The first integer is at most the second.
     Le(Term, Term),
+    /// The condition fails.
     Not(Box<Cond>),
+    /// Both hold.
     And(Box<Cond>, Box<Cond>),
+    /// One holds, or both.
     Or(Box<Cond>, Box<Cond>),
 }
 

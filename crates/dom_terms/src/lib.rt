@@ -47,3 +47,52 @@ pub type Numbers = List<u32>;
 
 /// A list of texts.
 pub type Texts = List<Text>;
+
+#[cfg(test)]
+mod tests {
+    use super::*;
+    use std::test::Fail;
+
+    #[test]
+    fn texts_and_terms_are_built_and_copied(rt: HostRuntime) -> Result<(), Fail> {
+        let alloc = rt.alloc();
+        let mut name = Text::from_str(alloc, "caf")?;
+        name.push('é')?;
+        assert_eq!(rt; name.len(), 5);
+        assert_eq!(rt; name.get(4), Some(&0xa9));
+        let sort = ValueSort::Int;
+        let name = name.copy(alloc)?;
+        let left = Box::new(alloc, Term::Prog(ProgVar { name, sort }))?;
+        let right = Box::new(alloc, Term::Int(-5))?;
+        let mut terms = List::new(alloc);
+        terms.push(Term::Str(Text::new(alloc)))?;
+        terms.push(Term::Sub(left, right))?;
+        let terms = terms.copy(alloc)?;
+        let found = terms.get(1).ok_or("no second term")?;
+        let cond = Cond::Le(found.copy(alloc)?, Term::Int(3)).copy(alloc)?;
+        let name = "ProgVar { name: Text { characters: \"café\" }, sort: Int }";
+        let term = format!(in alloc; "Sub(Prog({name}), Int(-5))")?;
+        let want = format!(in alloc; "Le({term}, Int(3))")?;
+        assert_eq!(rt; format!(in alloc; "{found:?}")?.as_str(), term.as_str());
+        assert_eq!(rt; format!(in alloc; "{cond:?}")?.as_str(), want.as_str());
+        Ok(())
+    }
+
+    #[test]
+    fn values_and_logic_variables_are_copied(rt: HostRuntime) -> Result<(), Fail> {
+        let alloc = rt.alloc();
+        let value = Value::Str(Text::from_str(alloc, "div")?).copy(alloc)?;
+        let Value::Str(name) = value else {
+            return Err(Fail::from("another value"));
+        };
+        let sort = Sort::Context(DataSort::Tree, DataSort::Grove);
+        let variable = LogicVar { name, sort };
+        let copied = variable.copy(alloc)?;
+        assert_eq!(rt; copied.name.as_str(), "div");
+        assert!(rt; same_logic_var(&variable, &copied));
+        let mut numbers = Numbers::new(alloc);
+        numbers.push(7)?;
+        assert_eq!(rt; numbers.copy(alloc)?.as_slice(), [7].as_slice());
+        Ok(())
+    }
+}

@@ -12,13 +12,21 @@ pub enum EvalFault {
 /// A side condition of a rule.
 #[derive(Clone, Copy, Debug, PartialEq, Eq)]
 pub enum SideName {
+    /// A variable isn't free in a formula.
     Free,
+    /// Two terms are different literals.
     Literal,
+    /// Each coefficient is in range, and not negative for an inequality.
     Coefficient,
+    /// The sum of the comparisons gives the conclusion.
     Sum,
+    /// Two texts have the same pieces in order.
     Texts,
+    /// A formula is pure.
     Pure,
+    /// A command changes no program variable of a formula or a term.
     Modified,
+    /// The variable that is assigned stands in no other part of the axiom.
     Assigned,
 }
 

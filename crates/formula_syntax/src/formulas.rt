@@ -58,9 +58,9 @@ pub enum Formula {
     PlusHole(Box<Formula>, Box<Formula>),
     /// `(K @h P)`, a context with something of sort h in its hole
     App(DataSort, Box<Formula>, Box<Formula>),
-    /// `(P -o Q)`, the contexts that give Q wherever they get P
+    /// `(P -o Q)`, the contexts that give Q with whatever meets P in their hole
     HoleAdj(Box<Formula>, Box<Formula>),
-    /// `(K o-k Q)`, what gives Q at sort k wherever it is put into K
+    /// `(K o-k Q)`, what gives Q at sort k in the hole of whatever context meets K
     CtxAdj(DataSort, Box<Formula>, Box<Formula>),
     /// `$x`, the shape or context that the variable stands for
     Var(LogicVar),
