@@ -9,7 +9,7 @@ use Rattle.token_readers.proofs.Sound.{Sound}
 use Rattle.token_readers.proofs.Only.{Only}
 use Rattle.token_readers.proofs.Whole as whole_
 use Rattle.proof_text.specs.Readers.{theory_at}
-use Rattle.proof_text.proofs.Theories.{theory_sound, theory_only}
+use Rattle.proof_text.proofs.TheoryReader.{theory_sound, theory_only}
 use Rattle.std.specs.Prelude.{codes}
 
 sound_at : (n : ℕ) → Sound n (theory_at n) SpellsTheory

@@ -1,5 +1,5 @@
-pub mod Leaves
-pub mod Judgements
-pub mod Steps
-pub mod Theories
+pub mod LeafReader
+pub mod JudgementReader
+pub mod StepReader
+pub mod TheoryReader
 pub mod Exact

@@ -1,35 +1,22 @@
 -- The readers of theories on lists of lexemes, each with one lexeme of look-ahead. The grammar says
 -- what they read; `most` bounds the length of lists.
-use Rattle.std.specs.Prelude.{ℕ, nat_le, cond, List, [], ◌∷◌, Option, Some, None, bytes_eq, codes}
+use Rattle.std.specs.Prelude.{ℕ, cond, List, [], ◌∷◌, Option, Some, None, bytes_eq, codes}
 use Rattle.model_shapes.specs.Sorts.{DataSort, grove}
 use Rattle.model_formulas.specs.Formulas.{Named, truth, empty}
 use Rattle.model_programs.specs.Commands.{Command, skip}
 use Rattle.model_programs.specs.Theories.{JudgementOf, triple, by_rule, StepOf, ProcedureOf, Theory}
-use Rattle.model_text.specs.Lexemes.{Lexeme, terminal, step_word, name_lexeme, number_lexeme, is_reserved}
+use Rattle.model_text.specs.Lexemes.{Lexeme, name_lexeme}
+use Rattle.token_readers.specs.Leaves.{leaf_name, leaf_word, leaf_number, leaf_step}
 use Rattle.token_readers.specs.Reading.{Read, ret, fail, then, when, expect, leaf, sep_list, many, the_terminal}
 
--- one lexeme: a name, any word, a small number, the sort g, the word `step` with its line
-abbrev pub leaf_name : Lexeme → Option (List ℕ)
-leaf_name (name_lexeme w) = Some w
-leaf_name _ = None
+-- the comma between numbers
+abbrev pub comma : List ℕ
+comma = codes ","
 
-abbrev pub leaf_word : Lexeme → Option (List ℕ)
-leaf_word (name_lexeme w) = Some w
-leaf_word (step_word line) = Some (codes "step")
-leaf_word (terminal w) = cond (is_reserved w) (Some w) None
-leaf_word _ = None
-
-abbrev pub leaf_number : Lexeme → Option ℕ
-leaf_number (number_lexeme n) = cond (nat_le n 4294967295) (Some n) None
-leaf_number _ = None
-
+-- the sort g
 abbrev pub leaf_sort : Lexeme → Option DataSort
 leaf_sort (name_lexeme w) = cond (bytes_eq w (codes "g")) (Some grove) None
 leaf_sort _ = None
-
-abbrev pub leaf_step : Lexeme → Option ℕ
-leaf_step (step_word line) = Some line
-leaf_step _ = None
 
 unfoldable pub formula_at : Read Named
 formula_at = when (codes "true") (ret truth) (when (codes "0g") (ret (empty grove)) fail)
@@ -40,7 +27,7 @@ command_at = expect (codes "skip") (ret skip)
 unfoldable pub premises_at : ℕ → Read (List ℕ)
 premises_at most =
     expect (codes "(") (when (codes ")") (ret [])
-        (then (sep_list (codes ",") (leaf leaf_number) most) λ ns. expect (codes ")") (ret ns)))
+        (then (sep_list comma (leaf leaf_number) most) λ ns. expect (codes ")") (ret ns)))
 
 unfoldable pub judgement_at : Read (JudgementOf Named)
 judgement_at =

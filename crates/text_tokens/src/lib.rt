@@ -15,4 +15,5 @@ mod tokens;
 mod words;
 
 pub use reading::token_list;
+pub use reserved::is_reserved;
 pub use tokens::{Token, TokenKind, Tokens};

@@ -1,5 +1,6 @@
-pub mod Terminals
+pub mod TerminalTests
 pub mod Sound
 pub mod Only
 pub mod Whole
 pub mod Lists
+pub mod Values

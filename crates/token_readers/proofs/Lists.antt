@@ -3,7 +3,7 @@ use Rattle.std.proofs.Common.{◌≡◌, ℕ, zero, suc, pred, ◌+◌, ◌-◌,
 use Rattle.std.specs.Prelude as std
 use Rattle.model_text.specs.Lexemes.{Lexeme, terminal}
 use Rattle.token_readers.specs.Reading.{after, is_terminal}
-use Rattle.token_readers.proofs.Terminals.{text_refl}
+use Rattle.token_readers.proofs.TerminalTests.{text_refl}
 use Rattle.token_readers.specs.Reading.{Stop, At, Deep, Answer, Read, ◌>>=◌, ret, then, when, either, sep_list, many, begins, first, begun, is_none, not_begun, not_next}
 use Rattle.token_readers.specs.declared.fault.ReadFault.{ReadFault}
 use Rattle.token_readers.specs.declared.fault.ReadFault.TheVariants as faults

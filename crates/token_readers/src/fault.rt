@@ -2,12 +2,13 @@
 ghost use Rattle.std.specs.Prelude.{◌≡◌};
 ghost use Rattle.token_readers.specs.declared.fault.ReadFault.TheVariants.{Memory};
 
+use dom_terms::OutOfMemory;
 use std::alloc::{AllocError, AllocFailed};
 
 /// Why nothing was read.
 #[derive(Debug, Drop)]
 pub enum ReadFault {
-    /// The lexemes spell nothing; so many were left where the reading stopped.
+    /// The tokens spell nothing; so many were left where the reading stopped.
     Text(usize),
     /// Memory ran out.
     Memory,
@@ -27,4 +28,21 @@ impl<T: Drop> From<AllocFailed<T>> for ReadFault {
     fn from(_e: AllocFailed<T>) -> ReadFault {
         ReadFault::Memory
     }
+}
+
+impl From<OutOfMemory> for ReadFault {
+    ghost from_gives = { λ _ e. e ≡ Memory };
+
+    fn from(_e: OutOfMemory) -> ReadFault {
+        ReadFault::Memory
+    }
+}
+
+/// Why a whole list of tokens gave nothing.
+#[derive(Clone, Copy, Debug, PartialEq, Eq)]
+pub enum TextFault {
+    /// The tokens spell nothing.
+    BadText,
+    /// Memory ran out.
+    OutOfMemory,
 }

@@ -1,8 +1,12 @@
-//! Readers of lists of lexemes, how they are put together, and why what they read is what a grammar
+//! Readers of lists of tokens, how they are put together, and why what they read is what a grammar
 //! spells. Promises that a reader put together by these rules is exact, with its fault token.
-//! Stands on text_tokens and model_text.
+//! Stands on text_tokens and on what the grammar sees of a token.
 #![tactic(auto)]
 
 mod fault;
+mod leaves;
+mod terminals;
 
-pub use fault::ReadFault;
+pub use fault::{ReadFault, TextFault};
+pub use leaves::{name, number, step_line, word};
+pub use terminals::{after, expect};

@@ -8,9 +8,10 @@ use Rattle.token_readers.specs.Reading.{Read, leaf, many, not_begun}
 use Rattle.token_readers.proofs.Sound.{Sound, After, s_then, s_expect, s_close}
 use Rattle.token_readers.proofs.Only.{Only, OrDeep, read, Prefix_free, o_last, o_then}
 use Rattle.token_readers.proofs.Lists.{SpellsMany, none_left, one_more, s_many, many_only}
-use Rattle.proof_text.specs.Readers.{leaf_step, step_tail}
-use Rattle.proof_text.proofs.Leaves.{number_sound, word_sound, number_only, word_only}
-use Rattle.proof_text.proofs.Judgements.{premises_sound, premises_only, judgement_sound, judgement_only}
+use Rattle.token_readers.specs.Leaves.{leaf_step}
+use Rattle.proof_text.specs.Readers.{step_tail}
+use Rattle.proof_text.proofs.LeafReader.{number_sound, word_sound, number_only, word_only}
+use Rattle.proof_text.proofs.JudgementReader.{premises_sound, premises_only, judgement_sound, judgement_only}
 
 -- only the word `step` begins a step
 leaf_step_is : (t : Lexeme) (line : ℕ) → leaf_step t ≡ Some line → step_word line ≡ t

@@ -10,9 +10,10 @@ use Rattle.token_readers.specs.Reading.{Read, ret, then, expect, leaf, many, the
 use Rattle.token_readers.proofs.Sound.{Sound, After, s_ret, s_then, s_expect, s_close, the_terminal_is}
 use Rattle.token_readers.proofs.Only.{Only, OrDeep, read, Prefix_free, o_last, o_then}
 use Rattle.token_readers.proofs.Lists.{SpellsMany, none_left, one_more, s_many, many_only}
-use Rattle.proof_text.specs.Readers.{leaf_step, step_tail, header_at, procedure_tail, more_procedures_at, procedures_at, theory_at}
-use Rattle.proof_text.proofs.Leaves.{name_sound, number_sound, sort_sound, formula_sound, command_sound, name_only, number_only, sort_only, formula_only, command_only}
-use Rattle.proof_text.proofs.Steps.{steps_sound, steps_only, steps_of, items_of}
+use Rattle.token_readers.specs.Leaves.{leaf_step}
+use Rattle.proof_text.specs.Readers.{step_tail, header_at, procedure_tail, more_procedures_at, procedures_at, theory_at}
+use Rattle.proof_text.proofs.LeafReader.{name_sound, number_sound, sort_sound, formula_sound, command_sound, name_only, number_only, sort_only, formula_only, command_only}
+use Rattle.proof_text.proofs.StepReader.{steps_sound, steps_only, steps_of, items_of}
 
 -- what stands between a procedure's name and its sort
 abbrev between : List Lexeme

@@ -11,7 +11,8 @@ use Rattle.model_grammar.specs.Grammar.{one, SpellsFormula, true_word, empty_gro
 use Rattle.token_readers.specs.Reading.{Read, leaf, leaf_or, Answer, At}
 use Rattle.token_readers.proofs.Sound.{Sound, s_ret, s_fail, s_case, s_leaf, s_close}
 use Rattle.token_readers.proofs.Only.{Only, OrDeep, read, Prefix_free}
-use Rattle.proof_text.specs.Readers.{leaf_name, leaf_word, leaf_number, leaf_sort, formula_at, command_at}
+use Rattle.token_readers.specs.Leaves.{leaf_name, leaf_word, leaf_number}
+use Rattle.proof_text.specs.Readers.{leaf_sort, formula_at, command_at}
 
 -- a choice that gave a value was taken
 chosen : {A : Type 0} (b : Bool) (x a : A) → cond b (Some x) None ≡ Some a → (b ≡ true) × (x ≡ a)

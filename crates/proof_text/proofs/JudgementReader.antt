@@ -10,8 +10,9 @@ use Rattle.token_readers.specs.Reading.{Read, ret, then, when, expect, leaf, sep
 use Rattle.token_readers.proofs.Sound.{Sound, s_ret, s_then, s_case, s_expect, s_close}
 use Rattle.token_readers.proofs.Only.{Only, OrDeep, read, Prefix_free, o_last, o_then}
 use Rattle.token_readers.proofs.Lists.{SpellsList, last, more, s_list, list_only}
-use Rattle.proof_text.specs.Readers.{leaf_number, leaf_sort, formula_at, command_at, premises_at, judgement_at}
-use Rattle.proof_text.proofs.Leaves.{number_sound, sort_sound, formula_sound, command_sound, number_only, sort_only, formula_only, command_only}
+use Rattle.token_readers.specs.Leaves.{leaf_number}
+use Rattle.proof_text.specs.Readers.{leaf_sort, formula_at, command_at, premises_at, judgement_at}
+use Rattle.proof_text.proofs.LeafReader.{number_sound, sort_sound, formula_sound, command_sound, number_only, sort_only, formula_only, command_only}
 
 -- a list of numbers with commas between them, read as the grammar has it
 numbers_of : {ns : List ℕ} {s : List Lexeme} → SpellsList (codes ",") SpellsNumber ns s → SpellsNumbers ns s

@@ -1,0 +1,90 @@
+// Steps of proofs.
+ghost use Rattle.std.specs.Prelude.{◌≡◌, map};
+ghost use Rattle.dom_syntax.specs.Judgements.{step_of};
+ghost use Rattle.token_readers.specs.Reading.{leaf, sep_list, many};
+ghost use Rattle.token_readers.specs.Giving.{Gives};
+ghost use Rattle.token_readers.specs.Leaves.{lexemes_in, leaf_number, leaf_step};
+ghost use Rattle.proof_text.specs.Readers.{comma, premises_at, step_tail};
+
+use crate::judgements::judgement;
+use dom_syntax::{Reason, Step, Steps};
+use dom_terms::{Numbers, Terms};
+use std::alloc::Global;
+use text_tokens::Token;
+use token_readers::{ReadFault, after, expect, number, step_line, word};
+
+// One or more numbers with commas between them.
+fn numbers(alloc: Global, tokens: &[Token]) -> Result<(Numbers, &[Token]), ReadFault>
+    ensures { Gives (λ x. (x.0, lexemes_in x.1.now)) result (sep_list comma (leaf leaf_number) u32.MAX (lexemes_in tokens.now)) }
+{
+    let mut found = Numbers::new(alloc);
+    let mut rest = tokens;
+    for _ in 0..u32::MAX {
+        let (item, behind) = number(rest)?;
+        found.push(item)?;
+        match after(behind, ",") {
+            Some(next) => rest = next,
+            None => return Ok((found, behind)),
+        }
+    }
+    Err(ReadFault::Memory)
+}
+
+/// The numbers of the steps that a step cites, in brackets.
+#[tactic(auto, unfolding(crate::specs::Readers::premises_at))]
+fn premises(alloc: Global, tokens: &[Token]) -> Result<(Numbers, &[Token]), ReadFault>
+    ensures { Gives (λ x. (x.0, lexemes_in x.1.now)) result (premises_at u32.MAX (lexemes_in tokens.now)) }
+{
+    let rest = expect(tokens, "(")?;
+    if let Some(behind) = after(rest, ")") {
+        return Ok((Numbers::new(alloc), behind));
+    }
+    let (found, rest) = numbers(alloc, rest)?;
+    let rest = expect(rest, ")")?;
+    Ok((found, rest))
+}
+
+// What stands behind the word `step`, which is on the line.
+#[tactic(auto, unfolding(crate::specs::Readers::step_tail))]
+fn step(alloc: Global, line: u32, tokens: &[Token]) -> Result<(Step, &[Token]), ReadFault>
+    ensures { Gives (λ x. (step_of x.0, lexemes_in x.1.now)) result (step_tail u32.MAX line (lexemes_in tokens.now)) }
+{
+    let (number, rest) = number(tokens)?;
+    let rest = expect(rest, "by")?;
+    let (name, rest) = word(alloc, rest)?;
+    let (premises, rest) = premises(alloc, rest)?;
+    let rest = expect(rest, ":")?;
+    let (judgement, rest) = judgement(rest)?;
+    let rest = expect(rest, ";")?;
+    let reason = Reason::Rule {
+        name,
+        premises,
+        arguments: Terms::new(alloc),
+    };
+    let step = Step {
+        number,
+        line,
+        reason,
+        judgement,
+    };
+    Ok((step, rest))
+}
+
+/// The steps of a proof, as long as one begins.
+pub fn steps(alloc: Global, tokens: &[Token]) -> Result<(Steps, &[Token]), ReadFault>
+    ensures { Gives (λ x. (map step_of x.0, lexemes_in x.1.now)) result (many leaf_step (step_tail u32.MAX) u32.MAX (lexemes_in tokens.now)) }
+{
+    let mut found = Steps::new(alloc);
+    let mut rest = tokens;
+    for _ in 0..u32::MAX {
+        match step_line(rest) {
+            Some((line, behind)) => {
+                let (item, next) = step(alloc, line, behind)?;
+                found.push(item)?;
+                rest = next;
+            }
+            None => return Ok((found, rest)),
+        }
+    }
+    Err(ReadFault::Memory)
+}

@@ -1,0 +1,34 @@
+-- What single lexemes stand for in the grammar, and the lexemes of a list of tokens.
+use Rattle.std.specs.Prelude.{ℕ, nat_le, cond, List, map, Option, Some, None, codes}
+use Rattle.model_text.specs.Lexemes.{Lexeme, terminal, step_word, name_lexeme, number_lexeme, is_reserved, lexeme_of}
+use Rattle.text_tokens.specs.declared.tokens.Token.{Token}
+use Rattle.text_tokens.specs.Tokens.{token_of}
+
+-- what the grammar sees of a token of the program, and of a list of them
+abbrev pub seen : Token → Lexeme
+seen token = lexeme_of (token_of token)
+
+abbrev pub lexemes_in : List Token → List Lexeme
+lexemes_in = map seen
+
+-- a name
+abbrev pub leaf_name : Lexeme → Option (List ℕ)
+leaf_name (name_lexeme w) = Some w
+leaf_name _ = None
+
+-- any word
+abbrev pub leaf_word : Lexeme → Option (List ℕ)
+leaf_word (name_lexeme w) = Some w
+leaf_word (step_word line) = Some (codes "step")
+leaf_word (terminal w) = cond (is_reserved w) (Some w) None
+leaf_word _ = None
+
+-- a number of at most 32 bits
+abbrev pub leaf_number : Lexeme → Option ℕ
+leaf_number (number_lexeme n) = cond (nat_le n 4294967295) (Some n) None
+leaf_number _ = None
+
+-- the word `step`, with its line
+abbrev pub leaf_step : Lexeme → Option ℕ
+leaf_step (step_word line) = Some line
+leaf_step _ = None

@@ -1,0 +1,35 @@
+// Reserved words and symbols.
+ghost use Rattle.std.specs.Prelude.{◌≡◌};
+ghost use Rattle.std.specs.Option.{option_map};
+ghost use Rattle.token_readers.specs.Reading.{is_terminal, after, terminal_at};
+ghost use Rattle.token_readers.specs.Giving.{Gives};
+ghost use Rattle.token_readers.specs.Leaves.{seen, lexemes_in};
+
+use crate::fault::ReadFault;
+use text_tokens::Token;
+
+fn is_this(token: &Token, text: &str) -> bool
+    ensures { result ≡ is_terminal text.now (seen token.now) }
+{
+    token.is_terminal(text)
+}
+
+/// What stands behind the reserved word or symbol, where it comes first.
+pub fn after<'a>(tokens: &'a [Token], text: &str) -> Option<&'a [Token]>
+    ensures { option_map (λ r. lexemes_in r.now) result ≡ after text.now (lexemes_in tokens.now) }
+{
+    let [first, rest @ ..] = tokens else {
+        return None;
+    };
+    if is_this(first, text) { Some(rest) } else { None }
+}
+
+/// What stands behind the reserved word or symbol, which has to come first.
+pub fn expect<'a>(tokens: &'a [Token], text: &str) -> Result<&'a [Token], ReadFault>
+    ensures { Gives (λ r. lexemes_in r.now) result (terminal_at text.now (lexemes_in tokens.now)) }
+{
+    match after(tokens, text) {
+        Some(rest) => Ok(rest),
+        None => Err(ReadFault::Text(tokens.len())),
+    }
+}
