@@ -7,10 +7,14 @@ ghost use Rattle.model_grammar.specs.Output.{line};
 ghost use Rattle.domcheck_core.specs.Answers.{CheckAnswer, IsAnswer, IsTold};
 ghost use Rattle.domcheck_core.specs.Clauses.{may_answer, ReadRose, speaks};
 
+use crate::file::read_file;
+use crate::form::count_steps;
 use crate::status::Status;
+use dom_syntax::Theory;
 use dom_terms::OutOfMemory;
+use hoare_kernel::is_accepted;
 use outside_io::{Library, ReadAllFault, read_all};
-use std::alloc::Global;
+use std::alloc::{AllocError, Global};
 
 /// An answer with the line that is written.
 #[derive(Drop)]
@@ -47,11 +51,45 @@ fn line_reply(alloc: Global, status: Status, text: &str) -> Result<Reply, OutOfM
     Ok(Reply { status, line })
 }
 
+// The text of the line for an accepted theory.
+fn accepted_text(alloc: Global, procedures: usize, steps: usize) -> Result<String, AllocError>
+    ensures { IfOk result (λ s. string_bytes s ≡ accepted_text procedures steps) }
+{
+    format!(in alloc; "accepted: {procedures} procedures, {steps} steps")
+}
+
+ghost use Rattle.model_grammar.specs.Output.{accepted_text, accepted_line};
+
+// The answer for an accepted theory of the form that is read.
+fn yes(alloc: Global, theory: &Theory) -> Result<Reply, OutOfMemory>
+    requires { IsOfForm (theory_of theory.now) }
+    ensures status { IfOk result (λ r. r.status ≡ Status.Done) }
+    ensures line { IfOk result (λ r. r.line.items ≡ accepted_line (theory_of theory.now)) }
+{
+    let procedures = theory.procedures.as_slice();
+    let Some(steps) = count_steps(procedures) else {
+        unreachable!();
+    };
+    let text = accepted_text(alloc, procedures.len(), steps)?;
+    line_reply(alloc, Status::Done, text.as_str())
+}
+
+ghost use Rattle.model_grammar.specs.Files.{IsOfForm};
+ghost use Rattle.dom_syntax.specs.Theories.{theory_of};
+
+// The answer on the bytes of a file.
 fn judge(alloc: Global, bytes: &[u8]) -> Result<Reply, OutOfMemory>
     requires { length bytes.now ≤ most_bytes }
     ensures { IfOk result (λ r. CheckAnswer bytes.now r.status r.line.items) }
 {
-    Err(OutOfMemory)
+    let Some(theory) = read_file(alloc, bytes)? else {
+        return line_reply(alloc, Status::BadText, "bad text");
+    };
+    if is_accepted(alloc, &theory)? {
+        yes(alloc, &theory)
+    } else {
+        line_reply(alloc, Status::StepFails, "not accepted")
+    }
 }
 
 fn check<L: Library>(alloc: Global, library: &mut L, file: &str) -> Result<Reply, Refusal>

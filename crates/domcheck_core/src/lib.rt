@@ -10,6 +10,8 @@ ghost use Rattle.domcheck_core.specs.Answers.{Accepted, Refused, Unreadable};
 ghost use Rattle.domcheck_core.specs.Clauses.{OfFile, IsProved, ExactlyWhere, may_answer, ReadRose, Wrote, Complete};
 
 mod answers;
+mod file;
+mod form;
 mod status;
 
 pub use answers::{Refusal, Reply};

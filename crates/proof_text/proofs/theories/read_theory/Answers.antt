@@ -1,4 +1,5 @@
-use Rattle.std.proofs.Common.{◌≡◌, ◌<◌, ◌∙◌, ℕ, sym, ap, subst, List, length, map, arith, length-map, Result, Ok, Err}
+use Rattle.std.proofs.Common.{◌≡◌, ◌<◌, ◌∙◌, ℕ, sym, ap, subst, List, length, map, arith, Result, Ok, Err}
+use Rattle.std.proofs.lemmas.List.{length-map}
 use Rattle.model_programs.specs.Theories.{Theory}
 use Rattle.model_text.specs.Lexemes.{Lexeme}
 use Rattle.model_grammar.specs.Grammar.{SpellsTheory}
@@ -18,5 +19,5 @@ returns-in-Ok-clause-found c = found 4294967295 _ _ (rw c.as_slice.ensures at c.
 
 pub returns-in-Err-Text-clause-bad_text : goal.returns-in-Err-Text-clause-bad_text
 returns-in-Err-Text-clause-bad_text c = λ e t l.
-    spells_nothing (lexemes_in c.args.tokens.now) _ t (omega (arith, c.requires, length-map seen c.args.tokens.now))
+    spells_nothing (lexemes_in c.args.tokens.now) _ t (omega (arith, c.requires, length-map c.args.tokens.now seen))
     (rw (c.in-Err-Text.field-0-is, c.as_slice.ensures) at c.in-Err-Text.ensures) l

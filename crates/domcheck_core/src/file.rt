@@ -1,0 +1,32 @@
+// From the bytes of a file to its theory.
+ghost use Rattle.std.specs.Prelude.{◌≡◌, ◌≤◌, length, IfOk, MatchOption};
+ghost use Rattle.dom_syntax.specs.Theories.{theory_of};
+ghost use Rattle.model_grammar.specs.Files.{SpellsFile, most_bytes};
+ghost use Rattle.domcheck_core.specs.Answers.{Unreadable};
+
+use crate::form::is_of_form;
+use dom_syntax::Theory;
+use dom_terms::OutOfMemory;
+use proof_text::read_theory;
+use std::alloc::Global;
+use text_tokens::token_list;
+use token_readers::TextFault;
+
+/// The theory that the bytes spell, or none where they spell none of the form that is read.
+pub fn read_file(alloc: Global, bytes: &[u8]) -> Result<Option<Theory>, OutOfMemory>
+    requires { length bytes.now ≤ most_bytes }
+    ensures { IfOk result (λ found. MatchOption found (Unreadable bytes.now) (λ t. SpellsFile bytes.now (theory_of t))) }
+{
+    let tokens = token_list(alloc, bytes)?;
+    match read_theory(alloc, &tokens) {
+        Ok(theory) => {
+            if is_of_form(alloc, &theory)? {
+                Ok(Some(theory))
+            } else {
+                Ok(None)
+            }
+        }
+        Err(TextFault::BadText) => Ok(None),
+        Err(TextFault::OutOfMemory) => Err(OutOfMemory),
+    }
+}
