@@ -1,4 +1,5 @@
 pub mod Computing
 pub mod Pieces
+pub mod Seen
 pub mod Steps
 pub mod Worked

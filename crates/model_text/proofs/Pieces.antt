@@ -1,5 +1,5 @@
 -- A piece has a character or more, and no more than the text.
-use Rattle.std.proofs.Common.{◌≡◌, ℕ, suc, ◌+◌, ◌-◌, ◌*◌, ◌<◌, ◌≤◌, max, Bool, true, false, not, ◌&&◌, ◌||◌, ◌==◌, List, [], ◌∷◌, length, take, drop, nat_eq, nat_lt, codes, bytes_eq, refl, sym, ◌∙◌, ap, subst, arith}
+use Rattle.std.proofs.Common.{◌≡◌, ℕ, ◌+◌, ◌<◌, ◌≤◌, Bool, true, false, not, ◌&&◌, ◌||◌, ◌==◌, List, [], ◌∷◌, length, take, nat_eq, nat_lt, codes, bytes_eq, refl, ap, arith}
 use Rattle.std.specs.Prelude.{if◌then◌else◌}
 use Rattle.std.proofs.lemmas.Bool.{ltb-true}
 use Rattle.std.proofs.lemmas.Bool.Decides.{nat_tests}
@@ -7,7 +7,7 @@ use Rattle.std.proofs.lemmas.List.Folds.{length-prefix_len}
 use Rattle.std.proofs.lemmas.List.Sums.{prefix_len-le-length}
 use Rattle.std.specs.Char.{is_ascii_digit}
 use Rattle.std.specs.List.{prefix_len, starts_with}
-use Rattle.unicode_ident.specs.Ident.{is_xid_start, is_xid_continue}
+use Rattle.unicode_ident.specs.Ident.{is_xid_continue}
 use Rattle.model_text.specs.Tokens.{TokenKind, word_token, logic_token, number_token, literal_token, symbol_token, newline, quote, backslash, is_blank, starts_word, word_length, logic_length, is_escape, literal_end, literal_length, symbols, length_at_front, longest_at_front, is_number, Piece, gap_piece, token_piece, no_piece, piece_length, digits_piece, longer_token, longest_token, piece_at}
 
 -- the piece has a character or more, and no more than the text; no piece has none
@@ -33,10 +33,10 @@ literal_end-le escaped used [] = omega arith
 literal_end-le true used (c ∷ rest) = if_le (is_escape c) _ _ (omega (arith, literal_end-le false (used + 1) rest))
 literal_end-le false used (c ∷ rest) =
     elim (c == quote) as (λ b. (if b then used + 1 else (if c == newline then 0 else literal_end (c == backslash) (used + 1) rest)) ≤ used + length (c ∷ rest)) [
-      true ↦ omega arith
-    | false ↦ elim (c == newline) as (λ b. (if b then 0 else literal_end (c == backslash) (used + 1) rest) ≤ used + length (c ∷ rest)) [
-        true ↦ omega arith
-      | false ↦ omega (arith, literal_end-le (c == backslash) (used + 1) rest)
+      | true ↦ omega arith
+      | false ↦ elim (c == newline) as (λ b. (if b then 0 else literal_end (c == backslash) (used + 1) rest) ≤ used + length (c ∷ rest)) [
+        | true ↦ omega arith
+        | false ↦ omega (arith, literal_end-le (c == backslash) (used + 1) rest)
       ]
     ]
 
@@ -74,8 +74,8 @@ longest_token-Fits text = longer_token-Fits word_token _ _ text (word_length-le 
 digits_piece-Fits : (run text : List ℕ) → 0 < length run → length run ≤ length text → Fits text (digits_piece run)
 digits_piece-Fits run text p h =
     elim (bytes_eq run (codes "0f") || bytes_eq run (codes "0g")) as (λ b. Fits text (if b then token_piece symbol_token (length run) else (if is_number run then token_piece number_token (length run) else no_piece))) [
-      true ↦ (p, h)
-    | false ↦ elim (is_number run) as (λ b. Fits text (if b then token_piece number_token (length run) else no_piece)) [ true ↦ (p, h) | false ↦ tt ]
+      | true ↦ (p, h)
+      | false ↦ elim (is_number run) as (λ b. Fits text (if b then token_piece number_token (length run) else no_piece)) [ true ↦ (p, h) | false ↦ tt ]
     ]
 
 -- where the first character passes, the prefix has a character or more

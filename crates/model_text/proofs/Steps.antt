@@ -1,5 +1,5 @@
 -- How many steps are enough.
-use Rattle.std.proofs.Common.{◌≡◌, ℕ, zero, suc, ◌+◌, ◌<◌, ◌≤◌, List, [], ◌∷◌, length, drop, refl, ap, arith, length-drop}
+use Rattle.std.proofs.Common.{◌≡◌, ℕ, zero, suc, ◌+◌, ◌<◌, ◌≤◌, List, ◌∷◌, length, drop, refl, ap, arith, length-drop}
 use Rattle.model_text.specs.Tokens.{Token, Piece, gap_piece, token_piece, no_piece, piece_at, token_from, tokens_with, tokens_from}
 use Rattle.model_text.proofs.Pieces.{Fits, piece_at-Fits}
 

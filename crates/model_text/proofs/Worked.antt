@@ -1,6 +1,6 @@
 -- Tokens of small texts, computed.
 use Rattle.std.proofs.Common.{◌≡◌, ℕ, List, [], ◌∷◌, map, codes, refl}
-use Rattle.model_text.specs.Lexemes.{Lexeme, terminal, name_lexeme, number_lexeme, literal_lexeme, bad_lexeme, lexeme_of}
+use Rattle.model_text.specs.Lexemes.{terminal, name_lexeme, lexeme_of}
 use Rattle.model_text.specs.Tokens.{Token, TokenKind, word_token, symbol_token, bad_token, literal_token, number_token, tokens_of}
 use Rattle.model_text.proofs.Computing.{lexing}
 

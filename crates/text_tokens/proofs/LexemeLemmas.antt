@@ -2,7 +2,7 @@
 use Rattle.std.proofs.Common.{◌≡◌, ℕ, Bool, true, false, List, bytes_eq, codes, refl, ap, ◌∙◌}
 use Rattle.std.specs.Prelude.{if◌then◌else◌}
 use Rattle.std.proofs.lemmas.Slice.Eq.{bytes_eq-Decides}
-use Rattle.model_text.specs.Lexemes.{Lexeme, terminal, step_word, name_lexeme, reserved_words, is_reserved, word_lexeme}
+use Rattle.model_text.specs.Lexemes.{terminal, step_word, name_lexeme, reserved_words, is_reserved, word_lexeme}
 
 step_is_reserved : is_reserved (codes "step") ≡ true
 unfolding reserved_words

@@ -1,5 +1,5 @@
 -- Whether digits fit, one after the other.
-use Rattle.std.proofs.Common.{◌≡◌, ℕ, ◌+◌, ◌-◌, ◌*◌, ◌/◌, ◌<◌, ◌≤◌, Bool, true, false, ◌&&◌, List, [], ◌∷◌, length, drop, get_or, refl, suc, sym, ap, ◌∙◌, ◌⊎◌, inl, inr, Option, Some, None, arith, add-one, drop-cons, nat_le}
+use Rattle.std.proofs.Common.{◌≡◌, ℕ, ◌+◌, ◌-◌, ◌*◌, ◌<◌, ◌≤◌, Bool, true, false, ◌&&◌, List, [], ◌∷◌, length, drop, get_or, refl, suc, sym, ap, ◌∙◌, ◌⊎◌, inl, inr, Some, None, arith, drop-cons, nat_le}
 use Rattle.std.proofs.lemmas.Bool.Decides.{nat_tests}
 use Rattle.std.specs.Char.{is_ascii_digit, digit_value}
 use Rattle.std.specs.List.{list_all}
@@ -40,14 +40,14 @@ above value h = grind (arith, nat_tests)
 too_great : (value c : ℕ) (run : List ℕ) → is_ascii_digit c ≡ true → nat_le (value * 10 + (c - 48)) 9223372036854775807 ≡ false → fits_after value (c ∷ run) ≡ false
 too_great value c run e h = let v : digit_value c ≡ c - 48 = value_of_digit c e in
     let over : 9223372036854775807 < digits_value_after 10 (value * 10 + digit_value c) run =
-        omega (arith, grows (value * 10 + digit_value c) run, above (value * 10 + (c - 48)) h) in
+    omega (arith, grows (value * 10 + digit_value c) run, above (value * 10 + (c - 48)) h) in
     both_false _ _ (too_great_value _ _ over)
 
 no_more : (value c : ℕ) (run : List ℕ) → with_digit value c ≡ None → fits_after value (c ∷ run) ≡ false
 no_more value c run e = elim (refused (is_ascii_digit c) (nat_le (value * 10 + (c - 48)) 9223372036854775807) (value * 10 + (c - 48)) e) [
-    inl other ↦ not_a_digit value c run other
+  | inl other ↦ not_a_digit value c run other
   | inr over ↦ by_digit (is_ascii_digit c) refl over
-  ]
+]
   where
     by_digit : (b : Bool) → is_ascii_digit c ≡ b → nat_le (value * 10 + (c - 48)) 9223372036854775807 ≡ false → fits_after value (c ∷ run) ≡ false
     by_digit true d over = too_great value c run d over

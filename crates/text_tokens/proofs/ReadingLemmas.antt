@@ -1,18 +1,17 @@
 -- Reading a text piece by piece gives its tokens.
-use Rattle.std.proofs.Common.{◌≡◌, ℕ, zero, suc, ◌+◌, ◌-◌, ◌<◌, ◌≤◌, ◌==◌, Bool, true, false, cond, List, [], ◌∷◌, ◌++◌, length, take, drop, encode_utf8_all, refl, sym, ◌∙◌, ap, subst, arith, append_assoc, length-drop, length-take, eq-eqb}
+use Rattle.std.proofs.Common.{◌≡◌, ℕ, zero, suc, ◌+◌, ◌-◌, ◌<◌, ◌≤◌, ◌==◌, Bool, true, false, List, [], ◌∷◌, ◌++◌, length, take, drop, encode_utf8_all, refl, sym, ◌∙◌, ap, subst, arith, append_assoc, length-drop, length-take, eq-eqb}
 use Rattle.std.proofs.Math.Seq.{take-length}
 use Rattle.std.proofs.lemmas.List.{append-nil}
 use Rattle.std.specs.Str.{IsUtf8, is_utf8, chars}
 use Rattle.std.specs.Str.Lossy.{valid_len_up_to, utf8_valid_len}
-use Rattle.std.proofs.lemmas.Str.{chars_from_encodes, IsUtf8-from_is_utf8, IsUtf8-nil, utf8_valid_len_le}
+use Rattle.std.proofs.lemmas.Str.{chars_from_encodes, IsUtf8-from_is_utf8, IsUtf8-nil}
 use Rattle.std.specs.Prelude.{if◌then◌else◌}
-use Rattle.model_text.specs.Tokens as model
 use Rattle.model_text.specs.Tokens.{Token, TokenKind, gap_piece, token_piece, no_piece, piece_at, token_text, characters, place_of, line_of, token_from, bad_token_at, tokens_with, tokens_from, tokens_of}
 use Rattle.model_text.proofs.Pieces.{Fits, piece_at-Fits}
 use Rattle.model_text.proofs.Steps.{enough}
 use Rattle.text_tokens.specs.declared.positions.Position.{Position}
 use Rattle.text_tokens.specs.Positions.{IsPosition}
-use Rattle.text_tokens.specs.Reading.{token_between, tokens_at, Ends, GoesOn}
+use Rattle.text_tokens.specs.Reading.{token_between, Ends, GoesOn}
 use Rattle.text_tokens.proofs.PositionLemmas.{place_le}
 
 -- THE CHARACTERS
@@ -55,7 +54,7 @@ pub goes_on_gap : (bytes text : List ℕ) (before : List Token) (from to : Posit
 goes_on_gap bytes text before from to n e is number = record {
   is = is;
   further = omega (arith, (gap_fits (drop from.number text) n e).0);
-  same = λ others. ap (λ p. before ++ tokens_with bytes text from.number p others) (sym e) ∙ ap (λ k. before ++ others k) (sym number)
+  same = λ others. ap (λ p. before ++ tokens_with bytes text from.number p others) (sym e) ∙ ap (λ k. before ++ others k) (sym number);
 }
 
 -- the token from a position to another is that of the definition
@@ -70,7 +69,7 @@ token_same bytes text from to kind n is is' number =
       text = token_text kind (take (count i) (drop from.number text));
       start = is.place_is i;
       finish = finish i;
-      line = line i
+      line = line i;
     }
 
 -- it goes on after a token
@@ -81,9 +80,9 @@ goes_on_token bytes text before after from to kind n e is is' number put = recor
   is = is';
   further = omega (arith, (token_fits (drop from.number text) kind n e).0);
   same = λ others. ap (λ p. before ++ tokens_with bytes text from.number p others) (sym e)
-    ∙ ap (λ t. before ++ t ∷ others (from.number + n)) (sym (token_same bytes text from to kind n is is' number))
-    ∙ ap (λ k. before ++ token_between kind (take (to.number - from.number) (drop from.number text)) from to ∷ others k) (sym number)
-    ∙ sym (append_assoc before _ (others to.number)) ∙ ap (λ ts. ts ++ others to.number) (sym put)
+      ∙ ap (λ t. before ++ t ∷ others (from.number + n)) (sym (token_same bytes text from to kind n is is' number))
+      ∙ ap (λ k. before ++ token_between kind (take (to.number - from.number) (drop from.number text)) from to ∷ others k) (sym number)
+      ∙ sym (append_assoc before _ (others to.number)) ∙ ap (λ ts. ts ++ others to.number) (sym put);
 }
 
 -- the list ends at the end of the bytes
@@ -104,8 +103,8 @@ unfolding tokens_from
 goes_on_left bytes text before after all from to on left =
     let steps : length text - from.number ≡ suc (length text - from.number - 1) = omega (arith, on.further, on.is.within) in
     let same : tokens_from bytes text (length text - from.number) to.number ≡ tokens_from bytes text (suc (length text - to.number)) to.number =
-        ap (λ k. tokens_from bytes text k to.number) steps
-        ∙ enough bytes text (length text - from.number - 1) (length text - to.number) to.number (omega (arith, on.further, on.is.within)) (omega arith) in
+    ap (λ k. tokens_from bytes text k to.number) steps
+    ∙ enough bytes text (length text - from.number - 1) (length text - to.number) to.number (omega (arith, on.further, on.is.within)) (omega arith) in
     ap (λ ts. after ++ ts) (sym same) ∙ sym (on.same (tokens_from bytes text (length text - from.number))) ∙ left
 
 -- and where the list ends, nothing is left

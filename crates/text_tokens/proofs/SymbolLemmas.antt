@@ -1,5 +1,5 @@
 -- The longest symbol at the front of a text, one symbol after the other.
-use Rattle.std.proofs.Common.{◌≡◌, ℕ, ◌+◌, ◌<◌, ◌≤◌, max, List, map, length, drop, get_or, refl, arith, add-one, drop-cons}
+use Rattle.std.proofs.Common.{◌≡◌, ℕ, ◌+◌, ◌<◌, max, List, map, length, drop, get_or, arith, add-one, drop-cons}
 use Rattle.model_text.specs.Tokens.{length_at_front, longest_at_front}
 
 -- the symbol in turn is compared with those before

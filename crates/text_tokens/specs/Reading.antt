@@ -1,5 +1,5 @@
 -- What reading one piece of a text does; nothing here is to be believed.
-use Rattle.std.specs.Prelude.{◌≡◌, ℕ, ◌-◌, ◌<◌, List, ◌++◌, take, drop}
+use Rattle.std.specs.Prelude.{◌≡◌, ℕ, ◌<◌, List, ◌++◌, drop}
 use Rattle.model_text.specs.Tokens as model
 use Rattle.model_text.specs.Tokens.{piece_at, token_text, tokens_with}
 use Rattle.text_tokens.specs.declared.positions.Position.{Position}
@@ -12,7 +12,7 @@ token_between kind own from to = record {
   text = token_text kind own;
   start = from.place;
   finish = to.place;
-  line = from.line
+  line = from.line;
 }
 
 -- the tokens from the position on, where others gives those after the piece there

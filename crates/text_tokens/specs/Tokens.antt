@@ -21,5 +21,5 @@ token_of token = record {
   text = token.text;
   start = token.start;
   finish = token.«end»;
-  line = token.line
+  line = token.line;
 }

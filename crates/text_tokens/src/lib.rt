@@ -11,6 +11,8 @@ mod positions;
 mod reading;
 mod reserved;
 mod symbols;
+#[cfg(test)]
+mod tests;
 mod tokens;
 mod words;
 

@@ -57,7 +57,11 @@ pub fn unescaped(alloc: Global, inside: &[char]) -> Result<Text, OutOfMemory>
             escaped = true;
             continue;
         }
-        let meant = if escaped && *character == 'n' { '\n' } else { *character };
+        let meant = if escaped && *character == 'n' {
+            '\n'
+        } else {
+            *character
+        };
         text.push(meant)?;
         escaped = false;
     }

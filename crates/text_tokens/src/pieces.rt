@@ -56,7 +56,11 @@ fn digits_piece(run: &[char]) -> Piece
 fn longer_token(kind: TokenKind, length: usize, other: Piece) -> Piece
     ensures { piece_of result ≡ longer_token (kind_of kind) length (piece_of other) }
 {
-    if other.len() < length { Piece::Token(kind, length) } else { other }
+    if other.len() < length {
+        Piece::Token(kind, length)
+    } else {
+        other
+    }
 }
 
 /// The longest token at the front of a text that begins with no digit.

@@ -3,10 +3,40 @@ ghost use Rattle.model_text.specs.Tokens.{symbols, length_at_front, longest_at_f
 
 /// The symbols that begin with no digit.
 const SYMBOLS: [&[char]; 35] = [
-    &['('], &[')'], &['['], &[']'], &['{'], &['}'], &['<'], &['>'], &[','], &[';'], &[':'], &['.'],
-    &[':', '='], &['='], &['<', '='], &['#'], &['%'], &['+'], &['+', '+'], &['-'], &['-', 'o'],
-    &['-', '>'], &['*'], &['.', '*'], &['*', '.'], &['.', '+'], &['@', 't'], &['@', 'f'],
-    &['@', 'g'], &['o', '-', 't'], &['o', '-', 'f'], &['o', '-', 'g'], &['?', 't'], &['?', 'f'],
+    &['('],
+    &[')'],
+    &['['],
+    &[']'],
+    &['{'],
+    &['}'],
+    &['<'],
+    &['>'],
+    &[','],
+    &[';'],
+    &[':'],
+    &['.'],
+    &[':', '='],
+    &['='],
+    &['<', '='],
+    &['#'],
+    &['%'],
+    &['+'],
+    &['+', '+'],
+    &['-'],
+    &['-', 'o'],
+    &['-', '>'],
+    &['*'],
+    &['.', '*'],
+    &['*', '.'],
+    &['.', '+'],
+    &['@', 't'],
+    &['@', 'f'],
+    &['@', 'g'],
+    &['o', '-', 't'],
+    &['o', '-', 'f'],
+    &['o', '-', 'g'],
+    &['?', 't'],
+    &['?', 'f'],
     &['?', 'g'],
 ];
 
@@ -14,7 +44,11 @@ const SYMBOLS: [&[char]; 35] = [
 fn length_at_front(text: &[char], symbol: &[char]) -> usize
     ensures { result ≡ length_at_front text.now symbol.now }
 {
-    if text.starts_with(symbol) { symbol.len() } else { 0 }
+    if text.starts_with(symbol) {
+        symbol.len()
+    } else {
+        0
+    }
 }
 
 /// The length of the longest of the symbols that stands at the front of the text.

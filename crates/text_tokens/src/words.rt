@@ -19,7 +19,9 @@ pub fn run_length(text: &[char]) -> usize
     ensures value { result ≡ prefix_len (λ d. is_ascii_digit d || is_xid_continue d) text.now }
     ensures within { result ≤ length text.now }
 {
-    text.iter().take_while(|c| c.is_ascii_digit() || is_xid_continue(**c)).count()
+    text.iter()
+        .take_while(|c| c.is_ascii_digit() || is_xid_continue(**c))
+        .count()
 }
 
 /// How many characters stand before the next newline, or the end of the text.

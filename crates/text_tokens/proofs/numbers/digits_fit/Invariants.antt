@@ -7,5 +7,5 @@ use Rattle.text_tokens.proofs.numbers.digits_fit.Given as goal
 abbrev pub invariant-loop-character : goal.invariant-loop-character
 invariant-loop-character l = record {
   left : fits_after l.value (drop l.character-index l.run) ≡ digits_fit l.run;
-  fits : l.value ≤ 9223372036854775807
+  fits : l.value ≤ 9223372036854775807;
 }

@@ -1,5 +1,4 @@
-use Rattle.std.proofs.Common.{◌≡◌, ◌≤◌, ◌+◌, length, encode_utf8_all, sym, ◌∙◌, ap, arith}
-use Rattle.model_text.specs.Tokens.{place_of, line_of}
+use Rattle.std.proofs.Common.{◌+◌, arith}
 use Rattle.text_tokens.proofs.PositionLemmas.{place_step, place_le, line_step}
 use Rattle.text_tokens.proofs.positions.advanced.Goals as goal
 
@@ -16,5 +15,5 @@ pub returns-clause-is : goal.returns-clause-is
 returns-clause-is c = record {
   within = c.requires.within;
   place_is = omega (arith, place_step c.args.text.now c.args.position.number c.args.count);
-  line_is = omega (arith, line_step c.args.bytes.now c.args.position.place c.byte_length.result)
+  line_is = omega (arith, line_step c.args.bytes.now c.args.position.place c.byte_length.result);
 }

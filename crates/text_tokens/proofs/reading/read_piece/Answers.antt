@@ -1,4 +1,4 @@
-use Rattle.std.proofs.Common.{◌≡◌, ◌≤◌, ◌+◌, length, drop, arith, length-drop}
+use Rattle.std.proofs.Common.{drop, arith, length-drop}
 use Rattle.text_tokens.specs.Tokens.{kind_of}
 use Rattle.text_tokens.proofs.ReadingLemmas.{gap_fits, token_fits, goes_on_gap, goes_on_token, ends_at_end}
 use Rattle.text_tokens.proofs.reading.read_piece.Goals as goal

@@ -1,4 +1,3 @@
-use Rattle.std.proofs.Common.{refl}
 use Rattle.model_text.specs.Tokens.{symbols}
 use Rattle.text_tokens.proofs.symbols.symbol_length.Goals as goal
 
