@@ -1,3 +1,4 @@
 pub mod Formulas
 pub mod Entailments
 pub mod Binders
+pub mod Sorting

@@ -6,10 +6,15 @@
 
 mod entailments;
 mod formulas;
+mod purity;
 mod same;
+mod sort_tests;
+mod sorting;
 mod variables;
 
 pub use entailments::Entailment;
 pub use formulas::{Formula, Side};
+pub use purity::is_pure;
 pub use same::same_formula;
+pub use sorting::{IllSorted, sorted_as};
 pub use variables::{AnyVar, Pair};
