@@ -2,3 +2,4 @@ pub mod Formulas
 pub mod Entailments
 pub mod Binders
 pub mod Sorting
+pub mod Structural

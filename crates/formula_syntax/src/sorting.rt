@@ -1,5 +1,5 @@
 ghost use Rattle.std.specs.Prelude.{◌≡◌, ◌+◌, ◌<◌, ◌^◌, MatchResult, None, Some};
-ghost use Rattle.model_formulas.specs.WellSorted.{first_fault, parts};
+ghost use Rattle.model_formulas.specs.WellSorted.{first_fault, or_else, parts};
 ghost use Rattle.dom_terms.specs.Sorts.{sort_of};
 ghost use Rattle.formula_syntax.specs.Formulas.{formula_of};
 ghost use Rattle.formula_syntax.specs.Sorting as own;
@@ -29,7 +29,8 @@ pub fn sorted_as(formula: &Formula, sort: Sort) -> Result<(), IllSorted>
     Ok(())
 }
 
-// the place after the last part of the formula, which is the part at this place, or the first fault
+// the place after the last part of the formula, itself the part at `place`, or the first fault
+#[cycle(fault_in)]
 fn fault_in(formula: &Formula, sort: Sort, place: u32) -> Result<u32, IllSorted>
     requires { place + parts (formula_of formula.now) < 2 ^ 32 }
     ensures { MatchResult result
@@ -41,11 +42,9 @@ fn fault_in(formula: &Formula, sort: Sort, place: u32) -> Result<u32, IllSorted>
         return Err(IllSorted { place });
     }
     match formula {
-        Formula::True | Formula::False | Formula::EmptyForest | Formula::EmptyGrove => Ok(
-            place + 1,
-        ),
-        Formula::Hole(_) | Formula::Var(_) | Formula::Len(_) => Ok(place + 1),
-        Formula::Eq(_, _) | Formula::Le(_, _) => Ok(place + 1),
+        Formula::True | Formula::False | Formula::Eq(_, _) | Formula::Le(_, _) => Ok(place + 1),
+        Formula::EmptyForest | Formula::EmptyGrove | Formula::Hole(_) => Ok(place + 1),
+        Formula::Var(_) | Formula::Len(_) => Ok(place + 1),
         Formula::Not(p) | Formula::Exists(_, p) | Formula::Forall(_, p) => {
             fault_in(p, sort, place + 1)
         }
@@ -53,30 +52,50 @@ fn fault_in(formula: &Formula, sort: Sort, place: u32) -> Result<u32, IllSorted>
         Formula::One(p) | Formula::Root(p) => fault_in(p, giving(DataSort::Tree, sort), place + 1),
         Formula::Is(x, p) => fault_in(p, x.sort, place + 1),
         Formula::And(p, q) | Formula::Or(p, q) | Formula::Imp(p, q) | Formula::Plus(p, q) => {
-            let next = fault_in(p, sort, place + 1)?;
-            fault_in(q, sort, next)
+            fault_in_two(p, sort, q, sort, place + 1)
         }
         Formula::Join(side, p, q) => {
-            let next = fault_in(p, left_at(*side, sort), place + 1)?;
-            fault_in(q, right_at(*side, sort), next)
+            fault_in_two(p, left_at(*side, sort), q, right_at(*side, sort), place + 1)
         }
         Formula::PlusHole(p, q) => {
-            let next = fault_in(p, sort, place + 1)?;
-            fault_in(q, Sort::Shape(DataSort::Grove), next)
+            fault_in_two(p, sort, q, Sort::Shape(DataSort::Grove), place + 1)
         }
         Formula::App(hole, p, q) => {
-            let next = fault_in(p, Sort::Context(*hole, outer(sort)), place + 1)?;
-            fault_in(q, giving(*hole, sort), next)
+            let context = Sort::Context(*hole, outer(sort));
+            fault_in_two(p, context, q, giving(*hole, sort), place + 1)
         }
         Formula::HoleAdj(p, q) => {
-            let next = fault_in(p, Sort::Shape(inner(sort)), place + 1)?;
-            fault_in(q, Sort::Shape(outer(sort)), next)
+            let given = Sort::Shape(outer(sort));
+            fault_in_two(p, Sort::Shape(inner(sort)), q, given, place + 1)
         }
         Formula::CtxAdj(whole, p, q) => {
-            let next = fault_in(p, Sort::Context(outer(sort), *whole), place + 1)?;
-            fault_in(q, Sort::Shape(*whole), next)
+            let context = Sort::Context(outer(sort), *whole);
+            fault_in_two(p, context, q, Sort::Shape(*whole), place + 1)
         }
     }
+}
+
+// the same for two formulas, one behind the other
+#[cycle(fault_in)]
+fn fault_in_two(
+    left: &Formula,
+    left_sort: Sort,
+    right: &Formula,
+    right_sort: Sort,
+    place: u32,
+) -> Result<u32, IllSorted>
+    requires { place + (parts (formula_of left.now) + parts (formula_of right.now)) < 2 ^ 32 }
+    ensures { MatchResult result
+        (λ next. (or_else (first_fault (formula_of left.now) (sort_of left_sort) place)
+        (first_fault (formula_of right.now) (sort_of right_sort)
+        (place + parts (formula_of left.now))) ≡ None)
+        × (next ≡ place + (parts (formula_of left.now) + parts (formula_of right.now))))
+        (λ fault. or_else (first_fault (formula_of left.now) (sort_of left_sort) place)
+        (first_fault (formula_of right.now) (sort_of right_sort)
+        (place + parts (formula_of left.now))) ≡ Some fault.place) }
+{
+    let next = fault_in(left, left_sort, place)?;
+    fault_in(right, right_sort, next)
 }
 
 // whether the formula itself, its parts apart, may be judged at the sort
