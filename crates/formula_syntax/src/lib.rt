@@ -11,6 +11,8 @@ mod same;
 mod sort_tests;
 mod sorting;
 mod variables;
+#[cfg(test)]
+mod walk_tests;
 
 pub use entailments::Entailment;
 pub use formulas::{Formula, Side};

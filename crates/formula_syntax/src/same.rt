@@ -71,7 +71,7 @@ fn same_below(left: &Formula, right: &Formula, over: &Binders, other: &Binders) 
     }
 }
 
-// whether the formulas are structural and the same, each below its binders
+// whether the left formula is structural and the right one the same, each below its binders
 #[cycle(same_formula)]
 fn same_structural(left: &Formula, right: &Formula, over: &Binders, other: &Binders) -> bool
     requires left { length (bound_by over.now) + parts (formula_of left.now) < 2 ^ 32 }
@@ -122,9 +122,9 @@ fn same_term(left: &Term, right: &Term, over: &Binders, other: &Binders) -> bool
 {
     match (left, right) {
         (Term::NullNode, Term::NullNode) | (Term::NullList, Term::NullList) => true,
-        (Term::Int(a), Term::Int(b)) => *a == *b,
+        (Term::Int(a), Term::Int(b)) => a == b,
         (Term::Str(a), Term::Str(b)) => same_text(a, b),
-        (Term::Bool(a), Term::Bool(b)) => *a == *b,
+        (Term::Bool(a), Term::Bool(b)) => a == b,
         (Term::Prog(x), Term::Prog(y)) => same_prog_var(x, y),
         (Term::Logic(x), Term::Logic(y)) => same_variable(x, y, over, other),
         (Term::Add(a, b), Term::Add(c, d))
