@@ -1,1 +1,2 @@
 pub mod BoundNames
+pub mod OneSort

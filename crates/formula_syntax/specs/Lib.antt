@@ -1,3 +1,5 @@
 pub mod Formulas
 pub mod Entailments
 pub mod Binders
+pub mod Sorting
+pub mod Structural

@@ -6,10 +6,17 @@
 
 mod entailments;
 mod formulas;
+mod purity;
 mod same;
+mod sort_tests;
+mod sorting;
 mod variables;
+#[cfg(test)]
+mod walk_tests;
 
 pub use entailments::Entailment;
 pub use formulas::{Formula, Side};
+pub use purity::is_pure;
 pub use same::same_formula;
+pub use sorting::{IllSorted, sorted_as};
 pub use variables::{AnyVar, Pair};

@@ -1,0 +1,8 @@
+use Rattle.std.proofs.Common.{length, ◌+◌, ◌*◌}
+use Rattle.formula_syntax.proofs.walk_tests.+read.Given as goal
+
+abbrev pub decreases-boxed : goal.decreases-boxed
+decreases-boxed l = 2 * length l.text.now + 1
+
+abbrev pub decreases-read : goal.decreases-read
+decreases-read l = 2 * length l.text.now

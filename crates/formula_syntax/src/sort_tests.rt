@@ -1,0 +1,164 @@
+ghost use Rattle.std.specs.Prelude.{◌≡◌};
+ghost use Rattle.model_shapes.specs.Sorts as model;
+ghost use Rattle.model_formulas.specs.WellSorted as tests;
+ghost use Rattle.dom_terms.specs.Sorts.{value_sort_of, data_sort_of, sort_of};
+ghost use Rattle.dom_terms.specs.Terms.{term_of};
+ghost use Rattle.formula_syntax.specs.Formulas.{side_of};
+
+use crate::formulas::Side;
+use dom_terms::{DataSort, Sort, Term, ValueSort, same_data_sort, same_sort, same_value_sort};
+
+// whether a context of the sort can be: no tree and no forest has a hole for a grove
+pub(crate) fn is_sort(sort: Sort) -> bool
+    ensures { result ≡ model.is_sort (sort_of sort) }
+{
+    !matches!(
+        sort,
+        Sort::Context(DataSort::Grove, DataSort::Tree | DataSort::Forest)
+    )
+}
+
+// whether a formula may be judged at the sort
+pub(crate) fn is_form(sort: Sort) -> bool
+    ensures { result ≡ tests.is_form (sort_of sort) }
+{
+    !matches!(sort, Sort::Value(_)) && is_sort(sort)
+}
+
+// whether the sort is one of shapes
+pub(crate) fn is_shape(sort: Sort) -> bool
+    ensures { result ≡ tests.is_shape (sort_of sort) }
+{
+    matches!(sort, Sort::Shape(_))
+}
+
+// whether the sort is one of contexts
+pub(crate) fn is_context(sort: Sort) -> bool
+    ensures { result ≡ tests.is_context (sort_of sort) }
+{
+    matches!(sort, Sort::Context(_, _))
+}
+
+// the data sort that a shape has and that a context gives
+pub(crate) fn outer(sort: Sort) -> DataSort
+    ensures { data_sort_of result ≡ model.outer (sort_of sort) }
+{
+    match sort {
+        Sort::Value(_) => DataSort::Tree,
+        Sort::Shape(whole) | Sort::Context(_, whole) => whole,
+    }
+}
+
+// the data sort of the hole of a context
+pub(crate) fn inner(sort: Sort) -> DataSort
+    ensures { data_sort_of result ≡ model.inner (sort_of sort) }
+{
+    match sort {
+        Sort::Value(_) => DataSort::Tree,
+        Sort::Shape(hole) | Sort::Context(hole, _) => hole,
+    }
+}
+
+// the same sort but for the data sort that it gives
+pub(crate) fn giving(whole: DataSort, sort: Sort) -> Sort
+    ensures { sort_of result ≡ model.giving (data_sort_of whole) (sort_of sort) }
+{
+    match sort {
+        Sort::Value(_) => sort,
+        Sort::Shape(_) => Sort::Shape(whole),
+        Sort::Context(hole, _) => Sort::Context(hole, whole),
+    }
+}
+
+// whether a formula may be judged at the sort, and the sort gives the data sort
+pub(crate) fn gives(sort: Sort, whole: DataSort) -> bool
+    ensures { result ≡ tests.gives (sort_of sort) (data_sort_of whole) }
+{
+    is_form(sort) && same_data_sort(outer(sort), whole)
+}
+
+// whether a concatenation with this hole may be judged at the sort
+pub(crate) fn side_fits(side: Side, sort: Sort) -> bool
+    ensures { result ≡ tests.side_fits (side_of side) (sort_of sort) }
+{
+    match side {
+        Side::Whole => is_shape(sort),
+        Side::HoleLeft | Side::HoleRight => is_context(sort),
+    }
+}
+
+// the sort of the left part of a concatenation of the sort
+pub(crate) fn left_at(side: Side, sort: Sort) -> Sort
+    ensures { sort_of result ≡ tests.left_at (side_of side) (sort_of sort) }
+{
+    match side {
+        Side::Whole | Side::HoleLeft => sort,
+        Side::HoleRight => Sort::Shape(DataSort::Forest),
+    }
+}
+
+// the sort of the right part of a concatenation of the sort
+pub(crate) fn right_at(side: Side, sort: Sort) -> Sort
+    ensures { sort_of result ≡ tests.right_at (side_of side) (sort_of sort) }
+{
+    match side {
+        Side::Whole | Side::HoleRight => sort,
+        Side::HoleLeft => Sort::Shape(DataSort::Forest),
+    }
+}
+
+// whether the term is well sorted and has the sort
+pub(crate) fn has_sort(term: &Term, sort: ValueSort) -> bool
+    ensures { result ≡ tests.has_sort (value_sort_of sort) (term_of term.now) }
+{
+    match term {
+        Term::NullNode => same_value_sort(sort, ValueSort::Node),
+        Term::NullList => same_value_sort(sort, ValueSort::List),
+        Term::Int(_) => same_value_sort(sort, ValueSort::Int),
+        Term::Str(_) => same_value_sort(sort, ValueSort::Str),
+        Term::Bool(_) => same_value_sort(sort, ValueSort::Bool),
+        Term::Prog(variable) => same_value_sort(sort, variable.sort),
+        Term::Logic(variable) => same_sort(Sort::Value(sort), variable.sort),
+        Term::Add(left, right) | Term::Sub(left, right) => {
+            same_value_sort(sort, ValueSort::Int)
+                && has_sort(left, ValueSort::Int)
+                && has_sort(right, ValueSort::Int)
+        }
+        Term::Cat(left, right) => {
+            same_value_sort(sort, ValueSort::Str)
+                && has_sort(left, ValueSort::Str)
+                && has_sort(right, ValueSort::Str)
+        }
+    }
+}
+
+// whether both terms have the sort
+pub(crate) fn both_have(sort: ValueSort, left: &Term, right: &Term) -> bool
+    ensures { result ≡ tests.both_have (value_sort_of sort) (term_of left.now) (term_of right.now) }
+{
+    has_sort(left, sort) && has_sort(right, sort)
+}
+
+// whether the terms are logic variables of one data or context sort
+fn alike(left: &Term, right: &Term) -> bool
+    ensures { result ≡ tests.alike (term_of left.now) (term_of right.now) }
+{
+    match (left, right) {
+        (Term::Logic(left), Term::Logic(right)) => {
+            is_form(left.sort) && same_sort(left.sort, right.sort)
+        }
+        _ => false,
+    }
+}
+
+// whether the terms have one sort
+pub(crate) fn one_sort(left: &Term, right: &Term) -> bool
+    ensures { result ≡ tests.one_sort (term_of left.now) (term_of right.now) }
+{
+    both_have(ValueSort::Node, left, right)
+        || both_have(ValueSort::List, left, right)
+        || both_have(ValueSort::Int, left, right)
+        || both_have(ValueSort::Str, left, right)
+        || both_have(ValueSort::Bool, left, right)
+        || alike(left, right)
+}
