@@ -62,18 +62,16 @@ impl Copied for Command {
             Self::Item(x, list, place) => {
                 Ok(Self::Item(x.copy(alloc)?, list.copy(alloc)?, place.copy(alloc)?))
             }
-            Self::Append(parent, child) => Ok(Self::Append(
-                parent.copy(alloc)?,
-                child.copy(alloc)?,
-            )),
-            Self::Remove(parent, child) => Ok(Self::Remove(
-                parent.copy(alloc)?,
-                child.copy(alloc)?,
-            )),
-            Self::If(cond, yes, no) => {
-                let yes = copied_block(alloc, yes)?;
-                let no = copied_block(alloc, no)?;
-                Ok(Self::If(cond.copy(alloc)?, yes, no))
+            Self::Append(parent, child) => {
+                Ok(Self::Append(parent.copy(alloc)?, child.copy(alloc)?))
+            }
+            Self::Remove(parent, child) => {
+                Ok(Self::Remove(parent.copy(alloc)?, child.copy(alloc)?))
+            }
+            Self::If(cond, first, second) => {
+                let first = copied_block(alloc, first)?;
+                let second = copied_block(alloc, second)?;
+                Ok(Self::If(cond.copy(alloc)?, first, second))
             }
             Self::While(cond, block) => {
                 Ok(Self::While(cond.copy(alloc)?, copied_block(alloc, block)?))
