@@ -1,5 +1,5 @@
 -- What follows from an answer: each clause of the top call.
-use Rattle.std.proofs.Common.{◌≡◌, ◌⊎◌, inl, inr, ℕ, ◌<◌, Bool, true, false, List, Option, Some, None, refl, sym, ◌∙◌, subst, arith, length}
+use Rattle.std.proofs.Common.{◌≡◌, ◌⊎◌, inl, inr, ℕ, ◌<◌, Bool, true, false, List, Option, Some, None, refl, sym, ◌∙◌, subst, arith, length, Result, Ok, Err, IfOk}
 use Rattle.outside_io.specs.Causes.{Told}
 use Rattle.model_programs.specs.Theories.{Theory}
 use Rattle.model_rules.specs.Accepted.{IsAccepted}
@@ -80,3 +80,9 @@ checks r books file s output e h told = rw e (go (rw e at told))
   where
     go : IsTold (Some (check file)) books → IsAnswer books (Some (check file)) s output
     go t = checked file t.0 t.1 (h t.0 t.1)
+
+-- what holds of the status and the line of a reply is the answer
+pub said : {R E : Type 0} (status_in : R → Status) (line_in : R → List ℕ) (bytes : List ℕ) (s : Status) (output : List ℕ) (r : Result R E)
+    → CheckAnswer bytes s output → IfOk r (λ x. status_in x ≡ s) → IfOk r (λ x. line_in x ≡ output) → IfOk r (λ x. CheckAnswer bytes (status_in x) (line_in x))
+said status_in line_in bytes s output (Ok x) a e f = rw (e, f) a
+said status_in line_in bytes s output (Err x) a e f = tt

@@ -1,1 +1,5 @@
 pub mod Judged
+pub mod Small
+pub mod Counts
+pub mod Spelling
+pub mod Names

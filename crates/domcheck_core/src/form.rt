@@ -5,7 +5,7 @@ ghost use Rattle.dom_syntax.specs.Theories.{procedure_of, theory_of};
 ghost use Rattle.model_grammar.specs.Files as files;
 
 use dom_syntax::{Procedure, Reason, Step, Theory};
-use dom_terms::OutOfMemory;
+use dom_terms::{OutOfMemory, Terms};
 use std::alloc::Global;
 use std::collections::HashSet;
 
@@ -28,6 +28,14 @@ fn are_numbered(steps: &[Step]) -> bool
     true
 }
 
+fn are_none(arguments: &Terms) -> bool
+    ensures { result ≡ files.no_terms (map term_of arguments.now) }
+{
+    matches!(arguments.as_slice(), [])
+}
+
+ghost use Rattle.dom_terms.specs.Terms.{term_of};
+
 fn is_by_skip(reason: &Reason) -> bool
     ensures { result ≡ files.is_by_skip (reason_of reason.now) }
 {
@@ -35,7 +43,7 @@ fn is_by_skip(reason: &Reason) -> bool
         Reason::Auto => false,
         Reason::Rule {
             name, arguments, ..
-        } => name.as_str() == "skip" && arguments.is_empty(),
+        } => name.as_str() == "skip" && are_none(arguments),
     }
 }
 
@@ -96,7 +104,8 @@ fn do_names_differ(alloc: Global, procedures: &[Procedure]) -> Result<bool, OutO
     let mut seen = HashSet::new(alloc);
     let mut rest = procedures;
     'procedures: while let [first, others @ ..] = rest {
-        if !seen.insert(first.name.as_str())? {
+        let name = String::from_str(alloc, first.name.as_str())?;
+        if !seen.insert(name)? {
             return Ok(false);
         }
         rest = others;

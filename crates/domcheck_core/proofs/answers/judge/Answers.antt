@@ -1,0 +1,27 @@
+use Rattle.std.proofs.Common.{◌≡◌, Result, Ok, Err, IfOk, true, false, Bool, sym}
+use Rattle.dom_syntax.specs.Theories.{theory_of}
+use Rattle.domcheck_core.specs.Answers.{CheckAnswer, says_yes, says_no, reads_nothing}
+use Rattle.domcheck_core.proofs.Small.{theory_small}
+use Rattle.domcheck_core.proofs.Judged.{said}
+use Rattle.domcheck_core.proofs.answers.judge.Goals as goal
+
+not_both : (b : Bool) → b ≡ false → b ≡ true → ⊥
+not_both b e f = cc
+
+pub returns-in_default : goal.returns-in_default
+returns-in_default c =
+    said (λ r. r.status) (λ r. r.line.items) _ _ _ c.line_reply.result (reads_nothing (rw c.in_default.is at c.in_ok-theory.ensures)) c.line_reply.ensures.status c.line_reply.ensures.line
+
+pub is_accepted-requires : goal.is_accepted-requires
+is_accepted-requires c = theory_small (rw c.in-Some.is at c.in_ok-theory.ensures).spelled
+
+pub returns-then-branch : goal.returns-then-branch
+returns-then-branch c =
+    said (λ r. r.status) (λ r. r.line.items) _ _ _ c.yes.result
+    (says_yes (theory_of c.in-Some.theory) (rw c.in-Some.is at c.in_ok-theory.ensures) (c.in_ok-is_accepted.ensures.0 c.if-branch.true)) c.yes.ensures.status c.yes.ensures.line
+
+pub returns : goal.returns
+returns c =
+    said (λ r. r.status) (λ r. r.line.items) _ _ _ c.line_reply-else-branch.result
+    (says_no (theory_of c.in-Some.theory, rw c.in-Some.is at c.in_ok-theory.ensures, λ a. not_both _ c.if-branch.false (c.in_ok-is_accepted.ensures.1 a)))
+    c.line_reply-else-branch.ensures.status c.line_reply-else-branch.ensures.line

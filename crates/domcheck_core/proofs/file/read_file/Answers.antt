@@ -1,0 +1,38 @@
+use Rattle.std.proofs.Common.{◌≡◌, ◌+◌, sym, subst, refl, arith, length, List, map, true, false, Bool, ap}
+use Rattle.std.proofs.lemmas.List.{length-map}
+use Rattle.model_text.specs.Lexemes.{Lexeme}
+use Rattle.model_programs.specs.Theories.{Theory}
+use Rattle.model_grammar.specs.Grammar.{SpellsTheory}
+use Rattle.model_grammar.specs.Files.{IsOfForm, lexemes_of}
+use Rattle.text_tokens.specs.Tokens.{token_of}
+use Rattle.dom_syntax.specs.Theories.{theory_of}
+use Rattle.proof_text.proofs.Exact.{one_theory}
+use Rattle.domcheck_core.proofs.Counts.{few_tokens}
+use Rattle.domcheck_core.proofs.Spelling.{same_lexemes}
+use Rattle.domcheck_core.proofs.file.read_file.Goals as goal
+
+not_both : (b : Bool) → b ≡ false → b ≡ true → ⊥
+not_both b e f = cc
+
+pub read_theory-requires : goal.read_theory-requires
+read_theory-requires c =
+    omega (arith, c.requires, few_tokens c.args.bytes.now, length-map c.in_ok-tokens.tokens token_of, ap length c.in_ok-tokens.ensures)
+
+pub returns-then-branch : goal.returns-then-branch
+returns-then-branch c = record {
+  small = c.requires;
+  spelled = subst (λ (z : List Lexeme). SpellsTheory (theory_of c.in-Ok.theory) z) (same_lexemes c.args.bytes.now _ c.in_ok-tokens.ensures) c.in-Ok.ensures.found;
+  of_form = c.in_ok-is_of_form-in-Ok.ensures.0 c.if-branch.true;
+}
+
+pub returns-in-Ok : goal.returns-in-Ok
+returns-in-Ok c = λ t spells.
+    let same : t ≡ theory_of c.in-Ok.theory =
+    one_theory _ t (theory_of c.in-Ok.theory) spells.spelled
+    (subst (λ (z : List Lexeme). SpellsTheory (theory_of c.in-Ok.theory) z) (same_lexemes c.args.bytes.now _ c.in_ok-tokens.ensures) c.in-Ok.ensures.found) in
+    not_both _ c.if-branch.false (c.in_ok-is_of_form-in-Ok.ensures.1 (subst IsOfForm same spells.of_form))
+
+pub returns-in-Err-BadText : goal.returns-in-Err-BadText
+returns-in-Err-BadText c = λ t spells.
+    (rw c.in-Err-BadText.field-0-is at c.in-Err-BadText.ensures.bad_text) refl t
+    (subst (λ (z : List Lexeme). SpellsTheory t z) (sym (same_lexemes c.args.bytes.now _ c.in_ok-tokens.ensures)) spells.spelled)
