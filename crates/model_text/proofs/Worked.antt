@@ -5,7 +5,8 @@ use Rattle.model_text.specs.Tokens.{Token, TokenKind, word_token, symbol_token, 
 use Rattle.model_text.proofs.Computing.{lexing}
 
 abbrev token : TokenKind → List ℕ → ℕ → ℕ → ℕ → Token
-token kind text start finish line = record { kind = kind; text = text; start = start; finish = finish; line = line }
+token kind text start finish line =
+    record { kind = kind; text = text; start = start; finish = finish; line = line }
 
 -- a comment isn't seen, but its newline counts
 words : tokens_of (codes "proc a() // x\n0g")
@@ -22,7 +23,8 @@ run = refl
 
 -- the longest symbol is taken
 longest : map lexeme_of (tokens_of (codes "{a-o}"))
-    ≡ terminal (codes "{") ∷ name_lexeme (codes "a") ∷ terminal (codes "-o") ∷ terminal (codes "}") ∷ []
+    ≡ terminal (codes "{") ∷ name_lexeme (codes "a") ∷ terminal (codes "-o") ∷ terminal (codes "}")
+    ∷ []
 unfolding lexing
 longest = refl
 
@@ -32,12 +34,14 @@ unfolding lexing
 literal = refl
 
 -- a literal that isn't finished is bad at its quote
-unfinished : tokens_of (codes "a \"b") ≡ token word_token (codes "a") 0 1 1 ∷ token bad_token [] 2 2 1 ∷ []
+unfinished : tokens_of (codes "a \"b") ≡ token word_token (codes "a") 0 1 1
+    ∷ token bad_token [] 2 2 1 ∷ []
 unfolding lexing
 unfinished = refl
 
 -- bytes that aren't UTF-8 are bad where they stand, and in a comment too
-broken : tokens_of (97 ∷ 47 ∷ 47 ∷ 255 ∷ 10 ∷ []) ≡ token word_token (codes "a") 0 1 1 ∷ token bad_token [] 3 3 1 ∷ []
+broken : tokens_of (97 ∷ 47 ∷ 47 ∷ 255 ∷ 10 ∷ []) ≡ token word_token (codes "a") 0 1 1
+    ∷ token bad_token [] 3 3 1 ∷ []
 unfolding lexing
 broken = refl
 

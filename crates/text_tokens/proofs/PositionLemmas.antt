@@ -9,13 +9,27 @@ use Rattle.model_text.specs.Tokens.{newline, place_of, line_of}
 back : (n k : ℕ) → n + k - n ≡ k
 back n k = omega arith
 
-pub place_step : (text : List ℕ) (n k : ℕ) → place_of text (n + k) ≡ place_of text n + length (encode_utf8_all (take (n + k - n) (drop n text)))
-place_step text n k = rw (back, take-add n k text, encodes-append (take n text) (take k (drop n text))) (length-append (encode_utf8_all (take n text)) (encode_utf8_all (take k (drop n text))))
+pub place_step : (text : List ℕ) (n k : ℕ)
+    → place_of text (n + k)
+    ≡ place_of text n + length (encode_utf8_all (take (n + k - n) (drop n text)))
+place_step text n k =
+    rw (back, take-add n k text, encodes-append (take n text) (take k (drop n text)))
+    (length-append (encode_utf8_all (take n text)) (encode_utf8_all (take k (drop n text))))
 
 pub place_le : (text : List ℕ) (n : ℕ) → place_of text n ≤ length (encode_utf8_all text)
-place_le text n = let whole : encode_utf8_all text ≡ encode_utf8_all (take n text) ++ encode_utf8_all (drop n text) =
-    ap encode_utf8_all (sym (take-append-drop n text)) ∙ encodes-append (take n text) (drop n text) in
-    omega (arith, ap length whole ∙ length-append (encode_utf8_all (take n text)) (encode_utf8_all (drop n text)))
+place_le text n = let whole : encode_utf8_all text ≡ encode_utf8_all (take n text)
+    ++ encode_utf8_all (drop n text) =
+    ap encode_utf8_all (sym (take-append-drop n text))
+    ∙ encodes-append (take n text) (drop n text) in
+    omega (
+      arith,
+      ap length whole
+          ∙ length-append (encode_utf8_all (take n text)) (encode_utf8_all (drop n text)),
+    )
 
-pub line_step : (bytes : List ℕ) (p q : ℕ) → line_of bytes (p + q) ≡ line_of bytes p + count_by (λ b. b == newline) (take (p + q - p) (drop p bytes))
-line_step bytes p q = rw (back, take-add p q bytes) (ap (λ n. 1 + n) (sum_by-append _ (take p bytes) (take q (drop p bytes))) ∙ omega arith)
+pub line_step : (bytes : List ℕ) (p q : ℕ)
+    → line_of bytes (p + q) ≡ line_of bytes p + count_by (λ b. b == newline)
+    (take (p + q - p) (drop p bytes))
+line_step bytes p q =
+    rw (back, take-add p q bytes)
+    (ap (λ n. 1 + n) (sum_by-append _ (take p bytes) (take q (drop p bytes))) ∙ omega arith)

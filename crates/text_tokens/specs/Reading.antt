@@ -17,14 +17,18 @@ token_between kind own from to = record {
 
 -- the tokens from the position on, where others gives those after the piece there
 abbrev pub tokens_at : List ℕ → List ℕ → Position → (ℕ → List model.Token) → List model.Token
-tokens_at bytes text from others = tokens_with bytes text from.number (piece_at (drop from.number text)) others
+tokens_at bytes text from others =
+    tokens_with bytes text from.number (piece_at (drop from.number text)) others
 
 -- with the tokens before, the list ends at the position
 abbrev pub Ends : List ℕ → List ℕ → List model.Token → Position → List model.Token → Type 0
-Ends bytes text before from after = (others : ℕ → List model.Token) → before ++ tokens_at bytes text from others ≡ after
+Ends bytes text before from after = (others : ℕ → List model.Token)
+    → before ++ tokens_at bytes text from others ≡ after
 
 -- with the tokens before, it goes on from a position after the piece
-pub record GoesOn (bytes text : List ℕ) (before : List model.Token) (from : Position) (after : List model.Token) (to : Position) : Type 0 where
+pub record GoesOn (bytes text : List ℕ) (before : List model.Token) (from : Position)
+    (after : List model.Token) (to : Position) : Type 0 where
   pub is : IsPosition bytes text to
   pub further : from.number < to.number
-  pub same : (others : ℕ → List model.Token) → before ++ tokens_at bytes text from others ≡ after ++ others to.number
+  pub same : (others : ℕ → List model.Token)
+      → before ++ tokens_at bytes text from others ≡ after ++ others to.number

@@ -7,7 +7,7 @@ use crate::literals::literal_length;
 use crate::numbers::is_number;
 use crate::symbols::symbol_length;
 use crate::tokens::TokenKind;
-use crate::words::{line_length, logic_length, run_length, word_length};
+use crate::words::{comment_length, logic_length, run_length, word_length};
 
 /// What stands at the front of a text, with its number of characters.
 #[derive(Clone, Copy, Debug)]
@@ -81,7 +81,7 @@ pub fn piece_at(text: &[char]) -> Piece
     match text {
         [] => Piece::Nothing,
         [first, ..] if is_blank(*first) => Piece::Gap(1),
-        ['/', '/', ..] => Piece::Gap(line_length(text)),
+        ['/', '/', ..] => Piece::Gap(comment_length(text)),
         [first, ..] if first.is_ascii_digit() => digits_piece(&text[..run_length(text)]),
         _ => longest_token(text),
     }

@@ -1,4 +1,4 @@
-ghost use Rattle.std.specs.Prelude.{◌≡◌, ◌+◌, ◌<◌, ◌≤◌, ◌==◌, ◌^◌, length, count_by, encode_utf8_all};
+ghost use Rattle.std.specs.Prelude.{◌≡◌, ℕ, List, ◌+◌, ◌<◌, ◌≤◌, ◌==◌, ◌^◌, length, count_by, encode_utf8_all};
 ghost use Rattle.model_text.specs.Tokens.{newline, place_of};
 ghost use Rattle.text_tokens.specs.Positions.{IsPosition};
 
@@ -34,8 +34,8 @@ fn byte_length(characters: &[char]) -> usize
 }
 
 /// The position before the first character.
-pub fn first_position(bytes: &[u8], text: &[char]) -> Position
-    ensures is { IsPosition bytes.now text.now result }
+pub fn first_position() -> Position
+    ensures is { (bytes text : List ℕ) → IsPosition bytes text result }
     ensures number { result.number ≡ 0 }
 {
     Position {

@@ -61,7 +61,9 @@ fn push_token(
     to: Position,
     tokens: &mut Tokens,
 ) -> Result<(), OutOfMemory>
-    ensures { OnOk result (map token_of tokens.new ≡ map token_of tokens.old ++ token_between (kind_of kind) own.now from to ∷ []) }
+    ensures { OnOk result
+        (map token_of tokens.new
+        ≡ map token_of tokens.old ++ token_between (kind_of kind) own.now from to ∷ []) }
 {
     let text = token_text(alloc, kind, own)?;
     tokens.push(Token {
@@ -93,8 +95,10 @@ fn read_piece(
     requires is { IsPosition bytes.now text.now from }
     requires spelled { length (encode_utf8_all text.now) ≤ length bytes.now }
     requires bounded { length bytes.now < 4294967295 }
-    ensures ends { IfOk result (λ next. IfNone next (Ends bytes.now text.now (map token_of tokens.old) from (map token_of tokens.new))) }
-    ensures goes_on { IfOk result (λ next. IfSome next (GoesOn bytes.now text.now (map token_of tokens.old) from (map token_of tokens.new))) }
+    ensures ends { IfOk result (λ next. IfNone next
+        (Ends bytes.now text.now (map token_of tokens.old) from (map token_of tokens.new))) }
+    ensures goes_on { IfOk result (λ next. IfSome next
+        (GoesOn bytes.now text.now (map token_of tokens.old) from (map token_of tokens.new))) }
 {
     match piece_from(text, from.number) {
         Piece::Gap(count) => Ok(Some(advanced(bytes, text, from, count))),
@@ -119,15 +123,16 @@ fn read_tokens(alloc: Global, bytes: &[u8], text: &[char]) -> Result<Tokens, Out
     ensures { IfOk result (λ tokens. map token_of tokens ≡ tokens_of bytes.now) }
 {
     let mut tokens = Tokens::new(alloc);
-    let mut position = first_position(bytes, text);
+    let mut position = first_position();
     while let Some(next) = read_piece(alloc, bytes, text, position, &mut tokens)? {
         position = next;
     }
     Ok(tokens)
 }
 
-/// The tokens of the bytes, in their order: exactly those of the definition. At the first place where
-/// no token begins, bytes that aren't UTF-8 included, the list ends with one token of kind Bad.
+/// The tokens of the bytes, in their order: exactly those of the definition. At the first place
+/// where no token begins, bytes that aren't UTF-8 included, the list ends with one token of kind
+/// Bad. The only error is that memory was refused.
 pub fn token_list(alloc: Global, bytes: &[u8]) -> Result<Tokens, OutOfMemory>
     requires { length bytes.now < 4294967295 }
     ensures { IfOk result (λ tokens. map token_of tokens ≡ tokens_of bytes.now) }

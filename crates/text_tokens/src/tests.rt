@@ -7,7 +7,7 @@ use std::fmt::Write;
 use std::test::Fail;
 
 /// Bytes, and their tokens: the kind and the text of each, its places and its line.
-const ROWS: [(&[u8], &str); 33] = [
+const ROWS: [(&[u8], &str); 34] = [
     (b"", ""),
     (
         b"proc a() // x\n0g",
@@ -46,8 +46,12 @@ const ROWS: [(&[u8], &str); 33] = [
     (b"x // a", "word x 0-1 1, "),
     (b"x / y", "word x 0-1 1, bad  2-2 1, "),
     (
-        b"o-t or-t o-",
-        "symbol o-t 0-3 1, word or 4-6 1, symbol - 6-7 1, word t 7-8 1, word o 9-10 1, symbol - 10-11 1, ",
+        b"o-t or-t",
+        "symbol o-t 0-3 1, word or 4-6 1, symbol - 6-7 1, word t 7-8 1, ",
+    ),
+    (
+        b"o- o-tt",
+        "word o 0-1 1, symbol - 1-2 1, symbol o-t 3-6 1, word t 6-7 1, ",
     ),
     (
         b"{a-o}",
@@ -58,8 +62,8 @@ const ROWS: [(&[u8], &str); 33] = [
         "symbol .* 0-2 1, symbol .+ 2-4 1, symbol *. 4-6 1, symbol * 6-7 1, ",
     ),
     (
-        b"<=:=->+++:",
-        "symbol <= 0-2 1, symbol := 2-4 1, symbol -> 4-6 1, symbol ++ 6-8 1, symbol + 8-9 1, symbol : 9-10 1, ",
+        b"<=:=->+++",
+        "symbol <= 0-2 1, symbol := 2-4 1, symbol -> 4-6 1, symbol ++ 6-8 1, symbol + 8-9 1, ",
     ),
     (
         b"@tt ?g@",
@@ -70,8 +74,8 @@ const ROWS: [(&[u8], &str); 33] = [
         "word a 0-1 1, word b 3-4 2, word c 5-6 2, word d 8-9 4, ",
     ),
     (
-        b"[#1%2]",
-        "symbol [ 0-1 1, symbol # 1-2 1, number 1 2-3 1, symbol % 3-4 1, number 2 4-5 1, symbol ] 5-6 1, ",
+        b"[#1%2",
+        "symbol [ 0-1 1, symbol # 1-2 1, number 1 2-3 1, symbol % 3-4 1, number 2 4-5 1, ",
     ),
     (b"a\0b", "word a 0-1 1, bad  1-1 1, "),
 ];

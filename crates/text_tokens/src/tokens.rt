@@ -44,8 +44,8 @@ pub struct Token {
 pub type Tokens = List<Token>;
 
 impl Token {
-    /// Whether the token is the symbol or the reserved word of this text. It isn't for `step`, which
-    /// `is_step` asks for.
+    /// Whether the token is the symbol or the reserved word of this text. It never is for `step`,
+    /// which `is_step` asks for.
     pub fn is_terminal(&self, text: &str) -> bool
         ensures { IsTrue result ↔ (lexeme_of (token_of self.now) ≡ terminal text.now) }
     {
@@ -68,8 +68,10 @@ impl Token {
 
     /// The word, reserved or not: none exactly where the token is of another kind.
     pub fn word(&self) -> Option<&Text>
-        ensures kind { MatchOption result ((token_of self.now).kind ≢ word_token) (λ text. ((token_of self.now).kind ≡ word_token) × (text.now ≡ self.now.text)) }
-        ensures lexeme { IfSome result (λ text. lexeme_of (token_of self.now) ≡ word_lexeme text.now self.now.line) }
+        ensures kind { MatchOption result ((token_of self.now).kind ≢ word_token)
+            (λ text. ((token_of self.now).kind ≡ word_token) × (text.now ≡ self.now.text)) }
+        ensures lexeme { IfSome result
+            (λ text. lexeme_of (token_of self.now) ≡ word_lexeme text.now self.now.line) }
     {
         match self.kind {
             TokenKind::Word => Some(&self.text),
@@ -79,7 +81,9 @@ impl Token {
 
     /// The name: none exactly where the token is no word or a reserved one.
     pub fn name(&self) -> Option<&Text>
-        ensures { MatchOption result ((text : List ℕ) → lexeme_of (token_of self.now) ≢ name_lexeme text) (λ text. lexeme_of (token_of self.now) ≡ name_lexeme text.now) }
+        ensures { MatchOption result
+            ((text : List ℕ) → lexeme_of (token_of self.now) ≢ name_lexeme text)
+            (λ text. lexeme_of (token_of self.now) ≡ name_lexeme text.now) }
     {
         match self.kind {
             TokenKind::Word if !is_reserved(self.text.as_str()) => Some(&self.text),
@@ -89,7 +93,9 @@ impl Token {
 
     /// The logic name, with its `$`: none exactly where the token is of another kind.
     pub fn logic_name(&self) -> Option<&Text>
-        ensures { MatchOption result ((text : List ℕ) → lexeme_of (token_of self.now) ≢ logic_lexeme text) (λ text. lexeme_of (token_of self.now) ≡ logic_lexeme text.now) }
+        ensures { MatchOption result
+            ((text : List ℕ) → lexeme_of (token_of self.now) ≢ logic_lexeme text)
+            (λ text. lexeme_of (token_of self.now) ≡ logic_lexeme text.now) }
     {
         match self.kind {
             TokenKind::LogicName => Some(&self.text),
@@ -99,7 +105,9 @@ impl Token {
 
     /// The number: none exactly where the token isn't one.
     pub fn number(&self) -> Option<u64>
-        ensures { MatchOption result ((number : ℕ) → lexeme_of (token_of self.now) ≢ number_lexeme number) (λ number. lexeme_of (token_of self.now) ≡ number_lexeme number) }
+        ensures { MatchOption result
+            ((number : ℕ) → lexeme_of (token_of self.now) ≢ number_lexeme number)
+            (λ number. lexeme_of (token_of self.now) ≡ number_lexeme number) }
     {
         match self.kind {
             TokenKind::Number => number_value(self.text.as_str().as_bytes()),
@@ -109,7 +117,9 @@ impl Token {
 
     /// The text that the literal stands for: none exactly where the token is of another kind.
     pub fn literal(&self) -> Option<&Text>
-        ensures { MatchOption result ((text : List ℕ) → lexeme_of (token_of self.now) ≢ literal_lexeme text) (λ text. lexeme_of (token_of self.now) ≡ literal_lexeme text.now) }
+        ensures { MatchOption result
+            ((text : List ℕ) → lexeme_of (token_of self.now) ≢ literal_lexeme text)
+            (λ text. lexeme_of (token_of self.now) ≡ literal_lexeme text.now) }
     {
         match self.kind {
             TokenKind::Literal => Some(&self.text),

@@ -2,7 +2,7 @@ ghost use Rattle.std.specs.Prelude.{◌≡◌, ◌≤◌, not, ◌||◌, ◌==�
 ghost use Rattle.std.specs.Char.{is_ascii_digit};
 ghost use Rattle.std.specs.List.{prefix_len};
 ghost use Rattle.unicode_ident.specs.Ident.{is_xid_continue};
-ghost use Rattle.model_text.specs.Tokens.{newline, starts_word, word_length, logic_length};
+ghost use Rattle.model_text.specs.Tokens.{comment_length, in_digit_run, starts_word, word_length, logic_length};
 
 use unicode_ident::{is_xid_continue, is_xid_start};
 
@@ -16,7 +16,7 @@ fn continued_length(text: &[char]) -> usize
 
 /// How many digits and characters of XID_Continue stand at the front of the text.
 pub fn run_length(text: &[char]) -> usize
-    ensures value { result ≡ prefix_len (λ d. is_ascii_digit d || is_xid_continue d) text.now }
+    ensures value { result ≡ prefix_len in_digit_run text.now }
     ensures within { result ≤ length text.now }
 {
     text.iter()
@@ -25,8 +25,8 @@ pub fn run_length(text: &[char]) -> usize
 }
 
 /// How many characters stand before the next newline, or the end of the text.
-pub fn line_length(text: &[char]) -> usize
-    ensures value { result ≡ prefix_len (λ d. not (d == newline)) text.now }
+pub fn comment_length(text: &[char]) -> usize
+    ensures value { result ≡ comment_length text.now }
     ensures within { result ≤ length text.now }
 {
     text.iter().take_while(|c| **c != '\n').count()

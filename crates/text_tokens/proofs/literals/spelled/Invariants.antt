@@ -3,4 +3,5 @@ use Rattle.text_tokens.proofs.literals.spelled.Given as goal
 
 -- with the characters that are left, the whole text
 abbrev pub invariant-loop-character : goal.invariant-loop-character
-invariant-loop-character l = l.text ++ encode_utf8_all (drop l.character-index l.characters) ≡ encode_utf8_all l.characters
+invariant-loop-character l =
+    l.text ++ encode_utf8_all (drop l.character-index l.characters) ≡ encode_utf8_all l.characters

@@ -4,5 +4,6 @@ use Rattle.text_tokens.proofs.literals.unescaped.Given as goal
 
 -- with what the characters that are left stand for, the whole text
 abbrev pub invariant-loop-character : goal.invariant-loop-character
-invariant-loop-character l = l.text ++ encode_utf8_all (unescaped l.escaped (drop l.character-index l.inside))
+invariant-loop-character l =
+    l.text ++ encode_utf8_all (unescaped l.escaped (drop l.character-index l.inside))
     ≡ encode_utf8_all (unescaped false l.inside)

@@ -3,13 +3,27 @@ use Rattle.text_tokens.proofs.PositionLemmas.{place_step, place_le, line_step}
 use Rattle.text_tokens.proofs.positions.advanced.Goals as goal
 
 pub byte_length-requires : goal.byte_length-requires
-byte_length-requires c = omega (arith, place_step c.args.text.now c.args.position.number c.args.count, place_le c.args.text.now (c.args.position.number + c.args.count))
+byte_length-requires c =
+    omega (
+      arith,
+      place_step c.args.text.now c.args.position.number c.args.count,
+      place_le c.args.text.now (c.args.position.number + c.args.count),
+    )
 
 pub overflow_add-place : goal.overflow_add-place
-overflow_add-place c = omega (arith, place_step c.args.text.now c.args.position.number c.args.count, place_le c.args.text.now (c.args.position.number + c.args.count))
+overflow_add-place c = omega (
+  arith,
+  place_step c.args.text.now c.args.position.number c.args.count,
+  place_le c.args.text.now (c.args.position.number + c.args.count),
+)
 
 pub slice_bounds-newlines-end : goal.slice_bounds-newlines-end
-slice_bounds-newlines-end c = omega (arith, place_step c.args.text.now c.args.position.number c.args.count, place_le c.args.text.now (c.args.position.number + c.args.count))
+slice_bounds-newlines-end c =
+    omega (
+      arith,
+      place_step c.args.text.now c.args.position.number c.args.count,
+      place_le c.args.text.now (c.args.position.number + c.args.count),
+    )
 
 pub returns-clause-is : goal.returns-clause-is
 returns-clause-is c = record {

@@ -8,7 +8,9 @@ use Rattle.text_tokens.proofs.reading.read_tokens.Given as goal
 abbrev pub invariant-loop-tokens : goal.invariant-loop-tokens
 invariant-loop-tokens l = record {
   is : IsPosition l.bytes l.text l.position;
-  left : map token_of l.tokens ++ tokens_from l.bytes l.text (suc (length l.text - l.position.number)) l.position.number ≡ tokens_of l.bytes;
+  left : map token_of l.tokens
+      ++ tokens_from l.bytes l.text (suc (length l.text - l.position.number)) l.position.number
+      ≡ tokens_of l.bytes;
 }
 
 abbrev pub decreases-loop-tokens : goal.decreases-loop-tokens
