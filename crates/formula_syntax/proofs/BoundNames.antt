@@ -15,17 +15,22 @@ use Rattle.formula_syntax.specs.Binders.{bound_by}
 apart : (x y : List ℕ) (s : ValueSort) (u : Sort) → prog x s ≡ logic y u → ⊥
 apart x y s u e = cc
 
-step : (x y : List ℕ) (s : ValueSort) (u : Sort) (t : Var) → t ≡ prog x s → (d : Dec (prog x s ≡ logic y u)) → name_or t d ≡ prog x s
+step : (x y : List ℕ) (s : ValueSort) (u : Sort) (t : Var) → t ≡ prog x s →
+    (d : Dec (prog x s ≡ logic y u)) → name_or t d ≡ prog x s
 step x y s u t e (yes q) = absurd (apart x y s u q)
 step x y s u t e (no m) = ap raised_var e
 
-pub names-prog : (xs : Binders) (x : List ℕ) (s : ValueSort) → names (bound_by xs) (prog x s) ≡ prog x s
+pub names-prog : (xs : Binders) (x : List ℕ) (s : ValueSort) →
+    names (bound_by xs) (prog x s) ≡ prog x s
 names-prog b.Empty x s = refl
-names-prog (b.More' y q rest) x s = step x y.now.name s (sort_of y.now.sort) (names (bound_by rest) (prog x s)) (names-prog rest x s) (var_eq (prog x s) (logic_var_of y.now))
+names-prog (b.More' y q rest) x s =
+    step x y.now.name s (sort_of y.now.sort) (names (bound_by rest) (prog x s))
+    (names-prog rest x s) (var_eq (prog x s) (logic_var_of y.now))
 
 -- a logic variable stands for none
 not_prog : Var → Type 0
-not_prog z = (x : List ℕ) (s : ValueSort) → (same_var (prog x s) z ≡ false) × (same_var z (prog x s) ≡ false)
+not_prog z = (x : List ℕ) (s : ValueSort) →
+    (same_var (prog x s) z ≡ false) × (same_var z (prog x s) ≡ false)
 
 raised-not_prog : (z : Var) → not_prog z → not_prog (raised_var z)
 unfolding not_prog
@@ -33,22 +38,32 @@ raised-not_prog (prog x s) h = h
 raised-not_prog (logic x s) h = h
 raised-not_prog (bound i s) h = λ x s. (refl, refl)
 
-names-not_prog : (ys : Binders) (x : List ℕ) (u : Sort) → not_prog (names (bound_by ys) (logic x u))
+names-not_prog : (ys : Binders) (x : List ℕ) (u : Sort) →
+    not_prog (names (bound_by ys) (logic x u))
 unfolding not_prog
 names-not_prog b.Empty x u = λ y s. (refl, refl)
-names-not_prog (b.More' y q rest) x u = go (var_eq (logic x u) (logic_var_of y.now)) (names-not_prog rest x u)
+names-not_prog (b.More' y q rest) x u =
+    go (var_eq (logic x u) (logic_var_of y.now)) (names-not_prog rest x u)
   where
-    go : (d : Dec (logic x u ≡ logic_var_of y.now)) → not_prog (names (bound_by rest) (logic x u)) → not_prog (name_or (names (bound_by rest) (logic x u)) d)
+    go : (d : Dec (logic x u ≡ logic_var_of y.now)) →
+        not_prog (names (bound_by rest) (logic x u)) →
+        not_prog (name_or (names (bound_by rest) (logic x u)) d)
     go (yes e) h = λ y s. (refl, refl)
     go (no n) h = raised-not_prog (names (bound_by rest) (logic x u)) h
 
-pub prog-logic : (xs ys : Binders) (x y : List ℕ) (s : ValueSort) (u : Sort) → same_var (names (bound_by xs) (prog x s)) (names (bound_by ys) (logic y u)) ≡ false
+pub prog-logic : (xs ys : Binders) (x y : List ℕ) (s : ValueSort) (u : Sort) →
+    same_var (names (bound_by xs) (prog x s)) (names (bound_by ys) (logic y u)) ≡ false
 unfolding not_prog
-prog-logic xs ys x y s u = ap (λ z. same_var z (names (bound_by ys) (logic y u))) (names-prog xs x s) ∙ (names-not_prog ys y u x s).0
+prog-logic xs ys x y s u =
+    ap (λ z. same_var z (names (bound_by ys) (logic y u))) (names-prog xs x s)
+    ∙ (names-not_prog ys y u x s).0
 
-pub logic-prog : (xs ys : Binders) (x y : List ℕ) (s : Sort) (u : ValueSort) → same_var (names (bound_by xs) (logic x s)) (names (bound_by ys) (prog y u)) ≡ false
+pub logic-prog : (xs ys : Binders) (x y : List ℕ) (s : Sort) (u : ValueSort) →
+    same_var (names (bound_by xs) (logic x s)) (names (bound_by ys) (prog y u)) ≡ false
 unfolding not_prog
-logic-prog xs ys x y s u = ap (λ z. same_var (names (bound_by xs) (logic x s)) z) (names-prog ys y u) ∙ (names-not_prog xs x s y u).1
+logic-prog xs ys x y s u =
+    ap (λ z. same_var (names (bound_by xs) (logic x s)) z) (names-prog ys y u)
+    ∙ (names-not_prog xs x s y u).1
 
 pub ruleset prog_rules = (names-prog, prog-logic, logic-prog)
 
