@@ -77,11 +77,13 @@ stable-SameAt tree a b = stable-trees
 stable-SameAt forest a b = stable-trees
 stable-SameAt grove a b = stable-pi (λ t. stable-ℕ)
 
-pub stable-IfTrees : (x : Thing) (P : Trees → Type 0) → ((r : Trees) → Stable (P r)) → Stable (IfTrees x P)
+pub stable-IfTrees : (x : Thing) (P : Trees → Type 0) → ((r : Trees) → Stable (P r))
+    → Stable (IfTrees x P)
 stable-IfTrees (val v) P s = λ h. h (λ b. b)
 stable-IfTrees (trees r) P s = s r
 
-pub stable-IfNode : (r : Trees) (P : List ℕ → ℕ → Trees → ℕ → Type 0) → ((s : List ℕ) (i : ℕ) (kids : Trees) (l : ℕ) → Stable (P s i kids l)) → Stable (IfNode r P)
+pub stable-IfNode : (r : Trees) (P : List ℕ → ℕ → Trees → ℕ → Type 0)
+    → ((s : List ℕ) (i : ℕ) (kids : Trees) (l : ℕ) → Stable (P s i kids l)) → Stable (IfNode r P)
 stable-IfNode none P s = λ h. h (λ b. b)
 stable-IfNode (hole r) P s = λ h. h (λ b. b)
 stable-IfNode (node n i kids l none) P s = s n i kids l
@@ -103,15 +105,24 @@ stable (empty k) e s r = stable-trees
 stable (bare_hole h) e s r = stable-trees
 stable (node_formula n i p l) e s r =
     stable-IfNode r _ (λ name number kids list. λ h.
-    (stable-thing (λ m. h (λ w. m w.0)), stable-thing (λ m. h (λ w. m w.1)), stable-thing (λ m. h (λ w. m w.2)), stable p e (giving forest s) kids (λ m. h (λ w. m w.3))))
+    (stable-thing (λ m. h (λ w. m w.0)), stable-thing (λ m. h (λ w. m w.1)),
+        stable-thing (λ m. h (λ w. m w.2)),
+        stable p e (giving forest s) kids (λ m. h (λ w. m w.3))))
 stable (one_tree p) e s r = stable-pair stable-Shaped (stable p e (giving tree s) r)
 stable (one_root p) e s r = stable-pair stable-Shaped (stable p e (giving tree s) r)
 stable (concatenation side p q) e s r = stable-not
 stable (grove_sum p q) e s r = stable-not
 stable (grove_sum_hole k q) e s r = stable-not
 stable (application h k p) e s r = stable-not
-stable (hole_adjoint p q) e s r = stable-pi (λ d. stable-arrow (stable-arrow (stable-arrow (stable q e (shape (outer s)) (Rattle.model_shapes.specs.Trees.fill r d)))))
-stable (context_adjoint k p q) e s r = stable-pi (λ c. stable-arrow (stable-arrow (stable-arrow (stable q e (shape k) (Rattle.model_shapes.specs.Trees.fill c r)))))
+stable (hole_adjoint p q) e s r =
+    stable-pi
+    (λ d. stable-arrow
+    (stable-arrow
+    (stable-arrow (stable q e (shape (outer s)) (Rattle.model_shapes.specs.Trees.fill r d)))))
+stable (context_adjoint k p q) e s r =
+    stable-pi
+    (λ c. stable-arrow
+    (stable-arrow (stable-arrow (stable q e (shape k) (Rattle.model_shapes.specs.Trees.fill c r)))))
 stable (same_as a) e s r = stable-IfTrees (meaning_of e a) _ (λ t. stable-SameAt (outer s) r t)
 stable (length_is a) e s r = stable-thing
 stable (value_meets u a p) e s r = stable-IfTrees (meaning_of e a) _ (λ t. stable p e u t)

@@ -69,5 +69,6 @@ same_formula (context_adjoint k p q) (context_adjoint k' p' q') =
     same_data_sort k k' && (same_formula p p' && same_formula q q')
 same_formula (same_as a) (same_as a') = same_term a a'
 same_formula (length_is a) (length_is a') = same_term a a'
-same_formula (value_meets s a p) (value_meets s' a' p') = same_sort s s' && (same_term a a' && same_formula p p')
+same_formula (value_meets s a p) (value_meets s' a' p') =
+    same_sort s s' && (same_term a a' && same_formula p p')
 same_formula p q = false

@@ -3,15 +3,8 @@ use Rattle.std.proofs.Common.{◌≡◌, ℕ, refl, ap, subst, Bool, true, false
 use Rattle.std.proofs.lemmas.Slice.Eq.{bytes_eq-Decides}
 use Rattle.model_shapes.specs.Sorts.{ValueSort, node_sort, list_sort, int_sort, str_sort, bool_sort, DataSort, tree, forest, grove, Sort, value, shape, context}
 use Rattle.model_formulas.specs.Variables.{Var, prog, logic, bound, same_var}
+pub use Rattle.model_shapes.proofs.Truth.{false≢true, both_true}
 use Rattle.model_shapes.specs.Sorts.{same_value_sort, same_data_sort, same_sort}
-
-pub false≢true : {P : Type 0} → false ≡ true → P
-false≢true e = cc
-
-pub both_true : (a b : Bool) → (a && b) ≡ true → (a ≡ true) × (b ≡ true)
-both_true true true e = (refl, refl)
-both_true true false e = false≢true e
-both_true false b e = false≢true e
 
 pub same_value_sort-is : (a b : ValueSort) → same_value_sort a b ≡ true → a ≡ b
 same_value_sort-is node_sort node_sort e = refl
@@ -42,7 +35,10 @@ same_data_sort-refl grove = refl
 pub same_sort-is : (a b : Sort) → same_sort a b ≡ true → a ≡ b
 same_sort-is (value a) (value b) e = ap value (same_value_sort-is a b e)
 same_sort-is (shape a) (shape b) e = ap shape (same_data_sort-is a b e)
-same_sort-is (context h k) (context h' k') e = λ i. context (same_data_sort-is h h' (both_true (same_data_sort h h') (same_data_sort k k') e).0 i) (same_data_sort-is k k' (both_true (same_data_sort h h') (same_data_sort k k') e).1 i)
+same_sort-is (context h k) (context h' k') e =
+    λ i. context
+    (same_data_sort-is h h' (both_true (same_data_sort h h') (same_data_sort k k') e).0 i)
+    (same_data_sort-is k k' (both_true (same_data_sort h h') (same_data_sort k k') e).1 i)
 same_sort-is a b e = false≢true e
 
 pub same_sort-refl : (a : Sort) → same_sort a a ≡ true
@@ -63,11 +59,15 @@ pub nat-refl : (i : ℕ) → (i == i) ≡ true
 nat-refl i = search rules
 
 pub same_var-is : (x y : Var) → same_var x y ≡ true → x ≡ y
-same_var-is (prog x s) (prog y u) e = let h : (bytes_eq x y ≡ true) × (same_value_sort s u ≡ true) = both_true (bytes_eq x y) (same_value_sort s u) e in
+same_var-is (prog x s) (prog y u) e =
+    let h : (bytes_eq x y ≡ true) × (same_value_sort s u ≡ true) =
+    both_true (bytes_eq x y) (same_value_sort s u) e in
     λ i. prog (bytes-is x y h.0 i) (same_value_sort-is s u h.1 i)
-same_var-is (logic x s) (logic y u) e = let h : (bytes_eq x y ≡ true) × (same_sort s u ≡ true) = both_true (bytes_eq x y) (same_sort s u) e in
+same_var-is (logic x s) (logic y u) e = let h : (bytes_eq x y ≡ true) × (same_sort s u ≡ true) =
+    both_true (bytes_eq x y) (same_sort s u) e in
     λ i. logic (bytes-is x y h.0 i) (same_sort-is s u h.1 i)
-same_var-is (bound k s) (bound j u) e = let h : ((k == j) ≡ true) × (same_sort s u ≡ true) = both_true (k == j) (same_sort s u) e in
+same_var-is (bound k s) (bound j u) e = let h : ((k == j) ≡ true) × (same_sort s u ≡ true) =
+    both_true (k == j) (same_sort s u) e in
     λ i. bound (nat-is k j h.0 i) (same_sort-is s u h.1 i)
 same_var-is x y e = false≢true e
 
@@ -77,4 +77,5 @@ same_var-refl (logic x s) = λ i. bytes-refl x i && same_sort-refl s i
 same_var-refl (bound k s) = λ i. nat-refl k i && same_sort-refl s i
 
 pub same_var-not : (x y : Var) → same_var x y ≡ false → x ≡ y → ⊥
-same_var-not x y h e = let z : same_var x y ≡ true = subst (λ u. same_var x u ≡ true) e (same_var-refl x) in (cc)
+same_var-not x y h e = let z : same_var x y ≡ true =
+    subst (λ u. same_var x u ≡ true) e (same_var-refl x) in (cc)
