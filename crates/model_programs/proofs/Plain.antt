@@ -12,7 +12,7 @@ use Rattle.model_formulas.specs.Substitution.{formula_with, closing, closing_at}
 use Rattle.model_formulas.specs.Satisfaction.{Environment, Meets}
 use Rattle.model_formulas.specs.Satisfaction.{joint}
 use Rattle.model_shapes.proofs.Shapes.{same-Shaped}
-use Rattle.model_formulas.proofs.Pull.{plain_end}
+use Rattle.model_formulas.proofs.Plainly.{plain_end}
 use Rattle.model_formulas.proofs.Nameless.{formula-then, formula-variable}
 use Rattle.model_programs.specs.Stores.{ProgVar, Store, lookup, set, value_of, text_in}
 use Rattle.model_programs.specs.Commands.{skip, block, assign, create_node, node_name, child_nodes, parent_node, list_item, append_child, remove_child, if_else, while_do, local, call}

@@ -6,7 +6,7 @@ use Rattle.model_shapes.specs.Shapes.{SameAt}
 use Rattle.model_shapes.specs.Values.{Value, null, nolist, node_number, list_number, int, str, boolean}
 use Rattle.model_formulas.specs.Terms.{Term}
 use Rattle.model_shapes.proofs.Shapes.{same-node_uses, same-list_uses, SameAt-beside}
-use Rattle.model_formulas.proofs.Closed.{narrow}
+use Rattle.model_shapes.proofs.Narrow.{narrow}
 use Rattle.model_programs.specs.Stores.{ProgVar, Store, set, value_of, text_in}
 use Rattle.model_programs.specs.Commands.{skip, block, assign, create_node, node_name, child_nodes, parent_node, list_item, append_child, remove_child, if_else, while_do, local, call}
 use Rattle.model_programs.specs.Theories.{Procedure, Procedures, procedure_named}

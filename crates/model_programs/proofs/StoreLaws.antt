@@ -8,7 +8,7 @@ use Rattle.model_formulas.specs.Variables.{prog, logic, bound}
 use Rattle.model_formulas.specs.Terms.{Term, literal, variable, sum, difference, appended, var_eq}
 use Rattle.model_formulas.specs.Variables.{same_var}
 use Rattle.model_formulas.specs.SameFormulas.{same_value}
-use Rattle.model_formulas.proofs.SameTests.{same_var-is, same_var-refl}
+use Rattle.model_formulas.specs.VariableTests.{same_var-is, same_var-refl}
 use Rattle.model_formulas.proofs.SameFormulas.{same_value-is, same_value-refl}
 use Rattle.model_formulas.specs.Satisfaction.{Environment, Meets, meaning_of, number_of, text_of, Proper}
 use Rattle.model_formulas.specs.Satisfaction.{joint}
