@@ -1,9 +1,9 @@
 -- The same shapes and contexts meet the same formulas.
 -- By cases on the formula; sameness at trees and forests is equality, at groves a count of roots.
-use Rattle.std.proofs.Common.{◌≡◌, ℕ, ◌≤◌, sym, ap, arith, ◌∙◌, subst, inl, inr, ⊎_elim, pos, List}
+use Rattle.std.proofs.Common.{◌≡◌, ℕ, sym, ap, arith, ◌∙◌, subst, inl, inr, ⊎_elim, pos, List}
 use Rattle.model_shapes.specs.Trees.{Trees, none, node, hole, beside, fill, width}
 use Rattle.model_shapes.specs.Shapes.{Same, SameAt, Shaped, HasWidth}
-use Rattle.model_shapes.specs.Sorts.{Sort, value, shape, context, DataSort, tree, forest, grove, outer, giving}
+use Rattle.model_shapes.specs.Sorts.{Sort, value, shape, context, DataSort, tree, outer, giving}
 use Rattle.model_shapes.specs.Things.{Thing, val, trees}
 use Rattle.model_shapes.specs.Values.{int}
 use Rattle.model_formulas.specs.Formulas.{Formula, truth, falsity, conjunction, disjunction, implication, negation, existential, universal, equality, at_most, empty, bare_hole, node_formula, one_tree, one_root, concatenation, grove_sum, grove_sum_hole, application, hole_adjoint, context_adjoint, same_as, length_is, value_meets, Side, whole, hole_left}
@@ -20,8 +20,11 @@ Splits-closed side s P Q a b same h = λ n. h (λ x. x.2 (λ y. n (
   λ m. m (
     y.0,
     y.1,
-    (SameAt-trans (outer s) b a (beside x.0 y.0) (SameAt-sym (outer s) a b same) y.2.0, y.2.1,
-        y.2.2),
+    (
+      SameAt-trans (outer s) b a (beside x.0 y.0) (SameAt-sym (outer s) a b same) y.2.0,
+      y.2.1,
+      y.2.2,
+    ),
   ),
 )))
 
@@ -86,13 +89,13 @@ closed (application u k p) e s a b h m = λ n. m (λ x. x.2 (λ y. n (
 closed (hole_adjoint p q) e s a b h m = λ d wd md wf.
     closed q e (shape (outer s)) (fill a d) (fill b d) (fill-left (outer s) a b d h)
     (m d wd md
-        (same-Shaped (shape (outer s)) (fill b d) (fill a d)
-        (SameAt-sym (outer s) (fill a d) (fill b d) (fill-left (outer s) a b d h)) wf))
+    (same-Shaped (shape (outer s)) (fill b d) (fill a d)
+    (SameAt-sym (outer s) (fill a d) (fill b d) (fill-left (outer s) a b d h)) wf))
 closed (context_adjoint k p q) e s a b h m = λ c wc mc wf.
     let same : SameAt k (fill c a) (fill c b) = fill-right (outer s) k c a b wc.holed h in
     closed q e (shape k) (fill c a) (fill c b) same
-        (m c wc mc
-        (same-Shaped (shape k) (fill c b) (fill c a) (SameAt-sym k (fill c a) (fill c b) same) wf))
+    (m c wc mc
+    (same-Shaped (shape k) (fill c b) (fill c a) (SameAt-sym k (fill c a) (fill c b) same) wf))
 closed (same_as x) e s a b h m =
     IfTrees-closed (meaning_of e x) _ _
     (λ t g. SameAt-trans (outer s) b a t (SameAt-sym (outer s) a b h) g) m

@@ -27,8 +27,11 @@ plain_env (bound i s) = val null
 pub plain_env-proper : Proper plain_env
 unfolding plain_env chosen
 plain_env-proper =
-    record { programs = λ x s. (some_thing (value s) refl).1; logics = λ x s e.
-    go s (is_sort s) refl e }
+    record {
+      programs = λ x s. (some_thing (value s) refl).1;
+      logics = λ x s e.
+          go s (is_sort s) refl e;
+    }
   where
     go : (s : Sort) (b : Bool) (q : is_sort s ≡ b) → is_sort s ≡ true → Fits s (chosen s b q)
     go s true q e = (some_thing s q).1

@@ -8,3 +8,6 @@ pub mod SameFormulas
 pub mod SortedTerms
 pub mod Environments
 pub mod Plainly
+pub mod Pure
+pub mod FaultPlaces
+pub mod Worked

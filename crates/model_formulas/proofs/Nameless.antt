@@ -17,6 +17,7 @@ raised-with g (sum a b) = λ j. sum (raised-with g a j) (raised-with g b j)
 raised-with g (difference a b) = λ j. difference (raised-with g a j) (raised-with g b j)
 raised-with g (appended a b) = λ j. appended (raised-with g a j) (raised-with g b j)
 
+-- one substitution after another
 abbrev pub then_with : Substitution → Substitution → Substitution
 then_with f g x = term_with g (f x)
 
@@ -35,6 +36,7 @@ term-then f g (sum a b) = λ j. sum (term-then f g a j) (term-then f g b j)
 term-then f g (difference a b) = λ j. difference (term-then f g a j) (term-then f g b j)
 term-then f g (appended a b) = λ j. appended (term-then f g a j) (term-then f g b j)
 
+-- substituting twice is substituting once
 pub formula-then : (p : Formula) (f g : Substitution)
     → formula_with g (formula_with f p) ≡ formula_with (then_with f g) p
 formula-then truth f g = refl
@@ -88,6 +90,7 @@ names-closing xs x y = go (var_eq y x)
     go (yes e) = refl
     go (no n) = raised-with (naming xs) (variable y) ∙ raised-var (names xs y)
 
+-- the walk below some binders is the nameless form with their names bound
 pub walked-names : (p : Named) (xs : List Var) → walked xs p ≡ formula_with (naming xs) (nameless p)
 walked-names truth xs = refl
 walked-names falsity xs = refl
@@ -141,6 +144,7 @@ term-variable (sum a b) = λ j. sum (term-variable a j) (term-variable b j)
 term-variable (difference a b) = λ j. difference (term-variable a j) (term-variable b j)
 term-variable (appended a b) = λ j. appended (term-variable a j) (term-variable b j)
 
+-- each variable for itself leaves the formula
 pub formula-variable : (p : Formula) → formula_with variable p ≡ p
 formula-variable truth = refl
 formula-variable falsity = refl
@@ -177,5 +181,6 @@ formula-variable (same_as a) = λ j. same_as (term-variable a j)
 formula-variable (length_is a) = λ j. length_is (term-variable a j)
 formula-variable (value_meets s a p) = λ j. value_meets s (term-variable a j) (formula-variable p j)
 
+-- so the walk from no binder is the nameless form
 pub walked-nameless : (p : Named) → walked [] p ≡ nameless p
 walked-nameless p = walked-names p [] ∙ formula-variable (nameless p)

@@ -22,7 +22,7 @@ pub plain_end : (d : DataSort) (c : Trees) (q : Formula) (e : Environment) (st :
     → SomeShape (shape d) (λ b. Shaped (shape grove) (fill c b) × SameAt grove g (fill c b)
     × Meets q (joint st e) (shape d) b)
     → (b : Trees) × Shaped (shape d) b × Shaped (shape grove) (fill c b)
-        × SameAt grove g (fill c b) × Meets q (joint st e) (shape d) b
+    × SameAt grove g (fill c b) × Meets q (joint st e) (shape d) b
 plain_end d c q e st g wc m = (b, is-shaped, is-whole, is-same, meets)
   where
     b : Trees

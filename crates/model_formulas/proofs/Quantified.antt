@@ -52,3 +52,7 @@ module _ (x : Var) (p : Formula) (e : Environment) where
 pub met-alike : {M N : Sort → Trees → Type 0} (s : Sort) (r : Trees) → M ≡ N
     → (M s r → N s r) × (N s r → M s r)
 met-alike s r q = (subst (λ z. z s r) q, subst (λ z. z s r) (sym q))
+
+-- what is equal to a fact that holds, holds
+pub moved : {A B : Type 0} → A ≡ B → A → B
+moved q a = subst (λ z. z) q a

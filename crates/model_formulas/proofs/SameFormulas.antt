@@ -10,6 +10,7 @@ use Rattle.model_shapes.specs.Values.{Value, null, nolist, node_number, list_num
 use Rattle.model_formulas.proofs.Nameless.{walked-nameless}
 use Rattle.model_formulas.specs.VariableTests.{false≢true, both_true, same_data_sort-is, same_data_sort-refl, same_sort-is, same_sort-refl, bytes-is, bytes-refl, nat-is, nat-refl, same_var-is, same_var-refl}
 
+-- equal sides
 pub same_side-is : (a b : Side) → same_side a b ≡ true → a ≡ b
 same_side-is whole whole e = refl
 same_side-is hole_left hole_left e = refl
@@ -38,6 +39,7 @@ same_bool-refl : (a : Bool) → same_bool a a ≡ true
 same_bool-refl true = refl
 same_bool-refl false = refl
 
+-- the test of values says that they are equal
 pub same_value-is : (v w : Value) → same_value v w ≡ true → v ≡ w
 same_value-is null null e = refl
 same_value-is nolist nolist e = refl
@@ -48,6 +50,7 @@ same_value-is (node_number a) (node_number b) e = ap node_number (nat-is a b e)
 same_value-is (list_number a) (list_number b) e = ap list_number (nat-is a b e)
 same_value-is v w e = false≢true e
 
+-- and it says so of each value and itself
 pub same_value-refl : (v : Value) → same_value v v ≡ true
 same_value-refl null = refl
 same_value-refl nolist = refl
@@ -57,6 +60,7 @@ same_value-refl (boolean a) = same_bool-refl a
 same_value-refl (node_number a) = nat-refl a
 same_value-refl (list_number a) = nat-refl a
 
+-- the test of terms says that they are equal
 pub term-is : (a b : Term) → same_term a b ≡ true → a ≡ b
 term-is (literal v) (literal w) e = ap literal (same_value-is v w e)
 term-is (variable x) (variable y) e = ap variable (same_var-is x y e)
@@ -79,6 +83,7 @@ term-refl (difference a b) = λ j. term-refl a j && term-refl b j
 term-refl (appended a b) = λ j. term-refl a j && term-refl b j
 
 module _ where
+  -- the test of formulas says that they are equal
   pub same_formula-is : (p q : Formula) → same_formula p q ≡ true → p ≡ q
   same_formula-is truth truth e = refl
   same_formula-is falsity falsity e = refl
@@ -161,6 +166,7 @@ module _ where
   same_formula-is p q e = false≢true e
 
 module _ where
+  -- and it says so of each formula and itself
   pub same_formula-refl : (p : Formula) → same_formula p p ≡ true
   same_formula-refl truth = refl
   same_formula-refl falsity = refl

@@ -1,14 +1,14 @@
 -- A well-sorted term without bound variables stands for a thing of its sort.
-use Rattle.std.proofs.Common.{◌≡◌, sym, refl, ap, ◌∙◌, subst, Bool, true, false, ◌&&◌, inl, inr}
-use Rattle.model_shapes.specs.Sorts.{Sort, value, ValueSort, node_sort, list_sort, int_sort, str_sort, bool_sort, same_value_sort, same_sort, is_sort}
+use Rattle.std.proofs.Common.{◌≡◌, sym, refl, subst, true, ◌&&◌}
+use Rattle.model_shapes.specs.Sorts.{value, ValueSort, int_sort, str_sort, same_value_sort, is_sort}
 use Rattle.model_shapes.specs.Values.{Value, null, nolist, node_number, list_number, int, str, boolean, FitsValue, value_sort}
-use Rattle.model_shapes.specs.Things.{Thing, val, Fits}
+use Rattle.model_shapes.specs.Things.{Fits}
 use Rattle.model_shapes.proofs.Truth.{false≢true, both_true}
 use Rattle.model_formulas.specs.Variables.{Var, prog, logic, bound, var_sort}
 use Rattle.model_formulas.specs.VariableTests.{same_value_sort-is, same_sort-is}
-use Rattle.model_formulas.specs.Terms.{Term, literal, variable, sum, difference, appended, InTerm}
+use Rattle.model_formulas.specs.Terms.{Term, literal, variable, sum, difference, appended}
 use Rattle.model_formulas.specs.WellSorted.{has_sort, is_literal, NamedAlone}
-use Rattle.model_formulas.specs.Satisfaction.{Environment, Proper, meaning_of, number_of, text_of}
+use Rattle.model_formulas.specs.Satisfaction.{Environment, Proper, meaning_of}
 
 -- a literal is of its own sort
 pub literal-fits : (v : Value) → is_literal v ≡ true → FitsValue (value_sort v) v
@@ -34,7 +34,7 @@ pub term-fits : (t : Term) (s : ValueSort) (e : Environment) → Proper e → ha
     → NamedAlone t → Fits (value s) (meaning_of e t)
 term-fits (literal v) s e pr h n =
     let g : (is_literal v ≡ true) × (same_value_sort s (value_sort v) ≡ true) =
-        both_true (is_literal v) (same_value_sort s (value_sort v)) h in
+    both_true (is_literal v) (same_value_sort s (value_sort v)) h in
     subst (λ z. FitsValue z v) (sym (same_value_sort-is s (value_sort v) g.1)) (literal-fits v g.0)
 term-fits (variable x) s e pr h n =
     variable-fits x s e pr (same_sort-is (value s) (var_sort x) h) n

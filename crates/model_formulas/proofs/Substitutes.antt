@@ -12,6 +12,7 @@ use Rattle.model_formulas.specs.Terms.{Term, literal, variable, sum, difference,
 use Rattle.model_formulas.specs.Substitution.{formula_with, FreeIn}
 use Rattle.model_formulas.specs.Satisfaction.{Environment, Meets, Classically, SomeShape, EachShape, SomeThing, EachThing, Splits, choosing, IfNode, IfTrees, meaning_of, number_of, text_of}
 
+-- a term under one more binder means what it meant
 pub raised-meaning : (e : Environment) (v : Thing) (t : Term)
     → meaning_of (choosing v e) (raised t) ≡ meaning_of e t
 raised-meaning e v (literal x) = refl
@@ -29,6 +30,7 @@ raised-meaning e v (appended a b) =
 abbrev pub after : Substitution → Environment → Environment
 after f e x = meaning_of e (f x)
 
+-- what a term means after a substitution
 pub term-with : (f : Substitution) (e : Environment) (t : Term)
     → meaning_of e (term_with f t) ≡ meaning_of (after f e) t
 term-with f e (literal x) = refl
@@ -90,14 +92,14 @@ with-meets (grove_sum_hole p q) f e =
 with-meets (application h k p) f e = λ i s r.
     SomeShape (context h (outer s)) λ c. SomeShape (giving h s) λ d.
     Same s r (fill c d) × with-meets k f e i (context h (outer s)) c
-        × with-meets p f e i (giving h s) d
+    × with-meets p f e i (giving h s) d
 with-meets (hole_adjoint p q) f e = λ i s r.
     EachShape (shape (inner s)) λ d. with-meets p f e i (shape (inner s)) d
-        → Shaped (shape (outer s)) (fill r d)
+    → Shaped (shape (outer s)) (fill r d)
     → with-meets q f e i (shape (outer s)) (fill r d)
 with-meets (context_adjoint k p q) f e = λ i s r.
     EachShape (context (outer s) k) λ c. with-meets p f e i (context (outer s) k) c
-        → Shaped (shape k) (fill c r)
+    → Shaped (shape k) (fill c r)
     → with-meets q f e i (shape k) (fill c r)
 with-meets (same_as a) f e = λ i s r. IfTrees (term-with f e a i) (λ t. Same s r t)
 with-meets (length_is a) f e =
@@ -131,6 +133,7 @@ agree-under p e e' v h (logic x s) m = h (logic x s) m
 agree-under p e e' v h (bound zero s) m = refl
 agree-under p e e' v h (bound (suc i) s) m = h (bound i s) m
 
+-- only free variables count, as an equation of meanings
 pub agrees : (p : Formula) (e e' : Environment) → ((x : Var) → FreeIn x p → e x ≡ e' x)
     → Meets p e ≡ Meets p e'
 agrees truth e e' h = refl
@@ -160,9 +163,9 @@ agrees (bare_hole k) e e' h = refl
 agrees (node_formula n i p l) e e' h = λ j s r.
     IfNode r (λ name number kids list.
     (val (str name) ≡ term-agrees n e e' (λ x m. h x (inl m)) j)
-        × (val (node_number number) ≡ term-agrees i e e' (λ x m. h x (inr (inl m))) j)
+    × (val (node_number number) ≡ term-agrees i e e' (λ x m. h x (inr (inl m))) j)
     × (val (list_number list) ≡ term-agrees l e e' (λ x m. h x (inr (inr (inr m)))) j)
-        × agrees p e e' (λ x m. h x (inr (inr (inl m)))) j (giving forest s) kids)
+    × agrees p e e' (λ x m. h x (inr (inr (inl m)))) j (giving forest s) kids)
 agrees (one_tree p) e e' h = λ i s r. Shaped (giving tree s) r × agrees p e e' h i (giving tree s) r
 agrees (one_root p) e e' h = λ i s r. Shaped (giving tree s) r × agrees p e e' h i (giving tree s) r
 agrees (concatenation side p q) e e' h =
@@ -177,14 +180,14 @@ agrees (grove_sum_hole p q) e e' h =
 agrees (application u k p) e e' h = λ i s r.
     SomeShape (context u (outer s)) λ c. SomeShape (giving u s) λ d.
     Same s r (fill c d) × agrees k e e' (λ x m. h x (inl m)) i (context u (outer s)) c
-        × agrees p e e' (λ x m. h x (inr m)) i (giving u s) d
+    × agrees p e e' (λ x m. h x (inr m)) i (giving u s) d
 agrees (hole_adjoint p q) e e' h = λ i s r.
     EachShape (shape (inner s)) λ d. agrees p e e' (λ x m. h x (inl m)) i (shape (inner s)) d
-        → Shaped (shape (outer s)) (fill r d)
+    → Shaped (shape (outer s)) (fill r d)
     → agrees q e e' (λ x m. h x (inr m)) i (shape (outer s)) (fill r d)
 agrees (context_adjoint k p q) e e' h = λ i s r.
     EachShape (context (outer s) k) λ c.
-        agrees p e e' (λ x m. h x (inl m)) i (context (outer s) k) c → Shaped (shape k) (fill c r)
+    agrees p e e' (λ x m. h x (inl m)) i (context (outer s) k) c → Shaped (shape k) (fill c r)
     → agrees q e e' (λ x m. h x (inr m)) i (shape k) (fill c r)
 agrees (same_as a) e e' h = λ i s r. IfTrees (term-agrees a e e' h i) (λ t. Same s r t)
 agrees (length_is a) e e' h =
@@ -193,14 +196,17 @@ agrees (value_meets u a p) e e' h =
     λ i s r. IfTrees (term-agrees a e e' (λ x m. h x (inl m)) i)
     (λ t. agrees p e e' (λ x m. h x (inr m)) i u t)
 
+-- the same, of one shape or context
 pub meets-agrees : (p : Formula) (e e' : Environment) (s : Sort) (r : Trees)
     → ((x : Var) → FreeIn x p → e x ≡ e' x) → Meets p e s r → Meets p e' s r
 meets-agrees p e e' s r h m = subst (λ M. M s r) (agrees p e e' h) m
 
+-- from the substituted formula to the formula
 pub meets-with : (p : Formula) (f : Substitution) (e : Environment) (s : Sort) (r : Trees)
     → Meets (formula_with f p) e s r → Meets p (after f e) s r
 meets-with p f e s r m = subst (λ M. M s r) (with-meets p f e) m
 
+-- and back
 pub with-meets-back : (p : Formula) (f : Substitution) (e : Environment) (s : Sort) (r : Trees)
     → Meets p (after f e) s r → Meets (formula_with f p) e s r
 with-meets-back p f e s r m = subst (λ M. M s r) (sym (with-meets p f e)) m

@@ -1,10 +1,9 @@
 -- The sorts of formulas: at which sort a formula may be judged, and its first part at fault.
--- Parts are formulas, counted from 0, a formula before its parts; a term at fault is the fault of the
--- formula that has it.
+-- Parts are formulas, counted from 0, a formula before its parts; a term is at fault with its formula.
 use Rattle.std.specs.Prelude.{ℕ, ◌+◌, Bool, true, false, ◌&&◌, ◌||◌, Option, Some, None}
 use Rattle.model_shapes.specs.Sorts.{Sort, value, shape, context, ValueSort, node_sort, list_sort, int_sort, str_sort, bool_sort, DataSort, tree, forest, grove, is_sort, outer, inner, giving, same_value_sort, same_data_sort, same_sort}
 use Rattle.model_shapes.specs.Values.{Value, node_number, list_number, value_sort}
-use Rattle.model_formulas.specs.Variables.{Var, prog, logic, bound, var_sort}
+use Rattle.model_formulas.specs.Variables.{Var, logic, bound, var_sort}
 use Rattle.model_formulas.specs.Terms.{Term, literal, variable, sum, difference, appended}
 use Rattle.model_formulas.specs.Formulas.{Named, Side, whole, hole_left, hole_right, truth, falsity, conjunction, disjunction, implication, negation, existential, universal, equality, at_most, empty, bare_hole, node_formula, one_tree, one_root, concatenation, grove_sum, grove_sum_hole, application, hole_adjoint, context_adjoint, same_as, length_is, value_meets}
 

@@ -3,19 +3,19 @@
 //! each with an empty body. Stands on model_shapes.
 #![tactic(auto)]
 
-ghost use Rattle.std.specs.Prelude.{◌≡◌, ◌↔◌, true, []};
+ghost use Rattle.std.specs.Prelude.{◌≡◌, ◌↔◌, ◌<◌, ℕ, true, [], Some};
 ghost use Rattle.model_shapes.specs.Sorts.{Sort, value, ValueSort};
 ghost use Rattle.model_shapes.specs.Shapes.{Same, Shaped};
 ghost use Rattle.model_shapes.specs.Trees.{Trees};
 ghost use Rattle.model_shapes.specs.Things.{Fits};
 ghost use Rattle.model_formulas.specs.Variables.{Var, var_sort};
 ghost use Rattle.model_formulas.specs.Terms.{Term, variable, Substitution};
-ghost use Rattle.model_formulas.specs.Formulas.{Formula, Named, truth, falsity};
+ghost use Rattle.model_formulas.specs.Formulas.{Formula, Named, truth, falsity, is_pure};
 ghost use Rattle.model_formulas.specs.Substitution.{formula_with, FreeIn, exists, forall, replacing};
 ghost use Rattle.model_formulas.specs.Nameless.{SameFormula, nameless};
 ghost use Rattle.model_formulas.specs.Walked.{walked};
 ghost use Rattle.model_formulas.specs.SameFormulas.{same_formula};
-ghost use Rattle.model_formulas.specs.WellSorted.{is_form, has_sort, NamedAlone};
+ghost use Rattle.model_formulas.specs.WellSorted.{is_form, has_sort, NamedAlone, first_fault, parts};
 ghost use Rattle.model_formulas.specs.Setting.{setting};
 ghost use Rattle.model_formulas.specs.Satisfaction.{Environment, Meets, Entails, Proper, SomeThing, EachThing, Classically, meaning_of};
 
@@ -94,4 +94,15 @@ pub fn a_proper_environment_exists()
 /// At no sort of formulas does truth entail falsity.
 pub fn truth_does_not_entail_falsity()
     ensures { (s : Sort) → is_form s ≡ true → Entails truth falsity s → ⊥ }
+{}
+
+/// A pure formula says the same at every sort and of every shape and context.
+pub fn pure_formulas_ignore_the_shape()
+    ensures { (p : Formula) → is_pure p ≡ true → (e : Environment) (s t : Sort) (r w : Trees)
+        → Meets p e s r → Meets p e t w }
+{}
+
+/// The first part at fault is one of the formula's parts, which are counted from 0.
+pub fn faults_are_at_parts()
+    ensures { (p : Named) (s : Sort) (m : ℕ) → first_fault p s 0 ≡ Some m → m < parts p }
 {}

@@ -1,4 +1,3 @@
-use Rattle.std.proofs.Common.{ap}
 use Rattle.model_formulas.specs.Satisfaction.{Meets}
 use Rattle.model_formulas.proofs.Quantified.{met-alike}
 use Rattle.model_formulas.proofs.same_formulas_have_one_meaning.Goals as goal
