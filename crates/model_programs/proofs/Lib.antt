@@ -5,8 +5,11 @@ pub mod Fine
 pub mod SameRuns
 pub mod Unmodified
 pub mod Blocks
+pub mod NextMoves
 pub mod Picks
 pub mod Worked
 pub mod Plain
-pub mod Changing
+pub mod Starts
+pub mod Unchanged
+pub mod WellFormedTheories
 pub mod InContext

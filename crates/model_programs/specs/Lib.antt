@@ -1,10 +1,17 @@
 pub mod Stores
 pub mod Conditions
 pub mod Commands
+pub mod CommandParts
 pub mod Theories
+pub mod RuleNames
+pub mod FileFaults
 pub mod Sorting
 pub mod Groves
 pub mod Machine
 pub mod Outcomes
+pub mod Changes
+pub mod Behind
+pub mod Fitting
 pub mod LocalTriples
 pub mod Blocks
+pub mod SameMoves

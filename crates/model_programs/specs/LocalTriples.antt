@@ -17,11 +17,11 @@ Ends OnFault OnEnd picked_badly = Unit
 Ends OnFault OnEnd (fault kind) = OnFault
 Ends OnFault OnEnd (ended store g) = OnEnd store g
 
--- The grove is the same as the context with some data in its hole that meets the formula.
+-- The grove is the same as the context, filled with some data of the sort that meets the formula.
 abbrev pub EndsWith : DataSort → Trees → Formula → Environment → Store → Trees → Type 0
 EndsWith d around post e store g =
-    (b : Trees) × Shaped (shape d) b × SameAt grove g (fill around b)
-    × Meets post (joint (lookup store) e) (shape d) b
+    (b : Trees) × Shaped (shape d) b × Shaped (shape grove) (fill around b)
+    × SameAt grove g (fill around b) × Meets post (joint (lookup store) e) (shape d) b
 
 -- `pre P do C post Q at D`: for every choice of the logic variables and every store; for every shape
 -- of the sort that meets P; in every context into which it may be put; and over every list of picks:
