@@ -96,8 +96,8 @@ Splits side s r P Q =
     SomeShape (left_sort side s) λ a. SomeShape (right_sort side s) λ b.
     Same s r (beside a b) × P (left_sort side s) a × Q (right_sort side s) b
 
--- A well-formed shape or context `r` of the sort `s` meets the formula: one case for each row of the
--- language.
+-- A well-formed shape or context `r` of the sort `s` meets the formula: one case for each form of
+-- formula.
 abbrev pub Meets : Formula → Environment → Sort → Trees → Type 0
 Meets truth e s r = Unit {0}
 Meets falsity e s r = ⊥

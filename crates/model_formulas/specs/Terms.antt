@@ -1,5 +1,5 @@
 -- Terms over variables and literals, their sorts, and substitution in them.
--- Node and list numbers are those of PODS 2008; integers, texts and truth values the language's own.
+-- Node and list numbers are those of PODS 2008; integers, texts and truth values our own.
 use Rattle.std.specs.Prelude.{◌≡◌, ◌⊎◌, zero, suc, Bool, true, false}
 use mathlib.Core.HLevel.{Discrete}
 use mathlib.Core.Path.{refl}

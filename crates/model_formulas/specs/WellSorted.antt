@@ -1,5 +1,5 @@
 -- The sorts of formulas: at which sort a formula may be judged, and its first part at fault.
--- Parts are formulas, counted from 0, a formula before its parts; a term is at fault with its formula.
+-- Parts are formulas, counted from 0, a formula before its parts; a term at fault is its formula's.
 use Rattle.std.specs.Prelude.{ℕ, ◌+◌, Bool, true, false, ◌&&◌, ◌||◌, Option, Some, None}
 use Rattle.model_shapes.specs.Sorts.{Sort, value, shape, context, ValueSort, node_sort, list_sort, int_sort, str_sort, bool_sort, DataSort, tree, forest, grove, is_sort, outer, inner, giving, same_value_sort, same_data_sort, same_sort}
 use Rattle.model_shapes.specs.Values.{Value, node_number, list_number, value_sort}
@@ -133,7 +133,7 @@ abbrev pub or_else : Option ℕ → Option ℕ → Option ℕ
 or_else None b = b
 or_else (Some n) b = Some n
 
--- The first part at fault of a formula judged at the sort, where the formula is the part at place n.
+-- The first part at fault of a formula judged at the sort, where the formula is the part at n.
 abbrev pub first_fault : Named → Sort → ℕ → Option ℕ
 first_fault truth s n = own (is_form s) n None
 first_fault falsity s n = own (is_form s) n None

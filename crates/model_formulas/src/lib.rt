@@ -1,6 +1,6 @@
 //! The definitions of variables, terms, formulas, sorts of formulas, substitution, satisfaction and
-//! entailment, with no Rust data. Promises that they say what is meant: their laws are functions here,
-//! each with an empty body. Stands on model_shapes.
+//! entailment, with no Rust data. Promises that they say what is meant: their laws are functions
+//! here, each with an empty body. Stands on model_shapes.
 #![tactic(auto)]
 
 ghost use Rattle.std.specs.Prelude.{◌≡◌, ◌↔◌, ◌<◌, ℕ, true, [], Some};

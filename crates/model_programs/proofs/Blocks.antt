@@ -8,6 +8,7 @@ use Rattle.model_programs.specs.Blocks.{Unended, Followed, not_yet, ended_with}
 use Rattle.model_programs.specs.Machine.{Pick, Piece, run, Move, becomes, faults, bad_pick, move, going_on, runs, pieces_of}
 
 module _ (th : Procedures) where
+  -- by the first step, and then by what it makes of the pieces
   pub followed_by : (ps : List Pick) (k k' : List Piece) (st : Store) (g : Trees)
       → Followed th ps k k' st g
   followed_by ps [] k' st g = ended_with [] ps st g refl refl refl
@@ -44,6 +45,7 @@ module _ (th : Procedures) where
       → runs th (p ∷ ps) (run (block b) ∷ []) st g ≡ runs th ps (pieces_of b) st g
   block-step p ps b st g = ap (λ z. runs th ps z st g) (append-nil (pieces_of b))
 
+  -- a command of a block, and then the others
   pub command-then : (ps : List Pick) (c : Command) (b : Block) (st : Store) (g : Trees)
       → Followed th ps (run c ∷ []) (pieces_of b) st g
   command-then ps c b st g = followed_by ps (run c ∷ []) (pieces_of b) st g

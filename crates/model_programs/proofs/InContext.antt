@@ -8,10 +8,7 @@ use Rattle.model_programs.specs.Stores.{is_yes}
 use Rattle.model_programs.specs.Groves.{nodes_where, has_root, numbered, listed, parental, without, adding}
 use Rattle.model_programs.proofs.Groves.{those-beside, without-beside, adding-beside}
 
-pub tally-yes : (n : ℕ) (d : Dec (n ≡ n)) → is_yes d ≡ true
-tally-yes n (yes e) = refl
-tally-yes n (no m) = absurd (m refl)
-
+-- the same list, so many times
 abbrev pub copies : ℕ → Trees → Trees
 copies zero a = none
 copies (suc n) a = beside a (copies n a)
@@ -28,8 +25,9 @@ module _ (t : ℕ → Trees → ℕ → Bool) (Out : Trees → Type 0) (d : Tree
     (rest-out : (s : List ℕ) (i : ℕ) (k : Trees) (l : ℕ) (r : Trees) → Out (node s i k l r) → Out r)
     (hole-out : (r : Trees) → Out (hole r) → Out r)
     (fails : (s : List ℕ) (i : ℕ) (k : Trees) (l : ℕ) (r : Trees) → Out (node s i k l r)
-        → t i (fill k d) l ≡ false)
+    → t i (fill k d) l ≡ false)
   where
+    -- what is found in a context is found in its piece
     pub those-fill : (c : Trees) → Out c
         → nodes_where t (fill c d) ≡ copies (holes c) (nodes_where t d)
     those-fill none o = refl
@@ -37,16 +35,18 @@ module _ (t : ℕ → Trees → ℕ → Bool) (Out : Trees → Type 0) (d : Tree
         ap (λ b. cond b (node s i (fill k d) l (nodes_where t (fill r d)))
         (beside (nodes_where t (fill k d)) (nodes_where t (fill r d)))) (fails s i k l r o)
         ∙ (λ j. beside (those-fill k (kids-out s i k l r o) j)
-            (those-fill r (rest-out s i k l r o) j))
-            ∙ copies-add (holes k) (holes r) (nodes_where t d)
+        (those-fill r (rest-out s i k l r o) j))
+        ∙ copies-add (holes k) (holes r) (nodes_where t d)
     those-fill (hole r) o =
         those-beside t d (fill r d) ∙ ap (beside (nodes_where t d)) (those-fill r (hole-out r o))
         ∙ ap (λ z. copies z (nodes_where t d))
         (let e : suc (holes r) ≡ 1 + holes r = omega arith in e)
 
+-- once
 pub copies-one : (n : ℕ) (a : Trees) → n ≡ 1 → copies n a ≡ a
 copies-one n a e = ap (λ z. copies z a) e ∙ beside-none a
 
+-- a number that a node doesn't have
 pub not-here : (n i : ℕ) → tally (ℕ_discrete n i) ≡ 0 → is_yes (ℕ_discrete n i) ≡ false
 not-here n i = go (ℕ_discrete n i)
   where
@@ -55,17 +55,19 @@ not-here n i = go (ℕ_discrete n i)
     go (no m) e = refl
 
 module _ (n : ℕ) (d : Trees) where
+  -- a node by its number
   pub numbered-fill : (c : Trees) → node_uses n c ≡ 0 → nodes_where (numbered n) (fill c d)
       ≡ copies (holes c) (nodes_where (numbered n) d)
   numbered-fill = those-fill (numbered n) (λ c. node_uses n c ≡ 0) d
       (λ s i k l r o. omega arith) (λ s i k l r o. omega arith) (λ r o. o)
-          (λ s i k l r o. not-here n i (omega arith))
+      (λ s i k l r o. not-here n i (omega arith))
 
+  -- a node by its list number
   pub listed-fill : (c : Trees) → list_uses n c ≡ 0
       → nodes_where (listed n) (fill c d) ≡ copies (holes c) (nodes_where (listed n) d)
   listed-fill = those-fill (listed n) (λ c. list_uses n c ≡ 0) d
       (λ s i k l r o. omega arith) (λ s i k l r o. omega arith) (λ r o. o)
-          (λ s i k l r o. not-here n l (omega arith))
+      (λ s i k l r o. not-here n l (omega arith))
 
   has_root-beside : (a b : Trees) → has_root n a ≡ false → has_root n b ≡ false
       → has_root n (beside a b) ≡ false
@@ -88,11 +90,12 @@ module _ (n : ℕ) (d : Trees) where
       ∙ has_root-fill h r (omega arith)
   has_root-fill h (hole r) o = has_root-beside d (fill r d) h (has_root-fill h r o)
 
+  -- a node by a child
   pub parental-fill : has_root n d ≡ false → (c : Trees) → node_uses n c ≡ 0
       → nodes_where (parental n) (fill c d) ≡ copies (holes c) (nodes_where (parental n) d)
   parental-fill h = those-fill (parental n) (λ c. node_uses n c ≡ 0) d
       (λ s i k l r o. omega arith) (λ s i k l r o. omega arith) (λ r o. o)
-          (λ s i k l r o. has_root-fill h k (omega arith))
+      (λ s i k l r o. has_root-fill h k (omega arith))
 
   -- a tree of the data is taken out of the data
   pub without-fill : (c : Trees) → node_uses n c ≡ 0 → without n (fill c d) ≡ fill c (without n d)
@@ -125,6 +128,7 @@ without-none n (node s i k l r) o =
     ∙ (λ j. node s i (without-none n k (omega arith) j) l (without-none n r (omega arith) j))
 without-none n (hole r) o = ap hole (without-none n r o)
 
+-- nothing is added to a node that isn't there
 pub adding-none : (n : ℕ) (t a : Trees) → node_uses n a ≡ 0 → adding n t a ≡ a
 adding-none n t none o = refl
 adding-none n t (node s i k l r) o =
@@ -139,6 +143,7 @@ pub context-apart : (n : ℕ) (c d : Trees) → holes c ≡ 1 → WellFormed (fi
 context-apart n c d o w h =
     omega (arith, node_uses-fill n c d, w.nodes_once n, ap (λ z. z * node_uses n d) o)
 
+-- nor any of its list numbers
 pub context-lists-apart : (n : ℕ) (c d : Trees) → holes c ≡ 1 → WellFormed (fill c d)
     → 1 ≤ list_uses n d → list_uses n c ≡ 0
 context-lists-apart n c d o w h =

@@ -7,7 +7,8 @@ pub mod Unmodified
 pub mod Blocks
 pub mod NextMoves
 pub mod Picks
-pub mod Worked
+pub mod WorkedRuns
+pub mod WorkedFiles
 pub mod Plain
 pub mod Starts
 pub mod Unchanged

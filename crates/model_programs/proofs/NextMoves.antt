@@ -33,6 +33,7 @@ above-unlisted n (node s i k l r) h =
     go (yes e) x y = absurd (omega arith)
     go (no m) x y = omega arith
 
+-- the next pick is free
 pub next-free : (g : Trees) → is_free (next_pick g) g ≡ true
 next-free g = λ i. not (positive (above-unused (suc (greatest_node g)) g (omega arith) i))
     && not (positive (above-unlisted (suc (greatest_list g)) g (omega arith) i))
@@ -73,6 +74,7 @@ calling-picks : (o : Option Procedure) (xs : List ProgVar) (es : List Term) (st 
 calling-picks None xs es st g e = cc
 calling-picks (Some f) xs es st g e = cc
 
+-- so no move with it meets a bad one
 pub next-moves : (th : Procedures) (x : Piece) (st : Store) (g : Trees)
     → move th (next_pick g) x st g ≡ bad_pick → ⊥
 next-moves th (run skip) st g e = cc
@@ -86,15 +88,15 @@ next-moves th (return st0 rs xs) st g e = cc
 next-moves th (run (call xs f es)) st g e = calling-picks (procedure_named f th) xs es st g e
 next-moves th (run (create_node x t)) st g e =
     let z : cond true
-        (becomes [] (set x (node_number (next_pick g).node) st)
-        (beside g
-        (node (text_in (value_of st t)) (next_pick g).node none (next_pick g).list none))) bad_pick
-        ≡ bad_pick =
+    (becomes [] (set x (node_number (next_pick g).node) st)
+    (beside g
+    (node (text_in (value_of st t)) (next_pick g).node none (next_pick g).list none))) bad_pick
+    ≡ bad_pick =
     subst (λ b.
-        cond b (becomes [] (set x (node_number (next_pick g).node) st)
-        (beside g
-        (node (text_in (value_of st t)) (next_pick g).node none (next_pick g).list none))) bad_pick
-        ≡ bad_pick) (next-free g) e in (cc)
+    cond b (becomes [] (set x (node_number (next_pick g).node) st)
+    (beside g
+    (node (text_in (value_of st t)) (next_pick g).node none (next_pick g).list none))) bad_pick
+    ≡ bad_pick) (next-free g) e in (cc)
 next-moves th (run (node_name x t)) st g e =
     reading-picks (node_at (value_of st t) g) no_node _ x st g e
 next-moves th (run (child_nodes x t)) st g e =
@@ -108,6 +110,7 @@ next-moves th (run (append_child t u)) st g e =
 next-moves th (run (remove_child t u)) st g e =
     removing-picks (node_at (value_of st t) g) (node_at (value_of st u) g) st g e
 
+-- and no outcome is that of a bad pick
 pub outcome-picks : (limits : Limits) (th : Procedures) (rs : List ProgVar) (fuel taken : ℕ)
     (k : List Piece) (st : Store) (g : Trees) → outcome limits th rs fuel taken k st g ≡ no_pick → ⊥
 outcome-picks limits th rs zero taken [] st g e = cc

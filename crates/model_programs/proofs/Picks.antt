@@ -9,6 +9,7 @@ use Rattle.model_programs.specs.Behind.{Behind}
 use Rattle.model_programs.proofs.NextMoves.{next-moves}
 
 module _ (limits : Limits) (th : Procedures) (rs : List ProgVar) where
+  -- by the fuel
   pub outcome-behind : (fuel taken : ℕ) (k : List Piece) (st : Store) (g : Trees)
       → Behind th rs taken k st g (outcome limits th rs fuel taken k st g)
   outcome-behind zero taken [] st g = ([], st, omega arith, refl, refl)
@@ -35,7 +36,7 @@ module _ (limits : Limits) (th : Procedures) (rs : List ProgVar) where
           → ((k' : List Piece) (st' : Store) (g' : Trees)
           → Behind th rs (suc taken) k' st' g' (outcome limits th rs fuel (suc taken) k' st' g'))
           → Behind th rs taken (x ∷ k) st g
-              (within l (on_move (outcome limits th rs fuel (suc taken)) taken x k m))
+          (within l (on_move (outcome limits th rs fuel (suc taken)) taken x k m))
       go (Some l) m e rec = tt
       go None (faults f) e rec = (next_pick g ∷ [], omega arith, ap (going_on (runs th []) k) e)
       go None bad_pick e rec = next-moves th x st g e

@@ -1,4 +1,4 @@
--- Where a triple is proved with "some data" read classically, it holds with "some data" read plainly.
+-- A triple that is proved with "some data" read classically holds with it read plainly.
 use Rattle.std.proofs.Common.{[], ◌∷◌}
 use Rattle.model_shapes.specs.Trees.{Trees, fill}
 use Rattle.model_shapes.specs.Sorts.{shape, context, DataSort, grove}

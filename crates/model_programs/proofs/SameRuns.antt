@@ -58,7 +58,7 @@ module _ (g g' : Trees) (same : SameAt grove g g') (w : WellFormed g) where
   same-reading : (a : Trees) (f : FaultKind) (v v' : List ℕ → ℕ → Trees → ℕ → Value) (x : ProgVar)
       (st : Store)
       → ((s : List ℕ) (i : ℕ) (k : Trees) (l : ℕ) → v s i k l ≡ v' s i k l)
-          → SameMove (reading a f v x st g) (reading a f v' x st g')
+      → SameMove (reading a f v x st g) (reading a f v' x st g')
   same-reading none f v v' x st e = refl
   same-reading (hole r) f v v' x st e = refl
   same-reading (node s i k l r) f v v' x st e = (refl, ap (λ z. set x z st) (e s i k l), same)
@@ -116,10 +116,12 @@ module _ (g g' : Trees) (same : SameAt grove g g') (w : WellFormed g) where
           (beside g (node s p.node none p.list none))) bad_pick)
           (cond c (becomes [] (set x (node_number p.node) st)
           (beside g' (node s p.node none p.list none))) bad_pick)
-      go true =
-          (refl, refl,
-          SameAt-beside grove g (node s p.node none p.list none) g'
-          (node s p.node none p.list none) same (λ t. refl))
+      go true = (
+        refl,
+        refl,
+        SameAt-beside grove g (node s p.node none p.list none) g'
+            (node s p.node none p.list none) same (λ t. refl),
+      )
       go false = tt
 
   same-calling : (o : Option Procedure) (xs : List ProgVar) (es : List Term) (st : Store)
@@ -127,6 +129,7 @@ module _ (g g' : Trees) (same : SameAt grove g g') (w : WellFormed g) where
   same-calling None xs es st = (refl, refl, same)
   same-calling (Some f) xs es st = (refl, refl, same)
 
+  -- one step does the same on the same groves
   pub same-move : (th : Procedures) (p : Pick) (x : Piece) (st : Store)
       → SameMove (move th p x st g) (move th p x st g')
   same-move th p (run skip) st = (refl, refl, same)
@@ -143,13 +146,13 @@ module _ (g g' : Trees) (same : SameAt grove g g') (w : WellFormed g) where
       subst (λ z. SameMove (reading (node_at (value_of st e) g) no_node (λ s i k l. str s) x st g)
       (reading z no_node (λ s i k l. str s) x st g')) (same-node_at (value_of st e))
       (same-reading (node_at (value_of st e) g) no_node (λ s i k l. str s) (λ s i k l. str s) x st
-          (λ s i k l. refl))
+      (λ s i k l. refl))
   same-move th p (run (child_nodes x e)) st =
       subst (λ z.
       SameMove (reading (node_at (value_of st e) g) no_node (λ s i k l. list_number l) x st g)
       (reading z no_node (λ s i k l. list_number l) x st g')) (same-node_at (value_of st e))
       (same-reading (node_at (value_of st e) g) no_node (λ s i k l. list_number l)
-          (λ s i k l. list_number l) x st (λ s i k l. refl))
+      (λ s i k l. list_number l) x st (λ s i k l. refl))
   same-move th p (run (parent_node x e)) st =
       subst (λ z.
       SameMove
@@ -158,8 +161,8 @@ module _ (g g' : Trees) (same : SameAt grove g g') (w : WellFormed g) where
       (reading z no_node (λ s i k l. first_number (nodes_where (parental i) g')) x st g'))
       (same-node_at (value_of st e))
       (same-reading (node_at (value_of st e) g) no_node
-          (λ s i k l. first_number (nodes_where (parental i) g))
-          (λ s i k l. first_number (nodes_where (parental i) g')) x st (λ s i k l. same-parent i))
+      (λ s i k l. first_number (nodes_where (parental i) g))
+      (λ s i k l. first_number (nodes_where (parental i) g')) x st (λ s i k l. same-parent i))
   same-move th p (run (list_item x e f)) st =
       subst (λ z.
       SameMove
@@ -167,19 +170,19 @@ module _ (g g' : Trees) (same : SameAt grove g g') (w : WellFormed g) where
       (reading z no_list (λ s i k l. item_of (value_of st f) k) x st g'))
       (same-list_at (value_of st e))
       (same-reading (list_at (value_of st e) g) no_list (λ s i k l. item_of (value_of st f) k)
-          (λ s i k l. item_of (value_of st f) k) x st (λ s i k l. refl))
+      (λ s i k l. item_of (value_of st f) k) x st (λ s i k l. refl))
   same-move th p (run (append_child e f)) st =
       subst (λ z. SameMove (appending (node_at (value_of st e) g) (node_at (value_of st f) g) st g)
       (appending z (node_at (value_of st f) g') st g')) (same-node_at (value_of st e))
       (subst (λ z.
-          SameMove (appending (node_at (value_of st e) g) (node_at (value_of st f) g) st g)
-          (appending (node_at (value_of st e) g) z st g')) (same-node_at (value_of st f))
+      SameMove (appending (node_at (value_of st e) g) (node_at (value_of st f) g) st g)
+      (appending (node_at (value_of st e) g) z st g')) (same-node_at (value_of st f))
       (same-appending (node_at (value_of st e) g) (node_at (value_of st f) g) st))
   same-move th p (run (remove_child e f)) st =
       subst (λ z. SameMove (removing (node_at (value_of st e) g) (node_at (value_of st f) g) st g)
       (removing z (node_at (value_of st f) g') st g')) (same-node_at (value_of st e))
       (subst (λ z. SameMove (removing (node_at (value_of st e) g) (node_at (value_of st f) g) st g)
-          (removing (node_at (value_of st e) g) z st g')) (same-node_at (value_of st f))
+      (removing (node_at (value_of st e) g) z st g')) (same-node_at (value_of st f))
       (same-removing (node_at (value_of st e) g) (node_at (value_of st f) g) st))
 
 module _ (th : Procedures) (bodies : BodiesSorted th) where
@@ -196,12 +199,12 @@ module _ (th : Procedures) (bodies : BodiesSorted th) where
     where
       go : (m m' : Move) → SameMove m m' → FineMove th m
           → ((k' : List Piece) (st' : Store) (h h' : Trees) → FitPieces th k' → Fine st' h
-              → SameAt grove h h' → SameOutcome (runs th ps k' st' h) (runs th ps k' st' h'))
+          → SameAt grove h h' → SameOutcome (runs th ps k' st' h) (runs th ps k' st' h'))
           → SameOutcome (going_on (runs th ps) k m) (going_on (runs th ps) k m')
       go (becomes ys st1 g1) (becomes ys' st2 g2) e f rec =
           subst (λ z. SameOutcome (runs th ps (ys ++ k) st1 g1) (runs th ps (z ++ k) st2 g2)) e.0
           (subst (λ z. SameOutcome (runs th ps (ys ++ k) st1 g1) (runs th ps (ys ++ k) z g2)) e.1
-              (rec (ys ++ k) st1 g1 g2 (all-fine th ys k f.0 a.1) f.1 e.2))
+          (rec (ys ++ k) st1 g1 g2 (all-fine th ys k f.0 a.1) f.1 e.2))
       go (faults x) (faults y) e f rec = e
       go bad_pick bad_pick e f rec = tt
       go (becomes ys st1 g1) (faults y) e f rec = absurd e

@@ -2,6 +2,7 @@
 use Rattle.std.proofs.Common.{◌≡◌, ◌≢◌, ◌⊎◌, ◌++◌, ◌+ℤ◌, ◌-ℤ◌, int_le, Bool, true, false, cond, not, ◌&&◌, ◌||◌, sym, refl, ap, ◌∙◌, subst, inl, inr, ⊎_elim, IsTrue}
 use Rattle.model_shapes.specs.Sorts.{Sort, ValueSort, node_sort, list_sort, int_sort, str_sort, bool_sort}
 use Rattle.model_shapes.specs.Values.{Value, null, nolist, node_number, list_number, int, str, boolean, FitsValue}
+use Rattle.model_shapes.proofs.Truth.{both_true}
 use Rattle.model_shapes.specs.Things.{val}
 use Rattle.model_shapes.specs.Trees.{Trees}
 use Rattle.model_formulas.specs.Variables.{prog, logic, bound}
@@ -15,21 +16,26 @@ use Rattle.model_formulas.specs.Satisfaction.{joint}
 use Rattle.model_programs.specs.Stores.{ProgVar, named, as_var, sort_of, is_yes, default, Store, unset, holding, same_name, value_in, set, lookup, ProperStore, int_in, text_in, value_of, Computes}
 use Rattle.model_programs.specs.Conditions.{Cond, cond_true, cond_false, cond_variable, cond_equal, cond_at_most, cond_not, cond_and, cond_or, truth_in, truth_of, formula_of, Tests}
 
+-- a decision that says yes
 pub is-yes : {A : Type 0} (d : Dec A) → is_yes d ≡ true → A
 is-yes (yes a) e = a
 is-yes (no n) e = absurd (cc)
 
+-- and one of a fact that holds
 pub yes-is : {A : Type 0} (d : Dec A) → A → is_yes d ≡ true
 yes-is (yes a) x = refl
 yes-is (no n) x = absurd (n x)
 
+-- the test of program variables says that they are equal
 pub same_name-is : (x y : ProgVar) → same_name x y ≡ true → x ≡ y
 same_name-is (named x s) (named y u) e = let q : prog x s ≡ prog y u =
     same_var-is (prog x s) (prog y u) e in (cc)
 
+-- and it says so of each and itself
 pub same_name-refl : (x : ProgVar) → same_name x x ≡ true
 same_name-refl x = same_var-refl (as_var x)
 
+-- and it denies it of different ones
 pub same_name-not : (x y : ProgVar) → x ≢ y → same_name x y ≡ false
 same_name-not x y n = go (same_name x y) refl
   where
@@ -37,6 +43,7 @@ same_name-not x y n = go (same_name x y) refl
     go true e = absurd (n (same_name-is x y e))
     go false e = e
 
+-- what a store gives after one variable is set
 pub value_in-set : (x : ProgVar) (v : Value) (st : Store) (y : ProgVar)
     → value_in (set x v st) y ≡ cond (same_name y x) v (value_in st y)
 value_in-set x v unset y = refl
@@ -56,7 +63,7 @@ value_in-set x v (holding z w st) y = go (same_name x z) refl (value_in-set x v 
     go : (b : Bool) → same_name x z ≡ b
         → value_in (set x v st) y ≡ cond (same_name y x) v (value_in st y)
         → value_in (cond b (holding z v st) (holding z w (set x v st))) y
-            ≡ cond (same_name y x) v (cond (same_name y z) w (value_in st y))
+        ≡ cond (same_name y x) v (cond (same_name y z) w (value_in st y))
     go true e ih =
         subst (λ q. cond (same_name y z) v (value_in st y)
         ≡ cond (same_name y q) v (cond (same_name y z) w (value_in st y)))
@@ -70,9 +77,11 @@ value_in-set x v (holding z w st) y = go (same_name x z) refl (value_in-set x v 
             subst (λ r. same_name r z ≡ true) q
             (subst (λ r. same_name y r ≡ true) p (same_name-refl y)) in (cc)
 
+-- that variable
 pub set-same : (x : ProgVar) (v : Value) (st : Store) → value_in (set x v st) x ≡ v
 set-same x v st = value_in-set x v st x ∙ ap (λ b. cond b v (value_in st x)) (same_name-refl x)
 
+-- another variable
 pub set-other : (x : ProgVar) (v : Value) (st : Store) (y : ProgVar) → y ≢ x
     → value_in (set x v st) y ≡ value_in st y
 set-other x v st y n =
@@ -88,6 +97,7 @@ value_in-decided x v st y =
     go (yes q) = subst (λ z. same_var (as_var y) z ≡ true) q (same_var-refl (as_var y))
     go (no n) = same_name-not y x (λ q. n (ap as_var q))
 
+-- a default is of its sort
 pub default-fits : (s : ValueSort) → FitsValue s (default s)
 default-fits node_sort = tt
 default-fits list_sort = tt
@@ -95,30 +105,37 @@ default-fits int_sort = tt
 default-fits str_sort = tt
 default-fits bool_sort = tt
 
+-- the empty store is proper
 pub unset-proper : ProperStore unset
 unset-proper = record { fits = λ x. default-fits (sort_of x) }
 
+-- a store stays proper with a value that fits
 pub set-proper : (x : ProgVar) (v : Value) (st : Store) → FitsValue (sort_of x) v → ProperStore st
     → ProperStore (set x v st)
 set-proper x v st f p =
-    record { fits = λ y. subst (FitsValue (sort_of y)) (sym (value_in-set x v st y))
-    (go y (same_name y x) refl) }
+    record {
+      fits = λ y. subst (FitsValue (sort_of y)) (sym (value_in-set x v st y))
+          (go y (same_name y x) refl);
+    }
   where
     go : (y : ProgVar) (b : Bool) → same_name y x ≡ b
         → FitsValue (sort_of y) (cond b v (value_in st y))
     go y true e = subst (λ z. FitsValue (sort_of z) v) (sym (same_name-is y x e)) f
     go y false e = p.fits y
 
+-- a proper store and a proper environment are one together
 pub joint-proper : (st : Store) (e : Environment) → ProperStore st → Proper e
     → Proper (joint (lookup st) e)
 joint-proper st e p pr = record { programs = λ x s. p.fits (named x s); logics = pr.logics }
 
+-- and the store of one together is proper
 pub proper-store : (st : Store) (e : Environment) → Proper (joint (lookup st) e) → ProperStore st
 proper-store st e pr = record { fits = λ y. go y }
   where
     go : (y : ProgVar) → FitsValue (sort_of y) (value_in st y)
     go (named x s) = pr.programs x s
 
+-- one proper store may stand for another
 pub other-store : (st st' : Store) (e : Environment) → Proper (joint (lookup st) e)
     → ProperStore st' → Proper (joint (lookup st') e)
 other-store st st' e pr p = record { programs = λ x s. p.fits (named x s); logics = pr.logics }
@@ -155,6 +172,7 @@ text-val (int z) = refl
 text-val (str s) = refl
 text-val (boolean b) = refl
 
+-- a term stands for its value
 pub meaning-value : (s : ValueSort) (t : Term) (st : Store) (e : Environment) → Computes s t
     → meaning_of (joint (lookup st) e) t ≡ val (value_of st t)
 meaning-value s (literal v) st e c = refl
@@ -199,10 +217,6 @@ truth-out v e q = let h : truth_in (boolean true) ≡ false = subst (λ z. truth
 val-is : (v w : Value) → val v ≡ val w → v ≡ w
 val-is v w e = cc
 
-pub both-true : (a b : Bool) → (a && b) ≡ true → (a ≡ true) × (b ≡ true)
-both-true true b e = (refl, e)
-both-true false b e = absurd (cc)
-
 both-false : (a b : Bool) → (a && b) ≡ false → (a ≡ false) ⊎ (b ≡ false)
 both-false true b e = inr e
 both-false false b e = inl refl
@@ -216,10 +230,12 @@ either-false : (a b : Bool) → (a || b) ≡ false → (a ≡ false) × (b ≡ f
 either-false true b e = absurd (cc)
 either-false false b e = (refl, e)
 
+-- a denied test is false
 pub not-true : (a : Bool) → not a ≡ true → a ≡ false
 not-true true e = absurd (cc)
 not-true false e = refl
 
+-- and a test that isn't denied is true
 pub not-false : (a : Bool) → not a ≡ false → a ≡ true
 not-false true e = refl
 not-false false e = absurd (cc)
@@ -232,6 +248,7 @@ different : (v w : Value) → same_value v w ≡ false → v ≡ w → ⊥
 different v w h e = let z : same_value v w ≡ true =
     subst (λ u. same_value v u ≡ true) e (same_value-refl v) in (cc)
 
+-- a variable stands for its value
 pub set-meaning : (x : ProgVar) (st : Store) (e : Environment)
     → meaning_of (joint (lookup st) e) (variable (as_var x)) ≡ val (value_in st x)
 set-meaning (named x s) st e = refl
@@ -254,13 +271,15 @@ module _ (st : Store) (e : Environment) (p : ProperStore st) (s : Sort) (r : Tre
         (sym (number-value a st e t.0))
         (subst (λ z. IsTrue (int_le (int_in (value_of st a)) z)) (sym (number-value b st e t.1)) h)
     true-meets (cond_not c) t h = λ m. false-fails c t (not-true (truth_of st c) h) m
-    true-meets (cond_and c d) t h =
-        (true-meets c t.0 (both-true (truth_of st c) (truth_of st d) h).0,
-        true-meets d t.1 (both-true (truth_of st c) (truth_of st d) h).1)
+    true-meets (cond_and c d) t h = (
+      true-meets c t.0 (both_true (truth_of st c) (truth_of st d) h).0,
+      true-meets d t.1 (both_true (truth_of st c) (truth_of st d) h).1,
+    )
     true-meets (cond_or c d) t h =
         λ k. ⊎_elim (λ x. k (inl (true-meets c t.0 x))) (λ x. k (inr (true-meets d t.1 x)))
         (either-true (truth_of st c) (truth_of st d) h)
 
+    -- a condition that is false
     pub false-fails : (c : Cond) → Tests c → truth_of st c ≡ false
         → Meets (formula_of c) (joint (lookup st) e) s r → ⊥
     false-fails cond_true t h m = cc

@@ -16,9 +16,11 @@ use Rattle.model_programs.proofs.Runs.{Well, WellOn, at_end, at_step, at_zero, f
 abbrev Any : Store → Trees → Type 0
 Any st g = Unit
 
+-- the variable has the value
 abbrev pub Has : ProgVar → Value → Store → Trees → Type 0
 Has x v st g = value_in st x ≡ v
 
+-- a return leaves what takes no result
 pub returning-other : (rs xs : List ProgVar) (callee st : Store) (y : ProgVar) → (Among xs y → ⊥)
     → value_in (returning rs xs callee st) y ≡ value_in st y
 returning-other [] [] callee st y n = refl
@@ -121,31 +123,31 @@ module _ (th : Procedures) where
     keeps-calling n (Some f) xs es st g m h =
         followed th Unit n Any (Has x v) (run f.body ∷ []) (return st f.results xs ∷ [])
         (λ st' g' a. last-piece n (return st f.results xs) st' g' (returning f.results xs st' st)
-            (λ p. refl) (returning-other f.results xs st' st x m ∙ h))
+        (λ p. refl) (returning-other f.results xs st' st x m ∙ h))
         (entering f.params es st) g (any-well n (run f.body ∷ []) (entering f.params es st) g)
 
     keeps-local : (n : ℕ) → Keeps n → (y : ProgVar) (b : Block) → ((x ≢ y) × BlockModifies b x → ⊥)
         → (st : Store) (g : Trees) → value_in st x ≡ v
         → (t : Bool) → same_name x y ≡ t
-            → Well th Unit n (Has x v) (run (block b) ∷ restore y (value_in st y) ∷ [])
-            (set y (default (sort_of y)) st) g
+        → Well th Unit n (Has x v) (run (block b) ∷ restore y (value_in st y) ∷ [])
+        (set y (default (sort_of y)) st) g
     keeps-local n k y b m st g h true e =
         followed th Unit n Any (Has x v) (run (block b) ∷ []) (restore y (value_in st y) ∷ [])
         (λ st' g' a. last-piece n (restore y (value_in st y)) st' g' (set y (value_in st y) st')
-            (λ p. refl)
+        (λ p. refl)
         (subst (λ z. value_in (set y (value_in st y) st') z ≡ v) (sym (same_name-is x y e))
-            (set-same y (value_in st y) st'
-            ∙ subst (λ z. value_in st z ≡ v) (same_name-is x y e) h)))
+        (set-same y (value_in st y) st'
+        ∙ subst (λ z. value_in st z ≡ v) (same_name-is x y e) h)))
         (set y (default (sort_of y)) st) g
-            (any-well n (run (block b) ∷ []) (set y (default (sort_of y)) st) g)
+        (any-well n (run (block b) ∷ []) (set y (default (sort_of y)) st) g)
     keeps-local n k y b m st g h false e =
         let other : x ≢ y = λ q. differ q in
         followed th Unit n (Has x v) (Has x v) (run (block b) ∷ []) (restore y (value_in st y) ∷ [])
         (λ st' g' h'. last-piece n (restore y (value_in st y)) st' g' (set y (value_in st y) st')
-            (λ p. refl) (set-other y (value_in st y) st' x other ∙ h'))
+        (λ p. refl) (set-other y (value_in st y) st' x other ∙ h'))
         (set y (default (sort_of y)) st) g
-            (k (block b) (λ z. m (other, z)) (set y (default (sort_of y)) st) g
-            (set-other y (default (sort_of y)) st x other ∙ h))
+        (k (block b) (λ z. m (other, z)) (set y (default (sort_of y)) st) g
+        (set-other y (default (sort_of y)) st x other ∙ h))
       where
         differ : x ≡ y → ⊥
         differ q = let z : same_name x y ≡ true =
@@ -191,6 +193,7 @@ module _ (th : Procedures) where
     keeps-on n k (local y b) m st g h p = keeps-local n k y b m st g h (same_name x y) refl
     keeps-on n k (call xs f es) m st g h p = keeps-calling n (procedure_named f th) xs es st g m h
 
+    -- by the number of steps
     pub keeps : (n : ℕ) → Keeps n
     keeps zero c m st g h = at_zero th Unit (Has x v) (run c) [] st g
     keeps (suc n) c m st g h =

@@ -27,7 +27,7 @@ all-append : {A : Type 0} (p : A → Bool) (xs ys : List A) → list_all p (xs +
 all-append p [] ys e = (refl, e)
 all-append p (x ∷ xs) ys e =
     let h : (p x ≡ true) × (list_all p (xs ++ ys) ≡ true) =
-        both_true (p x) (list_all p (xs ++ ys)) e in
+    both_true (p x) (list_all p (xs ++ ys)) e in
     let r : (list_all p xs ≡ true) × (list_all p ys ≡ true) = all-append p xs ys h.1 in
     ((λ j. h.0 j && r.0 j), r.1)
 
@@ -54,12 +54,12 @@ parts-compute : (a b : Term) (s u : ValueSort)
     → (s ≡ u) × Computes u a × Computes u b
 parts-compute a b s u left right h p =
     let g : (same_value_sort s u ≡ true) × ((has_sort u a && has_sort u b) ≡ true) =
-        both_true (same_value_sort s u) (has_sort u a && has_sort u b) h in
+    both_true (same_value_sort s u) (has_sort u a && has_sort u b) h in
     let k : (has_sort u a ≡ true) × (has_sort u b ≡ true) =
-        both_true (has_sort u a) (has_sort u b) g.1 in
+    both_true (has_sort u a) (has_sort u b) g.1 in
     let q : (list_all is_program (variables_of_term a) ≡ true)
-        × (list_all is_program (variables_of_term b) ≡ true) =
-        all-append is_program (variables_of_term a) (variables_of_term b) p in
+    × (list_all is_program (variables_of_term b) ≡ true) =
+    all-append is_program (variables_of_term a) (variables_of_term b) p in
     (same_value_sort-is s u g.0, left k.0 q.0, right k.1 q.1)
 
 -- a well-sorted term without logic variables computes
@@ -67,7 +67,7 @@ computes : (t : Term) (s : ValueSort) → has_sort s t ≡ true
     → list_all is_program (variables_of_term t) ≡ true → Computes s t
 computes (literal v) s h p =
     let g : (is_literal v ≡ true) × (same_value_sort s (value_sort v) ≡ true) =
-        both_true (is_literal v) (same_value_sort s (value_sort v)) h in
+    both_true (is_literal v) (same_value_sort s (value_sort v)) h in
     subst (λ z. FitsValue z v) (sym (same_value_sort-is s (value_sort v) g.1)) (literal-fits v g.0)
 computes (variable (prog x u)) s h p = sym (same_value_sort-is s u h)
 computes (variable (logic x u)) s h p = false≢true p
@@ -90,7 +90,7 @@ both-compute : (s : ValueSort) (a b : Term) → both_have s a b ≡ true → is_
     → is_plain b ≡ true → (u : ValueSort) × Computes u a × Computes u b
 both-compute s a b h p q =
     let g : (has_sort s a ≡ true) × (has_sort s b ≡ true) =
-        both_true (has_sort s a) (has_sort s b) h in
+    both_true (has_sort s a) (has_sort s b) h in
     (s, computes a s g.0 p, computes b s g.1 q)
 
 -- two variables of a data or context sort are no program variables
@@ -150,21 +150,21 @@ condition-tests cond_false e = tt
 condition-tests (cond_variable x) e = same_value_sort-is (sort_of x) bool_sort e
 condition-tests (cond_equal a b) e =
     let h : (one_sort a b ≡ true) × ((is_plain a && is_plain b) ≡ true) =
-        both_true (one_sort a b) (is_plain a && is_plain b) e in
+    both_true (one_sort a b) (is_plain a && is_plain b) e in
     let g : (is_plain a ≡ true) × (is_plain b ≡ true) = both_true (is_plain a) (is_plain b) h.1 in
     one-sort-computes a b h.0 g.0 g.1
 condition-tests (cond_at_most a b) e =
     let h : (evaluates int_sort a ≡ true) × (evaluates int_sort b ≡ true) =
-        both_true (evaluates int_sort a) (evaluates int_sort b) e in
+    both_true (evaluates int_sort a) (evaluates int_sort b) e in
     (evaluates-computes int_sort a h.0, evaluates-computes int_sort b h.1)
 condition-tests (cond_not c) e = condition-tests c e
 condition-tests (cond_and c d) e =
     let h : (condition_sorted c ≡ true) × (condition_sorted d ≡ true) =
-        both_true (condition_sorted c) (condition_sorted d) e in
+    both_true (condition_sorted c) (condition_sorted d) e in
     (condition-tests c h.0, condition-tests d h.1)
 condition-tests (cond_or c d) e =
     let h : (condition_sorted c ≡ true) × (condition_sorted d ≡ true) =
-        both_true (condition_sorted c) (condition_sorted d) e in
+    both_true (condition_sorted c) (condition_sorted d) e in
     (condition-tests c h.0, condition-tests d h.1)
 
 -- CALLS
@@ -172,7 +172,7 @@ feeds-fed : (xs : List ProgVar) (es : List Term) → feeds xs es ≡ true → Fe
 feeds-fed [] [] e = tt
 feeds-fed (x ∷ xs) (t ∷ ts) e =
     let h : (evaluates (sort_of x) t ≡ true) × (feeds xs ts ≡ true) =
-        both_true (evaluates (sort_of x) t) (feeds xs ts) e in
+    both_true (evaluates (sort_of x) t) (feeds xs ts) e in
     (evaluates-computes (sort_of x) t h.0, feeds-fed xs ts h.1)
 feeds-fed [] (t ∷ ts) e = false≢true e
 feeds-fed (x ∷ xs) [] e = false≢true e
@@ -181,7 +181,7 @@ receives-received : (rs xs : List ProgVar) → receives rs xs ≡ true → Recei
 receives-received [] [] e = tt
 receives-received (r ∷ rs) (x ∷ xs) e =
     let h : (same_value_sort (sort_of r) (sort_of x) ≡ true) × (receives rs xs ≡ true) =
-        both_true (same_value_sort (sort_of r) (sort_of x)) (receives rs xs) e in
+    both_true (same_value_sort (sort_of r) (sort_of x)) (receives rs xs) e in
     (same_value_sort-is (sort_of r) (sort_of x) h.0, receives-received rs xs h.1)
 receives-received [] (x ∷ xs) e = false≢true e
 receives-received (r ∷ rs) [] e = false≢true e
@@ -198,7 +198,7 @@ apart-distinct : (xs : List ProgVar) → all_apart xs ≡ true → Distinct xs
 apart-distinct [] e = tt
 apart-distinct (x ∷ xs) e =
     let h : (not (is_among xs x) ≡ true) × (all_apart xs ≡ true) =
-        both_true (not (is_among xs x)) (all_apart xs) e in
+    both_true (not (is_among xs x)) (all_apart xs) e in
     ((λ m. not-false (is_among xs x) h.0 (among-test xs x m)), apart-distinct xs h.1)
 
 -- a variable that stands in one of two lists
@@ -273,7 +273,7 @@ module _ (th : Procedures) where
   call-fits None results arguments k e = false≢true k
   call-fits (Some f) results arguments k e =
       let h : (feeds f.params arguments ≡ true) × (receives f.results results ≡ true) =
-          both_true (feeds f.params arguments) (receives f.results results) e in
+      both_true (feeds f.params arguments) (receives f.results results) e in
       (feeds-fed f.params arguments h.0, receives-received f.results results h.1)
 
   -- each of these commands passes the three tests
@@ -320,14 +320,14 @@ module _ (th : Procedures) where
       → (same_value_sort (sort_of x) s && evaluates u t) ≡ true → (sort_of x ≡ s) × Computes u t
   target-and x s u t e =
       let h : (same_value_sort (sort_of x) s ≡ true) × (evaluates u t ≡ true) =
-          both_true (same_value_sort (sort_of x) s) (evaluates u t) e in
+      both_true (same_value_sort (sort_of x) s) (evaluates u t) e in
       (same_value_sort-is (sort_of x) s h.0, evaluates-computes u t h.1)
 
   two-evaluate : (s u : ValueSort) (a b : Term) → (evaluates s a && evaluates u b) ≡ true
       → Computes s a × Computes u b
   two-evaluate s u a b e =
       let h : (evaluates s a ≡ true) × (evaluates u b ≡ true) =
-          both_true (evaluates s a) (evaluates u b) e in
+      both_true (evaluates s a) (evaluates u b) e in
       (evaluates-computes s a h.0, evaluates-computes u b h.1)
 
   mutual
@@ -346,12 +346,12 @@ module _ (th : Procedures) where
         target-and x node_sort node_sort e (first-checked (parent_node x e) [] k).fitting
     sorted-command (list_item x e f) k =
         let h : (same_value_sort (sort_of x) node_sort ≡ true)
-            × ((evaluates list_sort e && evaluates int_sort f) ≡ true) =
-            both_true (same_value_sort (sort_of x) node_sort)
-            (evaluates list_sort e && evaluates int_sort f)
-            (first-checked (list_item x e f) [] k).fitting in
+        × ((evaluates list_sort e && evaluates int_sort f) ≡ true) =
+        both_true (same_value_sort (sort_of x) node_sort)
+        (evaluates list_sort e && evaluates int_sort f)
+        (first-checked (list_item x e f) [] k).fitting in
         let g : Computes list_sort e × Computes int_sort f =
-            two-evaluate list_sort int_sort e f h.1 in
+        two-evaluate list_sort int_sort e f h.1 in
         (same_value_sort-is (sort_of x) node_sort h.0, g.0, g.1)
     sorted-command (append_child e f) k =
         two-evaluate node_sort node_sort e f (first-checked (append_child e f) [] k).fitting
@@ -359,34 +359,39 @@ module _ (th : Procedures) where
         two-evaluate node_sort node_sort e f (first-checked (remove_child e f) [] k).fitting
     sorted-command (if_else c a b) k =
         let r : Checked (commands_of a ++ commands_of b) =
-            rest-checked (if_else c a b) (commands_of a ++ commands_of b) k in
-        (condition-tests c (both_true (condition_sorted c) (has_command a && has_command b)
-        (first-checked (if_else c a b) (commands_of a ++ commands_of b) k).fitting).0,
-        sorted-block a (left-checked (commands_of a) (commands_of b) r),
-        sorted-block b (right-checked (commands_of a) (commands_of b) r))
-    sorted-command (while_do c b) k =
-        (condition-tests c (both_true (condition_sorted c) (has_command b)
-        (first-checked (while_do c b) (commands_of b) k).fitting).0,
-        sorted-block b (rest-checked (while_do c b) (commands_of b) k))
+        rest-checked (if_else c a b) (commands_of a ++ commands_of b) k in (
+          condition-tests c (both_true (condition_sorted c) (has_command a && has_command b)
+              (first-checked (if_else c a b) (commands_of a ++ commands_of b) k).fitting).0,
+          sorted-block a (left-checked (commands_of a) (commands_of b) r),
+          sorted-block b (right-checked (commands_of a) (commands_of b) r),
+        )
+    sorted-command (while_do c b) k = (
+      condition-tests c (both_true (condition_sorted c) (has_command b)
+          (first-checked (while_do c b) (commands_of b) k).fitting).0,
+      sorted-block b (rest-checked (while_do c b) (commands_of b) k),
+    )
     sorted-command (local x b) k = sorted-block b (rest-checked (local x b) (commands_of b) k)
     sorted-command (call results name arguments) k =
         let c : Passes (call results name arguments) =
-            first-checked (call results name arguments) [] k in
+        first-checked (call results name arguments) [] k in
         let h : (all_apart results ≡ true) × (list_all
-            (λ x. not (stands_in (flat_map variables_of_term arguments) x)) results ≡ true) =
-            both_true (all_apart results) (list_all
-            (λ x. not (stands_in (flat_map variables_of_term arguments) x)) results) c.apart in
-        (call-fits (procedure_named name th) results arguments c.known c.fitting,
-        apart-distinct results h.0, λ x m i.
-        not-false (stands_in (flat_map variables_of_term arguments) x)
-        (each-among (λ y. not (stands_in (flat_map variables_of_term arguments) y)) results h.1 x m)
-        (stands-terms arguments x i))
+        (λ x. not (stands_in (flat_map variables_of_term arguments) x)) results ≡ true) =
+        both_true (all_apart results) (list_all
+        (λ x. not (stands_in (flat_map variables_of_term arguments) x)) results) c.apart in (
+          call-fits (procedure_named name th) results arguments c.known c.fitting,
+          apart-distinct results h.0,
+          λ x m i.
+              not-false (stands_in (flat_map variables_of_term arguments) x)
+              (each-among (λ y. not (stands_in (flat_map variables_of_term arguments) y)) results h.1 x m)
+              (stands-terms arguments x i),
+        )
 
     sorted-block : (b : Block) → Checked (commands_of b) → BlockSorted th b
     sorted-block stop k = tt
-    sorted-block (c then b) k =
-        (sorted-command c (left-checked (commands_in c) (commands_of b) k),
-        sorted-block b (right-checked (commands_in c) (commands_of b) k))
+    sorted-block (c then b) k = (
+      sorted-command c (left-checked (commands_in c) (commands_of b) k),
+      sorted-block b (right-checked (commands_in c) (commands_of b) k),
+    )
 
 -- PLACES
 unless-none : (b : Bool) (k : FileKind) (later : Option FileKind) → unless_kind b k later ≡ None
@@ -408,9 +413,9 @@ kind-checked : (scope : Scope) (params : List ProgVar) (vars : List Var) (sorted
     → command_kind scope params vars sorted cs later ≡ None → Checked scope.procedures cs
 kind-checked scope params vars sorted cs later e =
     let a = unless-none (list_all (is_known scope) vars
-        && list_all (callee_known scope.procedures) cs) _ _ e in
+    && list_all (callee_known scope.procedures) cs) _ _ e in
     let b = unless-none (list_all (is_as_declared scope) vars
-        && (sorted && list_all (parts_fit scope.procedures) cs)) _ _ a.1 in
+    && (sorted && list_all (parts_fit scope.procedures) cs)) _ _ a.1 in
     let c = unless-none (list_all (spares params) cs) _ _ b.1 in
     let d = unless-none (list_all results_apart cs) _ _ c.1 in
     record {

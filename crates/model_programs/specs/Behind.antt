@@ -11,7 +11,8 @@ use Rattle.model_programs.specs.Outcomes.{Outcome, ends, spends, passes_limit, h
 abbrev pub Behind : Procedures → List ProgVar → ℕ → List Piece → Store → Trees → Outcome → Type 0
 Behind ps results taken pending store grove (ends n values grove') =
     (picks : List Pick) × (store' : Store) × (n ≡ taken + length picks)
-    × (runs ps picks pending store grove ≡ ended store' grove') × (values ≡ values_in results store')
+    × (runs ps picks pending store grove ≡ ended store' grove')
+    × (values ≡ values_in results store')
 Behind ps results taken pending store grove (spends n config) =
     (picks : List Pick) × (n ≡ taken + length picks)
     × (runs ps picks pending store grove ≡ running)

@@ -10,9 +10,9 @@ use Rattle.model_programs.specs.Groves.{nodes_where, parental, first_number}
 use Rattle.model_programs.specs.Machine.{Pick, Piece, run, Move, becomes, faults, bad_pick, move}
 use Rattle.model_programs.specs.Outcomes.{next_pick}
 
--- A change, with the number of steps taken up to and with it: a node and its list number; a node, its
--- parents before and after, and the child before which it goes; a node and its parent. The number 0
--- stands for no parent and for no such child.
+-- A change, with the number of steps taken up to and with it: a node and its list number; a node,
+-- its parents before and after, and the child before which it goes; a node and its parent. The
+-- number 0 stands for no parent and for no such child.
 pub data Change : Type 0 where
   created : ℕ → ℕ → ℕ → Change
   moved : ℕ → ℕ → ℕ → ℕ → ℕ → Change
@@ -43,6 +43,7 @@ abbrev pub listed_first : Option Change → List Change → List Change
 listed_first None later = later
 listed_first (Some change) later = change ∷ later
 
+-- what comes after a move
 abbrev pub after_move : Option Change → (List Piece → Store → Trees → List Change) → List Piece
     → Move → List Change
 after_move change more rest (becomes pieces store grove) =

@@ -72,11 +72,12 @@ variables_of_term (sum a b) = variables_of_term a ++ variables_of_term b
 variables_of_term (difference a b) = variables_of_term a ++ variables_of_term b
 variables_of_term (appended a b) = variables_of_term a ++ variables_of_term b
 
--- the variables of a command and of all that stands in it
+-- the variables that a command has of its own
 abbrev pub own_variables : Command → List Var
 own_variables command =
     map as_var (targets command) ++ flat_map variables_of_term (terms_of command)
 
+-- of the command and of all that stands in it
 abbrev pub variables_of_command : Command → List Var
 variables_of_command command = flat_map own_variables (commands_in command)
 

@@ -1,5 +1,5 @@
--- Where a theory that reads isn't well formed: the first place at fault, and its kind. The places are
--- the version and the logic declarations, then procedure by procedure its header and its steps.
+-- Where a theory isn't well formed: the first place at fault, and its kind; the language's own. The
+-- places are the version with the logic declarations, then each procedure's header and its steps.
 use Rattle.std.specs.Prelude.{◌≡◌, ℕ, ◌+◌, List, [], ◌∷◌, ◌++◌, map, Bool, true, false, cond, not, ◌&&◌, ◌||◌, ◌==◌, Option, Some, None, is_some, is_none, bytes_eq}
 use Rattle.std.specs.List.{list_all, list_any, flat_map}
 use Rattle.model_shapes.specs.Sorts.{Sort, shape, ValueSort, node_sort, list_sort, int_sort, str_sort, bool_sort, is_sort, same_value_sort, same_sort}
@@ -36,7 +36,7 @@ abbrev pub unless_kind : Bool → FileKind → Option FileKind → Option FileKi
 unless_kind true kind later = later
 unless_kind false kind later = Some kind
 
--- NAMES
+-- NAMES: of a program variable
 abbrev pub name_of : ProgVar → List ℕ
 name_of (named name s) = name
 
@@ -60,6 +60,7 @@ declared_sort [] name = None
 declared_sort (named first s ∷ rest) name =
     cond (bytes_eq name first) (Some s) (declared_sort rest name)
 
+-- the same of a logic variable
 abbrev pub declared_logic : List Var → List ℕ → Option Sort
 declared_logic [] name = None
 declared_logic (logic first s ∷ rest) name =
@@ -91,10 +92,12 @@ abbrev pub sort_agrees : Option ValueSort → ValueSort → Bool
 sort_agrees None s = true
 sort_agrees (Some u) s = same_value_sort u s
 
+-- the same of a logic variable
 abbrev pub logic_agrees : Option Sort → Sort → Bool
 logic_agrees None s = true
 logic_agrees (Some u) s = same_sort u s
 
+-- the variable has the sort with which its name is declared, if it is
 abbrev pub is_as_declared : Scope → Var → Bool
 is_as_declared scope (prog name s) = sort_agrees (declared_sort scope.variables name) s
 is_as_declared scope (logic name s) = logic_agrees (declared_logic scope.logics name) s
@@ -132,9 +135,11 @@ abbrev pub is_program : Var → Bool
 is_program (prog name s) = true
 is_program x = false
 
+-- no logic variable stands in the term
 abbrev pub is_plain : Term → Bool
 is_plain term = list_all is_program (variables_of_term term)
 
+-- the term has the sort, and no logic variable
 abbrev pub evaluates : ValueSort → Term → Bool
 evaluates s term = has_sort s term && is_plain term
 
@@ -155,6 +160,7 @@ feeds [] [] = true
 feeds (x ∷ xs) (e ∷ es) = evaluates (sort_of x) e && feeds xs es
 feeds xs es = false
 
+-- variables that take these results
 abbrev pub receives : List ProgVar → List ProgVar → Bool
 receives [] [] = true
 receives (r ∷ rs) (x ∷ xs) = same_value_sort (sort_of r) (sort_of x) && receives rs xs
@@ -165,6 +171,7 @@ abbrev pub call_fits : Option Procedure → List ProgVar → List Term → Bool
 call_fits None results arguments = true
 call_fits (Some f) results arguments = feeds f.params arguments && receives f.results results
 
+-- a block has at least one command
 abbrev pub has_command : Block → Bool
 has_command stop = false
 has_command (c then b) = true
@@ -201,6 +208,7 @@ abbrev pub is_logic_variable : Term → Bool
 is_logic_variable (variable (logic name s)) = is_form s
 is_logic_variable term = false
 
+-- an argument of a step: a term of a value sort, or such a variable
 abbrev pub is_argument : Term → Bool
 is_argument term =
     has_sort node_sort term || (has_sort list_sort term || (has_sort int_sort term
@@ -222,14 +230,17 @@ abbrev pub all_apart : List ProgVar → Bool
 all_apart [] = true
 all_apart (x ∷ xs) = not (is_among xs x) && all_apart xs
 
+-- the program variable is among these
 abbrev pub stands_in : List Var → ProgVar → Bool
 stands_in [] x = false
 stands_in (prog name s ∷ rest) x = same_name x (named name s) || stands_in rest x
 stands_in (y ∷ rest) x = stands_in rest x
 
+-- in a call, the results don't repeat, and none of them stands in its arguments
 abbrev pub results_apart : Command → Bool
 results_apart (call results name arguments) =
-    all_apart results && list_all (λ x. not (stands_in (flat_map variables_of_term arguments) x)) results
+    all_apart results
+    && list_all (λ x. not (stands_in (flat_map variables_of_term arguments) x)) results
 results_apart command = true
 
 -- the first kind that a command has, among those from unknown to results; `variables` are all that
@@ -250,6 +261,7 @@ abbrev pub is_logic_sort : Var → Bool
 is_logic_sort (logic name s) = is_sort s
 is_logic_sort x = false
 
+-- the version and the logic declarations
 abbrev pub declarations_kind : Theory → Option FileKind
 declarations_kind theory =
     unless_kind (theory.version == 1) version_kind
@@ -284,10 +296,12 @@ variables_of_judgement (entails p q s) = variables_of p ++ variables_of q
 variables_of_judgement (triple p c q d) =
     variables_of p ++ (variables_of q ++ variables_of_command c)
 
+-- its formulas may be judged at its sort
 abbrev pub judgement_sorted : JudgementOf Named → Bool
 judgement_sorted (entails p q s) = is_judged_at s p && is_judged_at s q
 judgement_sorted (triple p c q d) = is_judged_at (shape d) p && is_judged_at (shape d) q
 
+-- its commands
 abbrev pub commands_of_judgement : JudgementOf Named → List Command
 commands_of_judgement (entails p q s) = []
 commands_of_judgement (triple p c q d) = commands_in c
@@ -297,6 +311,7 @@ abbrev pub arguments_of : Reason → List Term
 arguments_of auto = []
 arguments_of (by_rule name premises arguments) = arguments
 
+-- the rule of a step has a name, if it is no gap
 abbrev pub rule_known : Reason → Bool
 rule_known auto = true
 rule_known (by_rule name premises arguments) = is_rule_name name
@@ -312,12 +327,13 @@ step_kind theory procedure place step =
     (unless_kind (rule_known step.reason) rule_kind
     (unless_kind (step.number == place) number_kind None))
 
--- THE FIRST FAULT
+-- THE FIRST FAULT: a kind at a place
 abbrev pub fault_at : ℕ → ℕ → Option FileKind → Option FileFault
 fault_at procedure step None = None
 fault_at procedure step (Some kind) =
     Some (record { procedure = procedure; step = step; kind = kind })
 
+-- the first fault of the steps of a proof
 abbrev pub steps_fault : Theory → ProcedureOf Named → ℕ → ℕ → List (StepOf Named)
     → Option FileFault
 steps_fault theory procedure number place [] = None
@@ -325,6 +341,7 @@ steps_fault theory procedure number place (step ∷ steps) =
     first_of (fault_at number place (step_kind theory procedure place step))
     (steps_fault theory procedure number (place + 1) steps)
 
+-- the first fault of the procedures
 abbrev pub procedures_fault : Theory → List (ProcedureOf Named) → ℕ → List (ProcedureOf Named)
     → Option FileFault
 procedures_fault theory earlier number [] = None
@@ -333,9 +350,11 @@ procedures_fault theory earlier number (procedure ∷ later) =
     (first_of (steps_fault theory procedure number 1 procedure.proof)
     (procedures_fault theory (procedure ∷ earlier) (number + 1) later))
 
+-- the first fault of a theory
 abbrev pub first_file_fault : Theory → Option FileFault
 first_file_fault theory =
-    first_of (fault_at 0 0 (declarations_kind theory)) (procedures_fault theory [] 1 theory.procedures)
+    first_of (fault_at 0 0 (declarations_kind theory))
+    (procedures_fault theory [] 1 theory.procedures)
 
 -- no place is at fault
 abbrev pub IsWellFormedTheory : Theory → Type 0

@@ -1,5 +1,5 @@
--- What a run needs and keeps: pieces with parts of the right sorts, values that fit their variables,
--- and a well-formed grove. The laws say that each step keeps it.
+-- What a run needs and keeps: pieces with parts of the right sorts, values that fit, and a
+-- well-formed grove. The laws say that each step keeps it.
 use Rattle.std.specs.Prelude.{◌≡◌, ℕ, List, [], ◌∷◌, Some}
 use Rattle.model_shapes.specs.Sorts.{shape, grove}
 use Rattle.model_shapes.specs.Trees.{Trees}

@@ -1,4 +1,5 @@
 -- Local triples, as in PODS 2008: a triple holds in every context, over every list of picks.
+-- A run with a bad pick says nothing, and one that isn't at its end asks for no fault alone.
 use Rattle.std.specs.Prelude.{ℕ, List, [], ◌∷◌, length}
 use Rattle.model_shapes.specs.Sorts.{shape, context, DataSort, grove}
 use Rattle.model_shapes.specs.Trees.{Trees, fill}
@@ -23,9 +24,9 @@ EndsWith d around post e store g =
     (b : Trees) × Shaped (shape d) b × Shaped (shape grove) (fill around b)
     × SameAt grove g (fill around b) × Meets post (joint (lookup store) e) (shape d) b
 
--- `pre P do C post Q at D`: for every choice of the logic variables and every store; for every shape
--- of the sort that meets P; in every context into which it may be put; and over every list of picks:
--- the run doesn't fault, and where it ends, the same context stands round data that meets Q.
+-- `pre P do C post Q at D`: for every choice of the logic variables and every store; for every
+-- shape of the sort that meets P; in every context into which it may be put; and over every list of
+-- picks: the run doesn't fault, and where it ends, the same context stands round data that meets Q.
 abbrev pub HoldsLocally : Procedures → Formula → Command → Formula → DataSort → Type 0
 HoldsLocally procedures pre command post d =
     (e : Environment) (store : Store) → Proper (joint (lookup store) e)
@@ -48,7 +49,9 @@ Stands d around post e store g =
     SomeShape (shape d) λ b. SameAt grove g (fill around b)
     × Meets post (joint (lookup store) e) (shape d) b
 
-abbrev pub TripleFor : Procedures → (ℕ → Type 0) → Formula → Command → Formula → DataSort → Type 0
+-- the triple, for the runs whose number of picks passes the test
+abbrev pub TripleFor : Procedures → (ℕ → Type 0) → Formula → Command → Formula → DataSort
+    → Type 0
 TripleFor procedures Length pre command post d =
     (e : Environment) (store : Store) → Proper (joint (lookup store) e)
     → (r : Trees) → Shaped (shape d) r → Meets pre (joint (lookup store) e) (shape d) r

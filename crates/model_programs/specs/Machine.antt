@@ -21,8 +21,8 @@ pub data Piece : Type 0 where
   restore : ProgVar → Value → Piece
   return : Store → List ProgVar → List ProgVar → Piece
 
--- what one step makes of the first piece: the pieces that stand in its place, with the new store and
--- grove; or a fault; or a pick that may not be used
+-- what one step makes of the first piece: the pieces that stand in its place, with the new store
+-- and grove; or a fault; or a pick that may not be used
 pub data Move : Type 0 where
   becomes : List Piece → Store → Trees → Move
   faults : FaultKind → Move
@@ -39,7 +39,8 @@ pieces_of stop = []
 pieces_of (c then b) = run c ∷ pieces_of b
 
 -- sets the variable to what is read off the node that was found
-abbrev pub reading : Trees → FaultKind → (List ℕ → ℕ → Trees → ℕ → Value) → ProgVar → Store → Trees → Move
+abbrev pub reading : Trees → FaultKind → (List ℕ → ℕ → Trees → ℕ → Value) → ProgVar → Store
+    → Trees → Move
 reading (node name number kids list rest) fault read x store grove =
     becomes [] (set x (read name number kids list) store) grove
 reading none fault read x store grove = faults fault
@@ -134,6 +135,7 @@ abbrev pub holding_values : List ProgVar → List Value → Store
 holding_values (x ∷ xs) (v ∷ vs) = set x v (holding_values xs vs)
 holding_values xs vs = unset
 
+-- the configuration with which a procedure begins
 abbrev pub start : {F : Type 0} → ProcedureOf F → List Value → Trees → Config
 start f values grove = record {
   pending = run f.body ∷ [];

@@ -75,10 +75,12 @@ term_limit limits store (sum a b) =
     (first_of_two (term_limit limits store b) (value_limit limits (value_of store (sum a b))))
 term_limit limits store (difference a b) =
     first_of_two (term_limit limits store a)
-    (first_of_two (term_limit limits store b) (value_limit limits (value_of store (difference a b))))
+    (first_of_two (term_limit limits store b)
+    (value_limit limits (value_of store (difference a b))))
 term_limit limits store (appended a b) =
     first_of_two (term_limit limits store a)
-    (first_of_two (term_limit limits store b) (value_limit limits (value_of store (appended a b))))
+    (first_of_two (term_limit limits store b)
+    (value_limit limits (value_of store (appended a b))))
 
 -- the same of several terms
 abbrev pub terms_limit : Limits → Store → List Term → Option LimitKind
@@ -86,19 +88,21 @@ terms_limit limits store [] = None
 terms_limit limits store (term ∷ terms) =
     first_of_two (term_limit limits store term) (terms_limit limits store terms)
 
--- the greatest number of a node, the greatest number of a list, and how many nodes there are
+-- the greatest number of a node
 abbrev pub greatest_node : Trees → ℕ
 greatest_node none = 0
 greatest_node (node name number kids list rest) =
     max number (max (greatest_node kids) (greatest_node rest))
 greatest_node (hole rest) = greatest_node rest
 
+-- the greatest number of a list
 abbrev pub greatest_list : Trees → ℕ
 greatest_list none = 0
 greatest_list (node name number kids list rest) =
     max list (max (greatest_list kids) (greatest_list rest))
 greatest_list (hole rest) = greatest_list rest
 
+-- how many nodes there are
 abbrev pub size : Trees → ℕ
 size none = 0
 size (node name number kids list rest) = 1 + (size kids + size rest)
@@ -116,7 +120,7 @@ returns_in (run command ∷ rest) = returns_in rest
 returns_in (restore x v ∷ rest) = returns_in rest
 returns_in (return store results xs ∷ rest) = suc (returns_in rest)
 
--- the limit that one step passes: of the terms, then of the nodes, or of the depth
+-- the limit of nodes or of depth that a step passes
 abbrev pub growth_limit : Limits → Piece → List Piece → Trees → Option LimitKind
 growth_limit limits (run (create_node x e)) rest grove =
     unless (nat_le (1 + size grove) limits.nodes) nodes_limit
@@ -124,21 +128,24 @@ growth_limit limits (run (call xs name es)) rest grove =
     unless (nat_le (1 + returns_in rest) limits.depth) depth_limit
 growth_limit limits piece rest grove = None
 
+-- the limit that the values of a piece's terms pass
 abbrev pub piece_limit : Limits → Piece → Store → Option LimitKind
 piece_limit limits (run command) store = terms_limit limits store (terms_of command)
 piece_limit limits piece store = None
 
+-- the limit that a step passes: of its terms, then of nodes or depth
 abbrev pub step_limit : Limits → Piece → List Piece → Store → Trees → Option LimitKind
 step_limit limits piece rest store grove =
     first_of_two (piece_limit limits piece store) (growth_limit limits piece rest grove)
 
--- the limit of the next pick, and what a step of a run passes: that one comes last
+-- the limit that the next pick passes
 abbrev pub pick_limit : Limits → Piece → Trees → Option LimitKind
 pick_limit limits (run (create_node x e)) grove =
     unless (nat_le (1 + greatest_node grove) limits.identifier
     && nat_le (1 + greatest_list grove) limits.identifier) identifier_limit
 pick_limit limits piece grove = None
 
+-- the limit that a step of a run passes: that of the next pick comes last
 abbrev pub limit_of : Limits → Piece → List Piece → Store → Trees → Option LimitKind
 limit_of limits piece rest store grove =
     first_of_two (step_limit limits piece rest store grove) (pick_limit limits piece grove)
@@ -153,22 +160,25 @@ pub data Outcome : Type 0 where
   has_fault : FaultKind → ℕ → Piece → Outcome
   no_pick : Outcome
 
+-- the values of variables, in order
 abbrev pub values_in : List ProgVar → Store → List Value
 values_in [] store = []
 values_in (x ∷ xs) store = value_in store x ∷ values_in xs store
 
+-- a limit, where one is passed, and else what comes otherwise
 abbrev pub within : Option LimitKind → Outcome → Outcome
 within (Some kind) otherwise = passes_limit kind
 within None otherwise = otherwise
 
+-- what comes out after a move
 abbrev pub on_move : (List Piece → Store → Trees → Outcome) → ℕ → Piece → List Piece → Move
     → Outcome
 on_move more taken piece rest (becomes pieces store grove) = more (pieces ++ rest) store grove
 on_move more taken piece rest (faults kind) = has_fault kind taken piece
 on_move more taken piece rest bad_pick = no_pick
 
--- What comes out with this fuel, when so many steps were taken: before each step it is asked, in this
--- order, whether nothing is pending, whether the fuel is spent, and whether a limit would be passed.
+-- What comes out with this fuel, when so many steps were taken: before each step it is asked, in
+-- this order, whether nothing is pending, whether the fuel is spent, and whether a limit is passed.
 abbrev pub outcome : Limits → Procedures → List ProgVar → ℕ → ℕ → List Piece → Store → Trees
     → Outcome
 outcome limits ps results zero taken [] store grove =

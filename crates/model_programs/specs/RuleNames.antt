@@ -1,5 +1,5 @@
--- The names of the rules that a step of a proof may cite: those of the two tables, the language's own.
--- The rules follow POPL 2005 and PODS 2008.
+-- The names of the rules that a step of a proof may cite, as the language spells them. The rules
+-- follow POPL 2005, the axioms and the frame rule PODS 2008.
 use Rattle.std.specs.Prelude.{ℕ, List, [], ◌∷◌, ◌++◌, Bool, bytes_eq, codes}
 use Rattle.std.specs.List.{list_any}
 

@@ -1,6 +1,6 @@
-//! The definitions of stores, commands, theories, file faults, the machine, its runs and outcomes, and
-//! local triples, with no Rust data. Promises that they say what is meant: their laws are functions
-//! here, each with an empty body. Stands on model_formulas.
+//! The definitions of stores, commands, theories, file faults, the machine, its runs and outcomes,
+//! and local triples, with no Rust data. Promises that they say what is meant: their laws are
+//! functions here, each with an empty body. Stands on model_formulas.
 #![tactic(auto)]
 
 ghost use Rattle.std.specs.Prelude.{◌≡◌, ◌≢◌, ◌↔◌, ◌≤◌, ℕ, List, [], ◌∷◌, ◌++◌, map, true, None};
@@ -101,8 +101,8 @@ pub fn same_groves_run_alike()
 
 /// Where a command's run ends, the variables that it doesn't change have the values that they had.
 pub fn unmodified_variables_stay()
-    ensures { (ps : Procedures) (x : ProgVar) (c : Command) → (Modifies c x → ⊥) → (picks : List Pick)
-        (store after : Store) (roots roots_after : Trees)
+    ensures { (ps : Procedures) (x : ProgVar) (c : Command) → (Modifies c x → ⊥)
+        → (picks : List Pick) (store after : Store) (roots roots_after : Trees)
         → runs ps picks (run c ∷ []) store roots ≡ ended after roots_after
         → value_in after x ≡ value_in store x }
 {}
@@ -123,8 +123,8 @@ pub fn what_is_not_reached_stays()
 
 /// A step that isn't among the changes leaves the grove as it was.
 pub fn steps_without_a_change_leave_the_grove()
-    ensures { (ps : Procedures) (pick : Pick) (piece : Piece) (store : Store) (roots : Trees) (n : ℕ)
-        (pieces : List Piece) (after : Store) (roots_after : Trees)
+    ensures { (ps : Procedures) (pick : Pick) (piece : Piece) (store : Store) (roots : Trees)
+        (n : ℕ) (pieces : List Piece) (after : Store) (roots_after : Trees)
         → move ps pick piece store roots ≡ becomes pieces after roots_after
         → change_of n pick piece store roots ≡ None → roots_after ≡ roots }
 {}

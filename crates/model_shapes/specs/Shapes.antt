@@ -48,7 +48,7 @@ pub record Shaped (s : Sort) (trees : Trees) : Type 0 where
   pub holed : HasHoles s trees
 
 -- The roots of a grove have no order: two groves are the same where each tree stands as often
--- among the roots of one as among those of the other. Other shapes are the same where they are equal.
+-- among the roots of one as among those of the other. Trees and forests are the same where equal.
 abbrev pub SameAt : DataSort → Trees → Trees → Type 0
 SameAt tree a b = a ≡ b
 SameAt forest a b = a ≡ b

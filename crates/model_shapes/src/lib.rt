@@ -36,8 +36,8 @@ pub fn the_same_has_the_sort()
 /// A context filled with a shape, or with a context, has the sort that it should, once it is well
 /// formed; and a part of what is well formed is well formed.
 pub fn filling_gives_the_sort()
-    ensures whole { (h k : DataSort) (s : Sort) (outside piece : Trees) → Shaped (context h k) outside
-        → Shaped (giving h s) piece → WellFormed (fill outside piece)
+    ensures whole { (h k : DataSort) (s : Sort) (outside piece : Trees)
+        → Shaped (context h k) outside → Shaped (giving h s) piece → WellFormed (fill outside piece)
         → Shaped (giving k s) (fill outside piece) }
     ensures parts { (outside piece : Trees) → holes outside ≡ 1 → WellFormed (fill outside piece)
         → WellFormed outside × WellFormed piece }
