@@ -1,14 +1,14 @@
 -- Local triples, as in PODS 2008: a triple holds in every context, over every list of picks.
--- A run with a bad pick says nothing, and one that isn't at its end asks for no fault alone.
+-- Of a run that isn't at its end, or that met a bad pick, nothing is asked but that it hasn't faulted.
 use Rattle.std.specs.Prelude.{ℕ, List, [], ◌∷◌, length}
 use Rattle.model_shapes.specs.Sorts.{shape, context, DataSort, grove}
 use Rattle.model_shapes.specs.Trees.{Trees, fill}
 use Rattle.model_shapes.specs.Shapes.{SameAt, Shaped}
 use Rattle.model_formulas.specs.Formulas.{Formula}
-use Rattle.model_formulas.specs.Satisfaction.{Environment, Meets, Proper, SomeShape, joint}
+use Rattle.model_formulas.specs.Satisfaction.{Environment, Meets, Entails, Proper, SomeShape, joint}
 use Rattle.model_programs.specs.Stores.{Store, lookup}
 use Rattle.model_programs.specs.Commands.{Command}
-use Rattle.model_programs.specs.Theories.{Procedure, Procedures}
+use Rattle.model_programs.specs.Theories.{Procedure, Procedures, Judgement, entails, triple}
 use Rattle.model_programs.specs.Machine.{Pick, run, RunOutcome, running, ended, fault, picked_badly, runs}
 
 -- what is asked of a fault, and what of an end; nothing is asked of the others
@@ -41,6 +41,11 @@ HoldsLocally procedures pre command post d =
 -- a procedure does what its requires and its ensures say
 abbrev pub MeetsItsSpecification : Procedures → Procedure → Type 0
 MeetsItsSpecification procedures f = HoldsLocally procedures f.pre f.body f.post f.sort
+
+-- an entailment or a triple holds
+abbrev pub JudgementHolds : Procedures → Judgement → Type 0
+JudgementHolds procedures (entails p q s) = Entails p q s
+JudgementHolds procedures (triple p command q d) = HoldsLocally procedures p command q d
 
 -- The same with "some data" read classically, for the runs whose number of picks passes a test: the
 -- form in which the rules are proved. The law `ends_plainly` gives the plain form back.

@@ -45,6 +45,10 @@ pub record TheoryOf (F : Type 0) : Type 0 where
   pub logic : List Var
   pub procedures : List (ProcedureOf F)
 
+-- the procedure's own triple: its requires, its body, its ensures and its sort
+abbrev pub own_triple : {F : Type 0} → ProcedureOf F → JudgementOf F
+own_triple f = triple f.pre f.body f.post f.sort
+
 -- without the names of bound variables
 abbrev pub Judgement : Type 0
 Judgement = JudgementOf Formula

@@ -4,7 +4,7 @@
 #![tactic(auto)]
 
 ghost use Rattle.std.specs.Prelude.{◌≡◌, ◌≢◌, ◌↔◌, ◌≤◌, ℕ, List, [], ◌∷◌, ◌++◌, map, true, None};
-ghost use Rattle.model_shapes.specs.Sorts.{DataSort, grove, shape, Sort, ValueSort};
+ghost use Rattle.model_shapes.specs.Sorts.{DataSort, grove, shape, context, Sort, ValueSort};
 ghost use Rattle.model_shapes.specs.Values.{Value};
 ghost use Rattle.model_shapes.specs.Trees.{Trees, fill, node_uses, WellFormed};
 ghost use Rattle.model_shapes.specs.Shapes.{holes, Shaped, SameAt};
@@ -23,7 +23,7 @@ ghost use Rattle.model_programs.specs.Machine.{Pick, Piece, run, becomes, move, 
 ghost use Rattle.model_programs.specs.Outcomes.{Limits, next_pick, outcome, no_pick};
 ghost use Rattle.model_programs.specs.Changes.{change_of};
 ghost use Rattle.model_programs.specs.Fitting.{FitPieces, ValuesFit, BodiesSorted, Fine, FitsConfig};
-ghost use Rattle.model_programs.specs.LocalTriples.{Ends, HoldsLocally, TripleFor};
+ghost use Rattle.model_programs.specs.LocalTriples.{Ends, EndsWith, Stands, HoldsLocally, TripleFor};
 ghost use Rattle.model_programs.specs.Blocks.{Followed};
 ghost use Rattle.model_programs.specs.SameMoves.{SameMove, SameOutcome};
 ghost use Rattle.model_programs.specs.Behind.{Behind};
@@ -143,6 +143,14 @@ pub fn outcomes_are_runs()
         (pending : List Piece) (store : Store) (roots : Trees)
         → Behind ps results taken pending store roots
         (outcome limits ps results fuel taken pending store roots) }
+{}
+
+/// Where a run ends in a well-formed grove with some data in the context, read classically, it ends so
+/// plainly: what stands in the context can be computed.
+pub fn ends_plainly()
+    ensures { (d : DataSort) (around : Trees) (post : Formula) (e : Environment) (store : Store)
+        (roots : Trees) → Shaped (context d grove) around → Shaped (shape grove) roots
+        → Stands d around post e store roots → EndsWith d around post e store roots }
 {}
 
 /// A triple whose end is read classically, over all runs, is a local triple: what stands in the

@@ -9,3 +9,4 @@ pub mod Pulling
 pub mod ByConstruction
 pub mod Inhabited
 pub mod Reorders
+pub mod Worked
