@@ -12,5 +12,7 @@ pub mod WorkedFiles
 pub mod Plain
 pub mod Starts
 pub mod Unchanged
+pub mod FileTests
+pub mod Scopes
 pub mod WellFormedTheories
 pub mod InContext

@@ -1,11 +1,13 @@
 -- What a run needs and keeps: pieces with parts of the right sorts, values that fit, and a
 -- well-formed grove. The laws say that each step keeps it.
-use Rattle.std.specs.Prelude.{◌≡◌, ℕ, List, [], ◌∷◌, Some}
+use Rattle.std.specs.Prelude.{◌≡◌, ◌⊎◌, ℕ, List, [], ◌∷◌, Some}
 use Rattle.model_shapes.specs.Sorts.{shape, grove}
 use Rattle.model_shapes.specs.Trees.{Trees}
 use Rattle.model_shapes.specs.Shapes.{Shaped}
 use Rattle.model_shapes.specs.Values.{Value, FitsValue}
-use Rattle.model_programs.specs.Stores.{ProgVar, Store, ProperStore, sort_of}
+use Rattle.model_programs.specs.Stores.{ProgVar, as_var, Store, ProperStore, sort_of}
+use Rattle.model_formulas.specs.Substitution.{FreeIn}
+use Rattle.model_programs.specs.Commands.{Among, Modifies}
 use Rattle.model_programs.specs.Theories.{Procedure, Procedures, procedure_named}
 use Rattle.model_programs.specs.Sorting.{Sorted, Receive}
 use Rattle.model_programs.specs.Machine.{Piece, run, restore, return, Config}
@@ -33,6 +35,14 @@ abbrev pub BodiesSorted : Procedures → Type 0
 BodiesSorted procedures =
     (name : List ℕ) (f : Procedure) → procedure_named name procedures ≡ Some f
     → Sorted procedures f.body
+
+-- What calls need of a procedure: its parameters are apart from its results and keep their values,
+-- the requires speaks of parameters alone, and the ensures of parameters and results.
+pub record IsScoped (f : Procedure) : Type 0 where
+  pub apart : (x : ProgVar) → Among f.params x → Among f.results x → ⊥
+  pub constant : (x : ProgVar) → Among f.params x → Modifies f.body x → ⊥
+  pub pre_scope : (x : ProgVar) → FreeIn (as_var x) f.pre → Among f.params x
+  pub post_scope : (x : ProgVar) → FreeIn (as_var x) f.post → Among f.params x ⊎ Among f.results x
 
 -- a proper store and a well-formed grove
 pub record Fine (store : Store) (roots : Trees) : Type 0 where

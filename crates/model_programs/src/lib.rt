@@ -3,26 +3,26 @@
 //! functions here, each with an empty body. Stands on model_formulas.
 #![tactic(auto)]
 
-ghost use Rattle.std.specs.Prelude.{◌≡◌, ◌≢◌, ◌↔◌, ◌≤◌, ℕ, List, [], ◌∷◌, ◌++◌, map, true, None};
+ghost use Rattle.std.specs.Prelude.{◌≡◌, ◌≢◌, ◌↔◌, ◌≤◌, ℕ, List, [], ◌∷◌, ◌++◌, map, true, Some, None};
 ghost use Rattle.model_shapes.specs.Sorts.{DataSort, grove, shape, context, Sort, ValueSort};
 ghost use Rattle.model_shapes.specs.Values.{Value};
 ghost use Rattle.model_shapes.specs.Trees.{Trees, fill, node_uses, WellFormed};
 ghost use Rattle.model_shapes.specs.Shapes.{holes, Shaped, SameAt};
 ghost use Rattle.model_shapes.specs.Things.{val};
 ghost use Rattle.model_formulas.specs.Terms.{Term};
-ghost use Rattle.model_formulas.specs.Formulas.{Formula};
+ghost use Rattle.model_formulas.specs.Formulas.{Formula, Named};
 ghost use Rattle.model_formulas.specs.Satisfaction.{Environment, Meets, joint, meaning_of};
 ghost use Rattle.model_programs.specs.Stores.{ProgVar, sort_of, Store, unset, set, default, value_in, value_of, lookup, ProperStore, Computes};
 ghost use Rattle.model_programs.specs.Conditions.{Cond, Tests, truth_of, formula_of};
 ghost use Rattle.model_programs.specs.Commands.{Command, Block, block, Modifies};
-ghost use Rattle.model_programs.specs.Theories.{Procedure, Procedures, Theory, procedures_of};
-ghost use Rattle.model_programs.specs.FileFaults.{IsWellFormedTheory};
+ghost use Rattle.model_programs.specs.Theories.{ProcedureOf, Procedure, Procedures, StepOf, triple, Theory, procedures_of, procedure_named};
+ghost use Rattle.model_programs.specs.FileFaults.{IsWellFormedTheory, step_kind};
 ghost use Rattle.model_programs.specs.Sorting.{Sorted};
 ghost use Rattle.model_programs.specs.Groves.{nodes_where, numbered, without, adding};
 ghost use Rattle.model_programs.specs.Machine.{Pick, Piece, run, becomes, move, is_free, pieces_of, entering, holding_values, start, Config, next, step, ended, runs};
 ghost use Rattle.model_programs.specs.Outcomes.{Limits, next_pick, outcome, no_pick};
 ghost use Rattle.model_programs.specs.Changes.{change_of};
-ghost use Rattle.model_programs.specs.Fitting.{FitPieces, ValuesFit, BodiesSorted, Fine, FitsConfig};
+ghost use Rattle.model_programs.specs.Fitting.{FitPieces, IsScoped, ValuesFit, BodiesSorted, Fine, FitsConfig};
 ghost use Rattle.model_programs.specs.LocalTriples.{Ends, EndsWith, Stands, HoldsLocally, TripleFor};
 ghost use Rattle.model_programs.specs.Blocks.{Followed};
 ghost use Rattle.model_programs.specs.SameMoves.{SameMove, SameOutcome};
@@ -49,9 +49,17 @@ pub fn conditions_are_their_formulas()
         → ((truth_of store c ≡ true) ↔ Meets (formula_of c) (joint (lookup store) e) s r) }
 {}
 
-/// The procedures of a well-formed theory have bodies with parts of the right sorts and number.
-pub fn well_formed_theories_have_sorted_bodies()
-    ensures { (theory : Theory) → IsWellFormedTheory theory → BodiesSorted (procedures_of theory) }
+/// What runs and calls need of a theory, a well-formed one has: bodies with parts of the right sorts
+/// and number, and procedures that keep to their scopes; and so do the commands of its steps.
+pub fn well_formed_theories_fit_the_machine()
+    ensures bodies { (theory : Theory) → IsWellFormedTheory theory
+        → BodiesSorted (procedures_of theory) }
+    ensures scopes { (theory : Theory) → IsWellFormedTheory theory → (name : List ℕ)
+        (f : Procedure) → procedure_named name (procedures_of theory) ≡ Some f → IsScoped f }
+    ensures steps { (theory : Theory) (procedure : ProcedureOf Named) (place : ℕ)
+        (step : StepOf Named) (pre : Named) (c : Command) (post : Named) (d : DataSort)
+        → step_kind theory procedure place step ≡ None → step.judgement ≡ triple pre c post d
+        → Sorted (procedures_of theory) c }
 {}
 
 /// A run begins with a configuration that fits, and a call gives the parameters their values as the

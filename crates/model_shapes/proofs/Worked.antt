@@ -1,9 +1,9 @@
 -- Worked rows, by computing: filling, composing, and a filling whose numbers clash.
-use Rattle.std.proofs.Common.{◌≡◌, ℕ, ◌≤◌, refl, arith, List, []}
+use Rattle.std.proofs.Common.{◌≡◌, ℕ, ◌≤◌, refl, arith, List}
 use Rattle.std.specs.Prelude.{codes}
-use Rattle.model_shapes.specs.Trees.{Trees, none, node, hole, beside, fill, node_uses, WellFormed}
-use Rattle.model_shapes.specs.Shapes.{SameAt, OneHole, Shaped}
-use Rattle.model_shapes.specs.Sorts.{DataSort, tree, forest, grove, Sort, shape, context}
+use Rattle.model_shapes.specs.Trees.{Trees, none, node, hole, fill, WellFormed}
+use Rattle.model_shapes.specs.Shapes.{OneHole}
+use Rattle.model_shapes.specs.Sorts.{forest, grove}
 use Rattle.model_shapes.specs.Reordered.{Reordered, nothing, moved_node}
 use Rattle.model_shapes.proofs.Truth.{false≢true}
 
