@@ -128,10 +128,10 @@ abbrev pub own : Bool → ℕ → Option ℕ → Option ℕ
 own true n below = below
 own false n below = Some n
 
--- the first of two faults
-abbrev pub or_else : Option ℕ → Option ℕ → Option ℕ
+-- the first of two, where there is one
+abbrev pub or_else : {A : Type 0} → Option A → Option A → Option A
 or_else None b = b
-or_else (Some n) b = Some n
+or_else (Some a) b = Some a
 
 -- The first part at fault of a formula judged at the sort, where the formula is the part at n.
 abbrev pub first_fault : Named → Sort → ℕ → Option ℕ

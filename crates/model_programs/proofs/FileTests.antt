@@ -15,7 +15,7 @@ use Rattle.model_programs.specs.Commands.{Command, skip, block, assign, create_n
 use Rattle.model_programs.specs.CommandParts.{commands_in, commands_of, variables_of_term}
 use Rattle.model_programs.specs.Theories.{Procedure, Procedures, procedure_named}
 use Rattle.model_programs.specs.Sorting.{Feed, Receive, CallFits, Distinct, InTerms, Sorted, BlockSorted}
-use Rattle.model_programs.specs.FileFaults.{is_program, is_plain, evaluates, condition_sorted, feeds, receives, call_fits, parts_fit, has_command, callee_known, is_among, all_apart, stands_in, results_apart}
+use Rattle.model_programs.specs.FileFaults.{is_program, is_plain, evaluates, condition_sorted, feeds, receives, call_fits, parts_fit, has_command, callee_known, is_among, distinct_by, stands_in, results_apart}
 use Rattle.model_programs.proofs.StoreLaws.{same_name-refl, either-true}
 
 -- TESTS
@@ -38,6 +38,7 @@ not-false false e q = false≢true q
 pub left-true : (a b : Bool) → a ≡ true → (a || b) ≡ true
 left-true a b e = λ j. e j || b
 
+-- the right one
 pub right-true : (a b : Bool) → b ≡ true → (a || b) ≡ true
 right-true true b e = refl
 right-true false b e = e
@@ -184,6 +185,7 @@ receives-received (r ∷ rs) (x ∷ xs) e =
 receives-received [] (x ∷ xs) e = false≢true e
 receives-received (r ∷ rs) [] e = false≢true e
 
+-- what is among some variables passes the test
 pub among-test : (xs : List ProgVar) (x : ProgVar) → Among xs x → is_among xs x ≡ true
 among-test [] x m = absurd m
 among-test (y ∷ ys) x (inl e) =
@@ -192,11 +194,11 @@ among-test (y ∷ ys) x (inl e) =
 among-test (y ∷ ys) x (inr m) =
     right-true (same_name x y) (is_among ys x) (among-test ys x m)
 
-apart-distinct : (xs : List ProgVar) → all_apart xs ≡ true → Distinct xs
+apart-distinct : (xs : List ProgVar) → distinct_by same_name xs ≡ true → Distinct xs
 apart-distinct [] e = tt
 apart-distinct (x ∷ xs) e =
-    let h : (not (is_among xs x) ≡ true) × (all_apart xs ≡ true) =
-    both_true (not (is_among xs x)) (all_apart xs) e in
+    let h : (not (is_among xs x) ≡ true) × (distinct_by same_name xs ≡ true) =
+    both_true (not (is_among xs x)) (distinct_by same_name xs) e in
     ((λ m. not-false (is_among xs x) h.0 (among-test xs x m)), apart-distinct xs h.1)
 
 -- a variable that stands in one of two lists
@@ -214,6 +216,7 @@ stands-left (prog n s ∷ xs) ys x e =
 stands-left (logic n s ∷ xs) ys x e = stands-left xs ys x e
 stands-left (bound i s ∷ xs) ys x e = stands-left xs ys x e
 
+-- in the second
 pub stands-right : (xs ys : List Var) (x : ProgVar) → stands_in ys x ≡ true
     → stands_in (xs ++ ys) x ≡ true
 stands-right [] ys x e = e
@@ -228,6 +231,7 @@ stands-itself y (named n s) e =
     subst (λ z. stands_in (z ∷ []) (named n s) ≡ true) e
     (left-true (same_name (named n s) (named n s)) false (same_name-refl (named n s)))
 
+-- a variable that stands in a term
 pub stands-term : (t : Term) (x : ProgVar) → InTerm (as_var x) t
     → stands_in (variables_of_term t) x ≡ true
 stands-term (literal v) x m = absurd m
@@ -372,9 +376,9 @@ module _ (th : Procedures) where
     sorted-command (call results name arguments) k =
         let c : Passes (call results name arguments) =
         first-checked (call results name arguments) [] k in
-        let h : (all_apart results ≡ true) × (list_all
+        let h : (distinct_by same_name results ≡ true) × (list_all
         (λ x. not (stands_in (flat_map variables_of_term arguments) x)) results ≡ true) =
-        both_true (all_apart results) (list_all
+        both_true (distinct_by same_name results) (list_all
         (λ x. not (stands_in (flat_map variables_of_term arguments) x)) results) c.apart in (
           call-fits (procedure_named name th) results arguments c.known c.fitting,
           apart-distinct results h.0,

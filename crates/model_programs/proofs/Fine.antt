@@ -396,8 +396,10 @@ module _ (th : Procedures) where
     move-fine p (restore x v) st g s fine = (tt, set-fine x v st g s fine)
     move-fine p (run (call xs f es)) st g s fine =
         calling-fine f (procedure_named f th) xs es st g refl s.0 fine
-    move-fine p (return st0 rs xs) st g s fine =
-        (tt, record { proper = returning-proper rs xs st st0 s.1 fine.proper s.0; whole = fine.whole })
+    move-fine p (return st0 rs xs) st g s fine = (
+      tt,
+      record { proper = returning-proper rs xs st st0 s.1 fine.proper s.0; whole = fine.whole },
+    )
     move-fine p (run (create_node x e)) st g s fine =
         creating-fine p x (text_in (value_of st e)) st g s.0 fine
     move-fine p (run (node_name x e)) st g s fine =

@@ -1,5 +1,5 @@
--- What the tests of names and scopes say: of names that are distinct, of variables that are set, and
--- of program variables that stand free.
+-- What the tests of names and scopes say: of names that are distinct, of variables that are set,
+-- and of program variables that stand free.
 use Rattle.std.proofs.Common.{◌≡◌, ◌⊎◌, ℕ, List, [], ◌∷◌, ◌++◌, map, Bool, true, false, not, ◌||◌, sym, refl, subst, inl, inr, bytes_eq}
 use Rattle.std.specs.List.{list_all, list_any}
 use Rattle.model_shapes.specs.Sorts.{ValueSort}
@@ -15,7 +15,7 @@ use Rattle.model_formulas.proofs.Nameless.{walked-nameless}
 use Rattle.model_programs.specs.Stores.{ProgVar, named, as_var, same_name}
 use Rattle.model_programs.specs.Commands.{Command, skip, block, assign, create_node, node_name, child_nodes, parent_node, list_item, append_child, remove_child, if_else, while_do, local, call, Block, stop, ◌then◌, Among, Modifies, BlockModifies}
 use Rattle.model_programs.specs.CommandParts.{commands_in, commands_of, targets, variables_of_term}
-use Rattle.model_programs.specs.FileFaults.{name_of, all_distinct, is_among, stands_in, spares, only_among, variables_of}
+use Rattle.model_programs.specs.FileFaults.{name_of, distinct_by, is_among, stands_in, spares, only_among, variables_of}
 use Rattle.model_programs.proofs.StoreLaws.{same_name-is, same_name-refl}
 use Rattle.model_programs.proofs.FileTests.{all-append, not-false, left-true, right-true, among-test, stands-left, stands-right, each-among}
 
@@ -41,19 +41,19 @@ name-test (z ∷ xs) x (inr m) =
     (name-test xs x m)
 
 -- distinct names in one list and another belong to different variables
-distinct-apart : (xs ys : List ProgVar) → all_distinct (map name_of (xs ++ ys)) ≡ true
+distinct-apart : (xs ys : List ProgVar) → distinct_by bytes_eq (map name_of (xs ++ ys)) ≡ true
     → (x : ProgVar) → Among xs x → Among ys x → ⊥
 distinct-apart [] ys e x m n = m
 distinct-apart (z ∷ xs) ys e x m n = go m (λ q m'. distinct-apart xs ys q x m' n)
   where
     tests : (not (list_any (bytes_eq (name_of z)) (map name_of (xs ++ ys))) ≡ true)
-        × (all_distinct (map name_of (xs ++ ys)) ≡ true)
+        × (distinct_by bytes_eq (map name_of (xs ++ ys)) ≡ true)
     tests =
         both_true (not (list_any (bytes_eq (name_of z)) (map name_of (xs ++ ys))))
-        (all_distinct (map name_of (xs ++ ys))) e
+        (distinct_by bytes_eq (map name_of (xs ++ ys))) e
 
     go : (x ≡ z) ⊎ Among xs x
-        → (all_distinct (map name_of (xs ++ ys)) ≡ true → Among xs x → ⊥) → ⊥
+        → (distinct_by bytes_eq (map name_of (xs ++ ys)) ≡ true → Among xs x → ⊥) → ⊥
     go (inl q) rec =
         not-false (list_any (bytes_eq (name_of z)) (map name_of (xs ++ ys))) tests.0
         (subst (λ y. list_any (bytes_eq (name_of y)) (map name_of (xs ++ ys)) ≡ true) q
@@ -62,7 +62,7 @@ distinct-apart (z ∷ xs) ys e x m n = go m (λ q m'. distinct-apart xs ys q x m
 
 -- parameters and results with distinct names are apart
 pub names-apart : (xs ys zs : List ProgVar)
-    → all_distinct (map name_of (xs ++ (ys ++ zs))) ≡ true
+    → distinct_by bytes_eq (map name_of (xs ++ (ys ++ zs))) ≡ true
     → (x : ProgVar) → Among xs x → Among ys x → ⊥
 names-apart xs ys zs e x m n = distinct-apart xs (ys ++ zs) e x m (among-left ys zs x n)
 

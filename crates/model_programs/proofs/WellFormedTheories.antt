@@ -6,13 +6,14 @@ use Rattle.model_shapes.specs.Sorts.{DataSort}
 use Rattle.model_shapes.proofs.Truth.{both_true}
 use Rattle.model_formulas.specs.Variables.{Var}
 use Rattle.model_formulas.specs.Formulas.{Named}
+use Rattle.model_formulas.specs.WellSorted.{or_else}
 use Rattle.model_programs.specs.Stores.{ProgVar}
 use Rattle.model_programs.specs.Commands.{Command, Among}
 use Rattle.model_programs.specs.CommandParts.{commands_in, locals_of}
 use Rattle.model_programs.specs.Theories.{Procedure, ProcedureOf, Theory, StepOf, triple, procedures_of, procedure_named, nameless_procedure}
 use Rattle.model_programs.specs.Sorting.{Sorted}
 use Rattle.model_programs.specs.Fitting.{BodiesSorted, IsScoped}
-use Rattle.model_programs.specs.FileFaults.{FileKind, first_of, unless_kind, name_of, all_distinct, callee_known, parts_fit, results_apart, spares, only_among, variables_of, Scope, scope_of, is_known, is_as_declared, command_kind, head_kind, step_kind, commands_of_judgement, fault_at, steps_fault, procedures_fault, declarations_kind, IsWellFormedTheory}
+use Rattle.model_programs.specs.FileFaults.{FileKind, unless_kind, name_of, distinct_by, callee_known, parts_fit, results_apart, spares, only_among, variables_of, Scope, scope_of, is_known, is_as_declared, command_kind, head_kind, step_kind, commands_of_judgement, fault_at, steps_fault, procedures_fault, declarations_kind, IsWellFormedTheory}
 use Rattle.model_programs.proofs.FileTests.{Checked, sorted-command}
 use Rattle.model_programs.proofs.Scopes.{names-apart, modifies-spared, only-free, test-among}
 
@@ -22,7 +23,7 @@ unless-none : (b : Bool) (k : FileKind) (later : Option FileKind) → unless_kin
 unless-none true k later e = (refl, e)
 unless-none false k later e = absurd (cc)
 
-first-none : {A : Type 0} (a b : Option A) → first_of a b ≡ None → (a ≡ None) × (b ≡ None)
+first-none : {A : Type 0} (a b : Option A) → or_else a b ≡ None → (a ≡ None) × (b ≡ None)
 first-none None b e = (refl, e)
 first-none (Some x) b e = absurd (cc)
 
@@ -119,8 +120,8 @@ module _ (theory : Theory) where
       → head_kind theory earlier p ≡ None → IsScoped (nameless_procedure p)
   head-scoped earlier p e =
       let a = unless-none _ _ _ e in
-      let names : all_distinct (map name_of (p.params ++ (p.results ++ locals_of p.body))) ≡ true =
-      (both_true _ (all_distinct (map name_of (scope_of theory p).variables)) a.0).1 in
+      let names : distinct_by bytes_eq (map name_of (p.params ++ (p.results ++ locals_of p.body))) ≡ true =
+      (both_true _ (distinct_by bytes_eq (map name_of (scope_of theory p).variables)) a.0).1 in
       let b = kind-spares (scope_of theory p) p.params _ _ (commands_in p.body) _ a.1 in
       let c = unless-none _ _ _ b.1 in
       let d : (only_among p.params (variables_of p.pre) ≡ true)

@@ -6,7 +6,7 @@ use Rattle.model_shapes.specs.Sorts.{Sort, shape, ValueSort, node_sort, list_sor
 use Rattle.model_formulas.specs.Variables.{Var, prog, logic, bound}
 use Rattle.model_formulas.specs.Terms.{Term, variable}
 use Rattle.model_formulas.specs.Formulas.{Named, conjunction, disjunction, implication, negation, existential, universal, equality, at_most, node_formula, one_tree, one_root, concatenation, grove_sum, grove_sum_hole, application, hole_adjoint, context_adjoint, same_as, length_is, value_meets}
-use Rattle.model_formulas.specs.WellSorted.{has_sort, one_sort, is_form, first_fault}
+use Rattle.model_formulas.specs.WellSorted.{has_sort, one_sort, is_form, first_fault, or_else}
 use Rattle.model_programs.specs.Stores.{ProgVar, named, sort_of, same_name}
 use Rattle.model_programs.specs.Conditions.{Cond, cond_true, cond_false, cond_variable, cond_equal, cond_at_most, cond_not, cond_and, cond_or}
 use Rattle.model_programs.specs.Commands.{Command, skip, block, assign, create_node, node_name, child_nodes, parent_node, list_item, append_child, remove_child, if_else, while_do, local, call, Block, stop, ◌then◌}
@@ -26,11 +26,6 @@ pub record FileFault : Type 0 where
   pub step : ℕ
   pub kind : FileKind
 
--- the first of two, where there is one
-abbrev pub first_of : {A : Type 0} → Option A → Option A → Option A
-first_of (Some a) later = Some a
-first_of None later = later
-
 -- the kind where the test fails, and else what comes later
 abbrev pub unless_kind : Bool → FileKind → Option FileKind → Option FileKind
 unless_kind true kind later = later
@@ -45,10 +40,10 @@ abbrev pub logic_name : Var → List ℕ
 logic_name (logic name s) = name
 logic_name x = []
 
--- no name stands twice
-abbrev pub all_distinct : List (List ℕ) → Bool
-all_distinct [] = true
-all_distinct (name ∷ names) = not (list_any (bytes_eq name) names) && all_distinct names
+-- nothing stands twice, by a test of sameness
+abbrev pub distinct_by : {A : Type 0} → (A → A → Bool) → List A → Bool
+distinct_by same [] = true
+distinct_by same (x ∷ xs) = not (list_any (same x) xs) && distinct_by same xs
 
 -- the variable is one of these
 abbrev pub is_among : List ProgVar → ProgVar → Bool
@@ -225,11 +220,6 @@ callee_known procedures command = true
 abbrev pub spares : List ProgVar → Command → Bool
 spares params command = list_all (λ x. not (is_among params x)) (targets command)
 
--- the results of a call don't repeat, and none of them stands in its arguments
-abbrev pub all_apart : List ProgVar → Bool
-all_apart [] = true
-all_apart (x ∷ xs) = not (is_among xs x) && all_apart xs
-
 -- the program variable is among these
 abbrev pub stands_in : List Var → ProgVar → Bool
 stands_in [] x = false
@@ -239,7 +229,7 @@ stands_in (y ∷ rest) x = stands_in rest x
 -- in a call, the results don't repeat, and none of them stands in its arguments
 abbrev pub results_apart : Command → Bool
 results_apart (call results name arguments) =
-    all_apart results
+    distinct_by same_name results
     && list_all (λ x. not (stands_in (flat_map variables_of_term arguments) x)) results
 results_apart command = true
 
@@ -265,7 +255,7 @@ is_logic_sort x = false
 abbrev pub declarations_kind : Theory → Option FileKind
 declarations_kind theory =
     unless_kind (theory.version == 1) version_kind
-    (unless_kind (all_distinct (map logic_name theory.logic)) twice_kind
+    (unless_kind (distinct_by bytes_eq (map logic_name theory.logic)) twice_kind
     (unless_kind (list_all is_logic_sort theory.logic) sort_kind None))
 
 -- the program variables among these are some of those
@@ -279,7 +269,7 @@ abbrev pub head_kind : Theory → List (ProcedureOf Named) → ProcedureOf Named
 head_kind theory earlier procedure =
     let scope : Scope = scope_of theory procedure in
     unless_kind (not (list_any (λ f. bytes_eq procedure.name f.name) earlier)
-    && all_distinct (map name_of scope.variables)) twice_kind
+    && distinct_by bytes_eq (map name_of scope.variables)) twice_kind
     (command_kind scope procedure.params
     (variables_of procedure.pre
     ++ (variables_of procedure.post ++ variables_of_command procedure.body))
@@ -338,7 +328,7 @@ abbrev pub steps_fault : Theory → ProcedureOf Named → ℕ → ℕ → List (
     → Option FileFault
 steps_fault theory procedure number place [] = None
 steps_fault theory procedure number place (step ∷ steps) =
-    first_of (fault_at number place (step_kind theory procedure place step))
+    or_else (fault_at number place (step_kind theory procedure place step))
     (steps_fault theory procedure number (place + 1) steps)
 
 -- the first fault of the procedures
@@ -346,14 +336,14 @@ abbrev pub procedures_fault : Theory → List (ProcedureOf Named) → ℕ → Li
     → Option FileFault
 procedures_fault theory earlier number [] = None
 procedures_fault theory earlier number (procedure ∷ later) =
-    first_of (fault_at number 0 (head_kind theory earlier procedure))
-    (first_of (steps_fault theory procedure number 1 procedure.proof)
+    or_else (fault_at number 0 (head_kind theory earlier procedure))
+    (or_else (steps_fault theory procedure number 1 procedure.proof)
     (procedures_fault theory (procedure ∷ earlier) (number + 1) later))
 
 -- the first fault of a theory
 abbrev pub first_file_fault : Theory → Option FileFault
 first_file_fault theory =
-    first_of (fault_at 0 0 (declarations_kind theory))
+    or_else (fault_at 0 0 (declarations_kind theory))
     (procedures_fault theory [] 1 theory.procedures)
 
 -- no place is at fault

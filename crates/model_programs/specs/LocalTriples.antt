@@ -1,5 +1,5 @@
 -- Local triples, as in PODS 2008: a triple holds in every context, over every list of picks.
--- Of a run that isn't at its end, or that met a bad pick, nothing is asked but that it hasn't faulted.
+-- Of a run that isn't at its end, or that met a bad pick, it is asked that it hasn't faulted.
 use Rattle.std.specs.Prelude.{ℕ, List, [], ◌∷◌, length}
 use Rattle.model_shapes.specs.Sorts.{shape, context, DataSort, grove}
 use Rattle.model_shapes.specs.Trees.{Trees, fill}

@@ -4,6 +4,7 @@ use Rattle.std.specs.Prelude.{ℕ, zero, suc, ◌+◌, max, ℤ, pos, negsuc, in
 use Rattle.model_shapes.specs.Trees.{Trees, none, node, hole}
 use Rattle.model_shapes.specs.Values.{Value, int, str}
 use Rattle.model_formulas.specs.Terms.{Term, literal, variable, sum, difference, appended}
+use Rattle.model_formulas.specs.WellSorted.{or_else}
 use Rattle.model_programs.specs.Stores.{ProgVar, Store, value_in, value_of}
 use Rattle.model_programs.specs.Commands.{create_node, call}
 use Rattle.model_programs.specs.CommandParts.{terms_of}
@@ -49,11 +50,6 @@ standard_limits = record {
   depth = 10000;
 }
 
--- the first of two, where there is one
-abbrev pub first_of_two : {A : Type 0} → Option A → Option A → Option A
-first_of_two (Some a) b = Some a
-first_of_two None b = b
-
 -- the limit that is passed where the test fails
 abbrev pub unless : {A : Type 0} → Bool → A → Option A
 unless true a = None
@@ -71,22 +67,22 @@ abbrev pub term_limit : Limits → Store → Term → Option LimitKind
 term_limit limits store (literal v) = value_limit limits v
 term_limit limits store (variable x) = value_limit limits (value_of store (variable x))
 term_limit limits store (sum a b) =
-    first_of_two (term_limit limits store a)
-    (first_of_two (term_limit limits store b) (value_limit limits (value_of store (sum a b))))
+    or_else (term_limit limits store a)
+    (or_else (term_limit limits store b) (value_limit limits (value_of store (sum a b))))
 term_limit limits store (difference a b) =
-    first_of_two (term_limit limits store a)
-    (first_of_two (term_limit limits store b)
+    or_else (term_limit limits store a)
+    (or_else (term_limit limits store b)
     (value_limit limits (value_of store (difference a b))))
 term_limit limits store (appended a b) =
-    first_of_two (term_limit limits store a)
-    (first_of_two (term_limit limits store b)
+    or_else (term_limit limits store a)
+    (or_else (term_limit limits store b)
     (value_limit limits (value_of store (appended a b))))
 
 -- the same of several terms
 abbrev pub terms_limit : Limits → Store → List Term → Option LimitKind
 terms_limit limits store [] = None
 terms_limit limits store (term ∷ terms) =
-    first_of_two (term_limit limits store term) (terms_limit limits store terms)
+    or_else (term_limit limits store term) (terms_limit limits store terms)
 
 -- the greatest number of a node
 abbrev pub greatest_node : Trees → ℕ
@@ -136,7 +132,7 @@ piece_limit limits piece store = None
 -- the limit that a step passes: of its terms, then of nodes or depth
 abbrev pub step_limit : Limits → Piece → List Piece → Store → Trees → Option LimitKind
 step_limit limits piece rest store grove =
-    first_of_two (piece_limit limits piece store) (growth_limit limits piece rest grove)
+    or_else (piece_limit limits piece store) (growth_limit limits piece rest grove)
 
 -- the limit that the next pick passes
 abbrev pub pick_limit : Limits → Piece → Trees → Option LimitKind
@@ -148,7 +144,7 @@ pick_limit limits piece grove = None
 -- the limit that a step of a run passes: that of the next pick comes last
 abbrev pub limit_of : Limits → Piece → List Piece → Store → Trees → Option LimitKind
 limit_of limits piece rest store grove =
-    first_of_two (step_limit limits piece rest store grove) (pick_limit limits piece grove)
+    or_else (step_limit limits piece rest store grove) (pick_limit limits piece grove)
 
 -- How a run comes out: it ends, with the steps taken, the values of the results and the grove; the
 -- fuel is spent, with the steps taken and what is left; a limit would be passed; or the first piece

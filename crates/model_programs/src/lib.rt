@@ -49,8 +49,8 @@ pub fn conditions_are_their_formulas()
         → ((truth_of store c ≡ true) ↔ Meets (formula_of c) (joint (lookup store) e) s r) }
 {}
 
-/// What runs and calls need of a theory, a well-formed one has: bodies with parts of the right sorts
-/// and number, and procedures that keep to their scopes; and so do the commands of its steps.
+/// What runs and calls need of a theory, a well-formed one has: bodies and commands of steps with
+/// parts of the right sorts and number, and procedures that keep to their scopes.
 pub fn well_formed_theories_fit_the_machine()
     ensures bodies { (theory : Theory) → IsWellFormedTheory theory
         → BodiesSorted (procedures_of theory) }
@@ -153,8 +153,8 @@ pub fn outcomes_are_runs()
         (outcome limits ps results fuel taken pending store roots) }
 {}
 
-/// Where a run ends in a well-formed grove with some data in the context, read classically, it ends so
-/// plainly: what stands in the context can be computed.
+/// Where a run ends in a well-formed grove with some data in the context, read classically, it ends
+/// so plainly: what stands in the context can be computed.
 pub fn ends_plainly()
     ensures { (d : DataSort) (around : Trees) (post : Formula) (e : Environment) (store : Store)
         (roots : Trees) → Shaped (context d grove) around → Shaped (shape grove) roots
