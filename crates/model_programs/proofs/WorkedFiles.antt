@@ -1,17 +1,18 @@
 -- Worked files, by computing: one that is well formed, and one for each kind of fault; and the
 -- variables that a command changes.
-use Rattle.std.proofs.Common.{◌≡◌, ℕ, List, [], ◌∷◌, refl, sym, ap, pos, Option, Some, None, inl, inr}
+use Rattle.std.proofs.Common.{◌≡◌, ℕ, List, [], ◌∷◌, length, refl, sym, ap, pos, Option, Some, None, inl, inr}
 use Rattle.std.specs.Prelude.{codes}
-use Rattle.model_shapes.specs.Sorts.{value, shape, context, tree, forest, grove, node_sort, int_sort, str_sort}
+use Rattle.model_shapes.specs.Sorts.{value, shape, context, tree, forest, grove, node_sort, list_sort, int_sort, str_sort}
 use Rattle.model_shapes.proofs.Truth.{false≢true}
 use Rattle.model_shapes.specs.Values.{null, int}
-use Rattle.model_formulas.specs.Terms.{Term, literal, variable}
+use Rattle.model_formulas.specs.Terms.{Term, literal, variable, sum}
 use Rattle.model_formulas.specs.Variables.{Var, prog, logic}
 use Rattle.model_formulas.specs.Formulas.{Named, truth, empty, existential, equality}
 use Rattle.model_programs.specs.Stores.{ProgVar, named, same_name}
-use Rattle.model_programs.specs.Conditions.{cond_true}
-use Rattle.model_programs.specs.Commands.{Command, skip, assign, while_do, local, call, stop, ◌then◌, Modifies}
+use Rattle.model_programs.specs.Conditions.{cond_equal, cond_true}
+use Rattle.model_programs.specs.Commands.{Command, skip, assign, child_nodes, list_item, if_else, while_do, local, call, stop, ◌then◌, Modifies}
 use Rattle.model_programs.specs.Theories.{Theory, ProcedureOf, StepOf, JudgementOf, entails, triple, Reason, auto, by_rule}
+use Rattle.model_programs.specs.RuleNames.{entailment_rule_names, triple_rule_names}
 use Rattle.model_programs.specs.FileFaults.{FileKind, version_kind, twice_kind, unknown_kind, sort_kind, constant_kind, results_kind, scope_kind, rule_kind, number_kind, FileFault, first_file_fault}
 
 -- variables, and their terms
@@ -76,6 +77,41 @@ well_formed = refl
 
 version : first_file_fault (theory 2 [] (plain [] [] skip (skips ∷ []) ∷ [])) ≡ at 0 0 version_kind
 version = refl
+
+-- a file with quantifiers, whose bound names differ between its ensures and its step
+abbrev m : Var
+m = logic (codes "$m") (value int_sort)
+
+abbrev sum_is : Var → Named
+sum_is y = existential y (equality (sum (of a) one) (variable y))
+
+abbrev x_is : Var → Named
+x_is y = existential y (equality (of x) (variable y))
+
+abbrev adds : Command
+adds = assign x (sum (of a) one)
+
+quantified : first_file_fault (theory 1 (m ∷ n ∷ [])
+    (proc (codes "inc") (a ∷ []) (x ∷ []) (sum_is m) (x_is n) adds
+    (step 1 (rule (codes "assign")) (triple (sum_is m) adds (x_is n) grove) ∷ []) ∷ [])) ≡ None
+quantified = refl
+
+-- a file with local variables, a choice and a call of itself
+abbrev p : ProgVar
+p = named (codes "p") node_sort
+
+abbrev c : ProgVar
+c = named (codes "c") node_sort
+
+abbrev l : ProgVar
+l = named (codes "l") list_sort
+
+recursive : first_file_fault (theory 1 [] (proc (codes "depth") (p ∷ []) (x ∷ []) truth truth
+    (local l (child_nodes l (of p) then (local c (list_item c (of l) one then
+    (if_else (cond_equal (of c) (literal null)) (assign x one then stop)
+    (call (x ∷ []) (codes "depth") (of c ∷ []) then (assign x (sum (of x) one) then stop))
+    then stop)) then stop))) [] ∷ [])) ≡ None
+recursive = refl
 
 -- a logic variable declared twice, at two sorts; a procedure; a parameter that is a local variable
 twice_logic : first_file_fault (theory 1 (n ∷ logic (codes "$n") (shape tree) ∷ []) [])
@@ -169,6 +205,13 @@ earlier : first_file_fault (theory 1 [] (plain [] [] skip
     (step 7 auto (entails truth truth (shape grove)) ∷ []) ∷ plain [] [] skip [] ∷ []))
     ≡ at 1 1 number_kind
 earlier = refl
+
+-- there are 120 rules of entailment, and 13 rules and 9 axioms for triples
+entailment_rules : length entailment_rule_names ≡ 120
+entailment_rules = refl
+
+triple_rules : length triple_rule_names ≡ 22
+triple_rules = refl
 
 -- local b : int { b := 1 ; x := b }
 abbrev sets_locally : Command
