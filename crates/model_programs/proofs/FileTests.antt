@@ -29,10 +29,10 @@ all-append p (x ∷ xs) ys e =
     let r : (list_all p xs ≡ true) × (list_all p ys ≡ true) = all-append p xs ys h.1 in
     ((λ j. h.0 j && r.0 j), r.1)
 
--- a denied test is false
-pub not-false : (b : Bool) → not b ≡ true → b ≡ true → ⊥
-not-false true e q = false≢true e
-not-false false e q = false≢true q
+-- a test and its denial aren't both true
+pub not-both : (b : Bool) → not b ≡ true → b ≡ true → ⊥
+not-both true e q = false≢true e
+not-both false e q = false≢true q
 
 -- either of two tests that are true
 pub left-true : (a b : Bool) → a ≡ true → (a || b) ≡ true
@@ -199,7 +199,7 @@ apart-distinct [] e = tt
 apart-distinct (x ∷ xs) e =
     let h : (not (is_among xs x) ≡ true) × (distinct_by same_name xs ≡ true) =
     both_true (not (is_among xs x)) (distinct_by same_name xs) e in
-    ((λ m. not-false (is_among xs x) h.0 (among-test xs x m)), apart-distinct xs h.1)
+    ((λ m. not-both (is_among xs x) h.0 (among-test xs x m)), apart-distinct xs h.1)
 
 -- a variable that stands in one of two lists
 pub stands-left : (xs ys : List Var) (x : ProgVar) → stands_in xs x ≡ true
@@ -383,7 +383,7 @@ module _ (th : Procedures) where
           call-fits (procedure_named name th) results arguments c.known c.fitting,
           apart-distinct results h.0,
           λ x m i.
-              not-false (stands_in (flat_map variables_of_term arguments) x)
+              not-both (stands_in (flat_map variables_of_term arguments) x)
               (each-among
               (λ y. not (stands_in (flat_map variables_of_term arguments) y)) results h.1 x m)
               (stands-terms arguments x i),

@@ -114,10 +114,6 @@ pub is-positive : (n : ℕ) → positive n ≡ true → 0 < n
 is-positive zero e = absurd (cc)
 is-positive (suc n) e = omega arith
 
-tally-le : {A : Type 0} (d : Dec A) → tally d ≤ 1
-tally-le (yes a) = omega arith
-tally-le (no n) = omega arith
-
 created-once : (f : ℕ → Trees → ℕ) (i : ℕ) (g : Trees) → f i g ≡ 0 → ((n : ℕ) → f n g ≤ 1)
     → (n : ℕ) → f n g + tally (ℕ_discrete n i) ≤ 1
 created-once f i g z o n = go (ℕ_discrete n i)

@@ -17,7 +17,7 @@ use Rattle.model_programs.specs.Commands.{Command, skip, block, assign, create_n
 use Rattle.model_programs.specs.CommandParts.{commands_in, commands_of, targets, variables_of_term}
 use Rattle.model_programs.specs.FileFaults.{name_of, distinct_by, is_among, stands_in, spares, only_among, variables_of}
 use Rattle.model_programs.proofs.StoreLaws.{same_name-is, same_name-refl}
-use Rattle.model_programs.proofs.FileTests.{all-append, not-false, left-true, right-true, among-test, stands-left, stands-right, each-among}
+use Rattle.model_programs.proofs.FileTests.{all-append, not-both, left-true, right-true, among-test, stands-left, stands-right, each-among}
 
 -- NAMES
 among-left : (xs ys : List ProgVar) (x : ProgVar) → Among xs x → Among (xs ++ ys) x
@@ -55,7 +55,7 @@ distinct-apart (z ∷ xs) ys e x m n = go m (λ q m'. distinct-apart xs ys q x m
     go : (x ≡ z) ⊎ Among xs x
         → (distinct_by bytes_eq (map name_of (xs ++ ys)) ≡ true → Among xs x → ⊥) → ⊥
     go (inl q) rec =
-        not-false (list_any (bytes_eq (name_of z)) (map name_of (xs ++ ys))) tests.0
+        not-both (list_any (bytes_eq (name_of z)) (map name_of (xs ++ ys))) tests.0
         (subst (λ y. list_any (bytes_eq (name_of y)) (map name_of (xs ++ ys)) ≡ true) q
         (name-test (xs ++ ys) x (among-right xs ys x n)))
     go (inr m') rec = rec tests.1 m'
@@ -71,7 +71,7 @@ names-apart xs ys zs e x m n = distinct-apart xs (ys ++ zs) e x m (among-left ys
 spared : (ps : List ProgVar) (c : Command) → spares ps c ≡ true → (x : ProgVar) → Among ps x
     → Among (targets c) x → ⊥
 spared ps c e x m t =
-    not-false (is_among ps x) (each-among (λ y. not (is_among ps y)) (targets c) e x t)
+    not-both (is_among ps x) (each-among (λ y. not (is_among ps y)) (targets c) e x t)
     (among-test ps x m)
 
 module _ (ps : List ProgVar) where

@@ -10,6 +10,7 @@ use Rattle.model_shapes.proofs.Basics.{holes-beside, root_holes-beside, root_use
 use Rattle.model_shapes.proofs.Sameness.{SameGrove, picked, tally_self}
 use Rattle.model_shapes.proofs.Shapes.{root_holes-le}
 use Rattle.model_shapes.proofs.Narrow.{alone}
+use Rattle.model_shapes.proofs.Cancelling.{node-kids, node-rest, node-head}
 
 -- EACH GIVES A PLAIN ONE
 mutual
@@ -310,24 +311,12 @@ first-alike (hole none) t' b b' m m' e = absurd m'
 first-alike (node s i k l none) t' b b' m m' e = absurd m'
 first-alike t t' b b' m m' e = absurd m
 
-kids-alike : (s s' : List ℕ) (i i' : ℕ) (k k' : Trees) (l l' : ℕ) (r r' : Trees)
-    → node s i k l r ≡ node s' i' k' l' r' → k ≡ k'
-kids-alike s s' i i' k k' l l' r r' e = cc
-
-rest-alike : (s s' : List ℕ) (i i' : ℕ) (k k' : Trees) (l l' : ℕ) (r r' : Trees)
-    → node s i k l r ≡ node s' i' k' l' r' → r ≡ r'
-rest-alike s s' i i' k k' l l' r r' e = cc
-
-head-alike : (s s' : List ℕ) (i i' : ℕ) (k k' : Trees) (l l' : ℕ) (r r' q q' : Trees)
-    → node s i k l r ≡ node s' i' k' l' r' → q ≡ q' → node s i k l q ≡ node s' i' k' l' q'
-head-alike s s' i i' k k' l l' r r' q q' e f = cc
-
 -- a node without a hole isn't the root with the hole
 not-marked : (t b : Trees) (s : List ℕ) (i : ℕ) (k : Trees) (l : ℕ) (r : Trees) → Marked t
     → holes k ≡ 0 → beside t b ≡ node s i k l r → ⊥
 not-marked (hole none) b s i k l r m z e = cc
 not-marked (node s' i' k' l' none) b s i k l r o z e =
-    omega (arith, o, z, ap holes (kids-alike s' s i' i k' k l' l b r e))
+    omega (arith, o, z, ap holes (node-kids s' s i' i k' k l' l b r e))
 not-marked t b s i k l r m z e = m
 
 alike : (a a' t t' b b' : Trees) → holes a ≡ 0 → holes a' ≡ 0 → Marked t → Marked t'
@@ -342,9 +331,9 @@ alike (node s i k l a) (node s' i' k' l' a') t t' b b' z z' m m' e =
     let r' : Trees = beside a' (beside t' b') in
     let x : Alike a a' t t' b b' =
     alike a a' t t' b b' (omega (arith, z)) (omega (arith, z')) m m'
-    (rest-alike s s' i i' k k' l l' r r' e) in
+    (node-rest s s' i i' k k' l l' r r' e) in
     record {
-      before = head-alike s s' i i' k k' l l' r r' a a' e x.before;
+      before = node-head s s' i i' k k' l l' r r' a a' e x.before;
       root = x.root;
       after = x.after;
     }
@@ -371,7 +360,7 @@ mutual
   tree-once (around_node s i f l) (around_node s' i' f' l') b b' e h =
       around s s' i i' f f' l l' e
       (forest-once f f' b b'
-      (kids-alike s s' i i' (forest_thing f) (forest_thing f') l l' none none e) h)
+      (node-kids s s' i i' (forest_thing f) (forest_thing f') l l' none none e) h)
     where
       around : (s s' : List ℕ) (i i' : ℕ) (f f' : ForestContext) (l l' : ℕ)
           → node s i (forest_thing f) l none ≡ node s' i' (forest_thing f') l' none → f ≡ f'

@@ -10,15 +10,18 @@ use Rattle.model_shapes.proofs.Shapes.{root_holes-le}
 use Rattle.model_shapes.proofs.Narrow.{narrow}
 use Rattle.model_shapes.proofs.Filling.{swap_in, grove_hole, grove_root}
 
-node-rest : (s s' : List ℕ) (i i' : ℕ) (k k' : Trees) (l l' : ℕ) (r r' : Trees)
+-- equal nodes have equal roots behind them
+pub node-rest : (s s' : List ℕ) (i i' : ℕ) (k k' : Trees) (l l' : ℕ) (r r' : Trees)
     → node s i k l r ≡ node s' i' k' l' r' → r ≡ r'
 node-rest s s' i i' k k' l l' r r' e = cc
 
-node-kids : (s s' : List ℕ) (i i' : ℕ) (k k' : Trees) (l l' : ℕ) (r r' : Trees)
+-- equal children
+pub node-kids : (s s' : List ℕ) (i i' : ℕ) (k k' : Trees) (l l' : ℕ) (r r' : Trees)
     → node s i k l r ≡ node s' i' k' l' r' → k ≡ k'
 node-kids s s' i i' k k' l l' r r' e = cc
 
-node-head : (s s' : List ℕ) (i i' : ℕ) (k k' : Trees) (l l' : ℕ) (r r' q q' : Trees)
+-- and stay equal with other equal roots behind them
+pub node-head : (s s' : List ℕ) (i i' : ℕ) (k k' : Trees) (l l' : ℕ) (r r' q q' : Trees)
     → node s i k l r ≡ node s' i' k' l' r' → q ≡ q' → node s i k l q ≡ node s' i' k' l' q'
 node-head s s' i i' k k' l l' r r' q q' e f = cc
 

@@ -8,7 +8,8 @@ use Rattle.model_shapes.specs.Values.{null, nolist, int, str, boolean}
 use Rattle.model_shapes.proofs.Filling.{grove_root}
 use Rattle.model_shapes.proofs.Truth.{false≢true}
 
-tally-le : {A : Type 0} (d : Dec A) → tally d ≤ 1
+-- an answer counts at most once
+pub tally-le : {A : Type 0} (d : Dec A) → tally d ≤ 1
 tally-le (yes a) = omega arith
 tally-le (no n) = omega arith
 
