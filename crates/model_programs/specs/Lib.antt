@@ -11,6 +11,7 @@ pub mod Machine
 pub mod Outcomes
 pub mod Changes
 pub mod Behind
+pub mod ByStep
 pub mod Fitting
 pub mod LocalTriples
 pub mod Blocks

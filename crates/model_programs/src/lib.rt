@@ -27,6 +27,7 @@ ghost use Rattle.model_programs.specs.LocalTriples.{Ends, EndsWith, Stands, Hold
 ghost use Rattle.model_programs.specs.Blocks.{Followed};
 ghost use Rattle.model_programs.specs.SameMoves.{SameMove, SameOutcome};
 ghost use Rattle.model_programs.specs.Behind.{Behind};
+ghost use Rattle.model_programs.specs.ByStep.{after_step};
 
 /// A store gives each variable the value that it was set to last, and else its sort's default.
 pub fn stores_are_maps()
@@ -80,6 +81,14 @@ pub fn runs_keep_what_fits()
     ensures run { (ps : Procedures) → BodiesSorted ps → (picks : List Pick) (pending : List Piece)
         (store : Store) (roots : Trees) → FitPieces ps pending → Fine store roots
         → Ends Unit Fine (runs ps picks pending store roots) }
+{}
+
+/// A run takes one step for its first pick, and goes on from where that leads.
+pub fn runs_take_steps()
+    ensures { (ps : Procedures) (picks : List Pick) (pick : Pick) (config : Config)
+        → runs ps (pick ∷ picks) config.pending config.store config.grove
+        ≡ after_step (λ c. runs ps picks c.pending c.store c.grove) config.store config.grove
+        (step ps config pick) }
 {}
 
 /// A run of pieces followed by others is the run of the pieces, and then that of the others.
