@@ -1,103 +1,58 @@
--- The rows of the quantifiers, and the ways out of the adjoints.
-use Rattle.std.proofs.Common.{◌≡◌, ℕ, sym, refl, ap, ◌∙◌, subst, List, true}
+-- What a quantifier over a variable says: for some, or each, thing of its sort the formula is met,
+-- with the variable standing for that thing.
+use Rattle.std.proofs.Common.{◌≡◌, refl, sym, ap, ◌∙◌, subst}
 use mathlib.Core.Path.{fun_ext}
-use Rattle.model_shapes.specs.Trees.{fill}
-use Rattle.model_shapes.specs.Sorts.{Sort, value, shape, DataSort, ValueSort, is_sort}
-use Rattle.model_shapes.specs.Things.{Thing, Fits}
-use Rattle.model_formulas.specs.Formulas.{Formula, application, hole_adjoint, context_adjoint}
-use Rattle.model_formulas.specs.Variables.{Var, prog, logic, var_sort}
+use Rattle.model_shapes.specs.Trees.{Trees}
+use Rattle.model_shapes.specs.Sorts.{Sort}
+use Rattle.model_shapes.specs.Things.{Thing}
+use Rattle.model_formulas.specs.Formulas.{Formula}
+use Rattle.model_formulas.specs.Variables.{Var, var_sort}
 use Rattle.model_formulas.specs.Terms.{Term, variable, var_eq}
-use Rattle.model_formulas.specs.Substitution.{formula_with, FreeIn, closing, closing_at, replacing, replacing_at, exists, forall}
-use Rattle.model_formulas.specs.Satisfaction.{Environment, Meets, Entails, Proper, choosing, meaning_of}
-use Rattle.model_formulas.proofs.Stable.{stable}
-use Rattle.model_shapes.proofs.Shapes.{SameAt-sym, same-Shaped}
-use Rattle.model_formulas.proofs.Closed.{closed}
-use Rattle.model_formulas.proofs.Substitutes.{raised-meaning, after, meets-with, with-meets-back, meets-agrees}
+use Rattle.model_formulas.specs.Substitution.{formula_with, closing, closing_at, replacing, replacing_at, exists, forall}
+use Rattle.model_formulas.specs.Satisfaction.{Environment, Meets, SomeThing, EachThing, choosing, meaning_of}
+use Rattle.model_formulas.specs.Setting.{setting, setting_at}
+use Rattle.model_formulas.proofs.Substitutes.{raised-meaning, after, with-meets}
 
-abbrev pub setting_at : {x y : Var} → Thing → Environment → Dec (y ≡ x) → Thing
-setting_at {x} {y} v e (yes q) = v
-setting_at {x} {y} v e (no n) = e y
-
-abbrev pub setting : Var → Thing → Environment → Environment
-setting x v e y = setting_at v e (var_eq y x)
-
-pub closing-env : (x : Var) (v : Thing) (e : Environment) → after (closing x) (choosing v e) ≡ setting x v e
+-- closing over a variable, under a binder that has chosen a thing, sets the variable to it
+pub closing-env : (x : Var) (v : Thing) (e : Environment)
+    → after (closing x) (choosing v e) ≡ setting x v e
 closing-env x v e = fun_ext (λ y. go y (var_eq y x))
   where
-    go : (y : Var) (d : Dec (y ≡ x)) → meaning_of (choosing v e) (closing_at d) ≡ setting_at v e d
+    go : (y : Var) (d : Dec (y ≡ x))
+        → meaning_of (choosing v e) (closing_at d) ≡ setting_at v e d
     go y (yes q) = refl
     go y (no n) = raised-meaning e v (variable y)
 
-pub replacing-env : (x : Var) (t : Term) (e : Environment) → after (replacing x t) e ≡ setting x (meaning_of e t) e
+-- replacing a variable by a term sets it to what the term stands for
+pub replacing-env : (x : Var) (t : Term) (e : Environment)
+    → after (replacing x t) e ≡ setting x (meaning_of e t) e
 replacing-env x t e = fun_ext (λ y. go y (var_eq y x))
   where
-    go : (y : Var) (d : Dec (y ≡ x)) → meaning_of e (replacing_at t d) ≡ setting_at (meaning_of e t) e d
+    go : (y : Var) (d : Dec (y ≡ x))
+        → meaning_of e (replacing_at t d) ≡ setting_at (meaning_of e t) e d
     go y (yes q) = refl
     go y (no n) = refl
 
-pub prog≢logic : (y n : List ℕ) (s : ValueSort) (u : Sort) → prog y s ≡ logic n u → ⊥
-prog≢logic y n s u q = cc
+module _ (x : Var) (p : Formula) (e : Environment) where
+  -- the formula below the binder, with the variable set
+  below : (v : Thing) → Meets (formula_with (closing x) p) (choosing v e) ≡ Meets p (setting x v e)
+  below v = with-meets p (closing x) (choosing v e) ∙ ap (Meets p) (closing-env x v e)
 
-pub setting-proper : (n : List ℕ) (u : Sort) (v : Thing) (e : Environment) → Fits u v → Proper e → Proper (setting (logic n u) v e)
-setting-proper n u v e fits pr = record {
-  programs = λ y s. programs y s (var_eq (prog y s) (logic n u));
-  logics = λ y s is. logics y s is (var_eq (logic y s) (logic n u));
-}
-  where
-    programs : (y : List ℕ) (s : ValueSort) (d : Dec (prog y s ≡ logic n u)) → Fits (value s) (setting_at v e d)
-    programs y s (yes q) = absurd (prog≢logic y n s u q)
-    programs y s (no m) = pr.programs y s
+  -- there is some
+  pub exists-means : Meets (exists x p) e
+      ≡ (λ s r. SomeThing (var_sort x) (λ v. Meets p (setting x v e) s r))
+  exists-means = λ i s r. SomeThing (var_sort x) (λ v. below v i s r)
 
-    logics : (y : List ℕ) (s : Sort) → is_sort s ≡ true → (d : Dec (logic y s ≡ logic n u)) → Fits s (setting_at v e d)
-    logics y s is (yes q) = subst (λ z. Fits z v) (sym (ap var_sort q)) fits
-    logics y s is (no m) = pr.logics y s is
+  -- each one
+  pub forall-means : Meets (forall x p) e
+      ≡ (λ s r. EachThing (var_sort x) (λ v. Meets p (setting x v e) s r))
+  forall-means = λ i s r. EachThing (var_sort x) (λ v. below v i s r)
 
-pub setting-agrees : (x : Var) (v : Thing) (e : Environment) (q : Formula) → (FreeIn x q → ⊥) → (y : Var) → FreeIn y q → setting x v e y ≡ e y
-setting-agrees x v e q not_free y free = go (var_eq y x)
-  where
-    go : (d : Dec (y ≡ x)) → setting_at v e d ≡ e y
-    go (yes z) = absurd (not_free (subst (λ z. FreeIn z q) z free))
-    go (no n) = refl
+-- equal meanings are met alike
+pub met-alike : {M N : Sort → Trees → Type 0} (s : Sort) (r : Trees) → M ≡ N
+    → (M s r → N s r) × (N s r → M s r)
+met-alike s r q = (subst (λ z. z s r) q, subst (λ z. z s r) (sym q))
 
-agrees-setting : (x : Var) (v : Thing) (e : Environment) (q : Formula) → (FreeIn x q → ⊥) → (y : Var) → FreeIn y q → e y ≡ setting x v e y
-agrees-setting x v e q not_free y free = sym (setting-agrees x v e q not_free y free)
-
-module _ (n : List ℕ) (u : Sort) (p q : Formula) (s : Sort) where
-  pub exists_out : Entails p q s → (FreeIn (logic n u) q → ⊥) → Entails (exists (logic n u) p) q s
-  exists_out a not_free e pr t w h = stable q e s t (λ m. h (λ c.
-      let v : Thing = c.0 in
-      let here : Meets p (setting (logic n u) v e) s t = subst (λ z. Meets p z s t) (closing-env (logic n u) v e) (meets-with p (closing (logic n u)) (choosing v e) s t c.2) in
-      m (meets-agrees q (setting (logic n u) v e) e s t (setting-agrees (logic n u) v e q not_free) (a (setting (logic n u) v e) (setting-proper n u v e c.1 pr) t w here))))
-
-  pub forall_in : Entails p q s → (FreeIn (logic n u) p → ⊥) → Entails p (forall (logic n u) q) s
-  forall_in a not_free e pr t w h = λ v fits.
-      with-meets-back q (closing (logic n u)) (choosing v e) s t (subst (λ z. Meets q z s t) (sym (closing-env (logic n u) v e))
-      (a (setting (logic n u) v e) (setting-proper n u v e fits pr) t w (meets-agrees p e (setting (logic n u) v e) s t (agrees-setting (logic n u) v e p not_free) h)))
-
--- a term that stands for a thing of its sort
-abbrev pub Stands : Term → Sort → Type 0
-Stands a u = (e : Environment) → Proper e → Fits u (meaning_of e a)
-
-module _ (x : Var) (a : Term) (p : Formula) (s : Sort) (stands : Stands a (var_sort x)) where
-  pub exists_in : Entails (formula_with (replacing x a) p) (exists x p) s
-  exists_in e pr t w h = λ m. m (
-    meaning_of e a,
-    stands e pr,
-    with-meets-back p (closing x) (choosing (meaning_of e a) e) s t (subst (λ z. Meets p z s t) (replacing-env x a e ∙ sym (closing-env x (meaning_of e a) e)) (meets-with p (replacing x a) e s t h)),
-  )
-
-  pub forall_out : Entails (forall x p) (formula_with (replacing x a) p) s
-  forall_out e pr t w h =
-      with-meets-back p (replacing x a) e s t (subst (λ z. Meets p z s t) (closing-env x (meaning_of e a) e ∙ sym (replacing-env x a e))
-      (meets-with p (closing x) (choosing (meaning_of e a) e) s t (h (meaning_of e a) (stands e pr))))
-
-module _ (k p q : Formula) (h j : DataSort) where
-  pub hole_adj_out : Entails (application h (hole_adjoint p q) p) q (shape j)
-  hole_adj_out e pr t w m = stable q e (shape j) t (λ n. m (λ x. x.2 (λ y.
-      n (closed q e (shape j) (fill x.0 y.0) t (SameAt-sym j t (fill x.0 y.0) y.2.0)
-      (y.2.1 y.0 y.1 y.2.2 (same-Shaped (shape j) t (fill x.0 y.0) y.2.0 w))))))
-
-  pub ctx_adj_out : Entails (application h k (context_adjoint j k q)) q (shape j)
-  ctx_adj_out e pr t w m = stable q e (shape j) t (λ n. m (λ x. x.2 (λ y.
-      n (closed q e (shape j) (fill x.0 y.0) t (SameAt-sym j t (fill x.0 y.0) y.2.0)
-      (y.2.2 x.0 x.1 y.2.1 (same-Shaped (shape j) t (fill x.0 y.0) y.2.0 w))))))
+-- what is equal to a fact that holds, holds
+pub moved : {A B : Type 0} → A ≡ B → A → B
+moved q a = subst (λ z. z) q a

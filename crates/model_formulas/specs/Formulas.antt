@@ -1,5 +1,5 @@
 -- Formulas of context logic for trees, forests and groves: those of POPL 2005 and PODS 2008, with
--- equality and order of terms, the length of a forest, and `is`, which speaks of a variable's value.
+-- equations and order of terms, length of forests, and `is`, which speaks of a variable's value.
 use Rattle.std.specs.Prelude.{Bool, true, false, ◌&&◌}
 use mathlib.Core.HLevel.{Discrete}
 use Rattle.model_shapes.specs.Sorts.{DataSort, DataSort-discrete, Sort, sort_eq}

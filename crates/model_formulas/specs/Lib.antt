@@ -7,3 +7,5 @@ pub mod Nameless
 pub mod WellSorted
 pub mod SameFormulas
 pub mod Satisfaction
+pub mod Walked
+pub mod Setting

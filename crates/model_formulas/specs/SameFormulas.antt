@@ -1,5 +1,5 @@
--- The tests of sameness, which compute: of values, terms and nameless formulas. Nothing here is to be
--- believed: the laws say that each is the equality of its two sides.
+-- The tests of sameness, which compute: of values, terms and nameless formulas. Only the test of
+-- values serves a definition; a law says that the test of formulas is the equality of its sides.
 use Rattle.std.specs.Prelude.{Bool, true, false, ◌&&◌, ℤ, ◌==◌, int_le, bytes_eq}
 use Rattle.model_shapes.specs.Sorts.{same_data_sort, same_sort}
 use Rattle.model_shapes.specs.Values.{Value, null, nolist, node_number, list_number, int, str, boolean}
@@ -7,15 +7,17 @@ use Rattle.model_formulas.specs.Variables.{same_var}
 use Rattle.model_formulas.specs.Terms.{Term, literal, variable, sum, difference, appended}
 use Rattle.model_formulas.specs.Formulas.{Formula, Side, whole, hole_left, hole_right, truth, falsity, conjunction, disjunction, implication, negation, existential, universal, equality, at_most, empty, bare_hole, node_formula, one_tree, one_root, concatenation, grove_sum, grove_sum_hole, application, hole_adjoint, context_adjoint, same_as, length_is, value_meets}
 
+-- of integers
 abbrev pub int_eq : ℤ → ℤ → Bool
 int_eq a b = int_le a b && int_le b a
 
+-- of truth values
 abbrev pub same_bool : Bool → Bool → Bool
 same_bool true b = b
 same_bool false true = false
 same_bool false false = true
 
--- whether two plain terms are the same, as a test
+-- of values
 abbrev pub same_value : Value → Value → Bool
 same_value null null = true
 same_value nolist nolist = true
@@ -26,6 +28,7 @@ same_value (node_number a) (node_number b) = a == b
 same_value (list_number a) (list_number b) = a == b
 same_value a b = false
 
+-- of terms
 abbrev pub same_term : Term → Term → Bool
 same_term (literal v) (literal w) = same_value v w
 same_term (variable x) (variable y) = same_var x y
@@ -34,13 +37,14 @@ same_term (difference a b) (difference c d) = same_term a c && same_term b d
 same_term (appended a b) (appended c d) = same_term a c && same_term b d
 same_term a b = false
 
+-- of sides
 abbrev pub same_side : Side → Side → Bool
 same_side whole whole = true
 same_side hole_left hole_left = true
 same_side hole_right hole_right = true
 same_side a b = false
 
--- whether two nameless formulas are the same, as a test
+-- of nameless formulas
 abbrev pub same_formula : Formula → Formula → Bool
 same_formula truth truth = true
 same_formula falsity falsity = true
@@ -69,5 +73,6 @@ same_formula (context_adjoint k p q) (context_adjoint k' p' q') =
     same_data_sort k k' && (same_formula p p' && same_formula q q')
 same_formula (same_as a) (same_as a') = same_term a a'
 same_formula (length_is a) (length_is a') = same_term a a'
-same_formula (value_meets s a p) (value_meets s' a' p') = same_sort s s' && (same_term a a' && same_formula p p')
+same_formula (value_meets s a p) (value_meets s' a' p') =
+    same_sort s s' && (same_term a a' && same_formula p p')
 same_formula p q = false

@@ -28,11 +28,12 @@ joint store e (prog name s) = val (store name s)
 joint store e (logic name s) = e (logic name s)
 joint store e (bound i s) = e (bound i s)
 
--- the integer or the text that a thing is, and 0 or the empty text where it is none
+-- the integer that a thing is, and 0 where it is none
 abbrev pub number_of : Thing → ℤ
 number_of (val (int z)) = z
 number_of x = pos 0
 
+-- the text that a thing is, and the empty text where it is none
 abbrev pub text_of : Thing → List ℕ
 text_of (val (str s)) = s
 text_of x = []
@@ -50,17 +51,19 @@ meaning_of e (appended a b) = val (str (text_of (meaning_of e a) ++ text_of (mea
 abbrev pub Classically {ℓ} : Type ℓ → Type ℓ
 Classically A = (A → ⊥) → ⊥
 
--- some thing of the sort; each thing of the sort
+-- some thing of the sort
 abbrev pub SomeThing : Sort → (Thing → Type 0) → Type 0
 SomeThing s P = Classically ((x : Thing) × Fits s x × P x)
 
+-- each thing of the sort
 abbrev pub EachThing : Sort → (Thing → Type 0) → Type 0
 EachThing s P = (x : Thing) → Fits s x → P x
 
--- some shape or context of the sort; each one
+-- some shape or context of the sort
 abbrev pub SomeShape : Sort → (Trees → Type 0) → Type 0
 SomeShape s P = Classically ((r : Trees) × Shaped s r × P r)
 
+-- each shape or context of the sort
 abbrev pub EachShape : Sort → (Trees → Type 0) → Type 0
 EachShape s P = (r : Trees) → Shaped s r → P r
 
@@ -74,25 +77,27 @@ abbrev pub IfTrees : Thing → (Trees → Type 0) → Type 0
 IfTrees (val v) P = ⊥
 IfTrees (trees r) P = P r
 
--- the sorts of the two parts: where one has the hole, the other is a shape
+-- the sort of the left part: where one part has the hole, the other is a shape
 abbrev pub left_sort : Side → Sort → Sort
 left_sort whole s = s
 left_sort hole_left s = s
 left_sort hole_right s = shape (outer s)
 
+-- the sort of the right part
 abbrev pub right_sort : Side → Sort → Sort
 right_sort whole s = s
 right_sort hole_left s = shape (outer s)
 right_sort hole_right s = s
 
 -- the same as one part followed by another
-abbrev pub Splits : Side → Sort → Trees → (Sort → Trees → Type 0) → (Sort → Trees → Type 0) → Type 0
+abbrev pub Splits : Side → Sort → Trees → (Sort → Trees → Type 0) → (Sort → Trees → Type 0)
+    → Type 0
 Splits side s r P Q =
     SomeShape (left_sort side s) λ a. SomeShape (right_sort side s) λ b.
     Same s r (beside a b) × P (left_sort side s) a × Q (right_sort side s) b
 
--- A well-formed shape or context `r` of the sort `s` meets the formula: one case for each row of the
--- language.
+-- A well-formed shape or context `r` of the sort `s` meets the formula: one case for each form of
+-- formula.
 abbrev pub Meets : Formula → Environment → Sort → Trees → Type 0
 Meets truth e s r = Unit {0}
 Meets falsity e s r = ⊥
@@ -131,7 +136,9 @@ Meets (value_meets u a p) e s r = IfTrees (meaning_of e a) (λ t. Meets p e u t)
 
 -- each variable that has a name stands for a thing of its sort
 pub record Proper (e : Environment) : Type 0 where
+  -- program variables
   pub programs : (name : List ℕ) (s : ValueSort) → Fits (value s) (e (prog name s))
+  -- logic variables, at the sorts that are sorts
   pub logics : (name : List ℕ) (s : Sort) → is_sort s ≡ true → Fits s (e (logic name s))
 
 -- whatever well-formed shape or context of the sort meets the first meets the second

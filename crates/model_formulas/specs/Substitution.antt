@@ -1,4 +1,5 @@
--- Substitution in nameless formulas, which cannot capture, and the variables that stand free.
+-- Substitution in nameless formulas, and the variables that stand free in them.
+-- A quantifier has no name there, so nothing can be captured.
 use Rattle.std.specs.Prelude.{◌≡◌, ◌⊎◌, zero}
 use Rattle.model_formulas.specs.Variables.{Var, bound, var_sort}
 use Rattle.model_formulas.specs.Terms.{Term, variable, raised, raised_var, InTerm, Substitution, under_binder, term_with, var_eq}
@@ -67,6 +68,7 @@ abbrev pub closing_at : {x y : Var} → Dec (y ≡ x) → Term
 closing_at {x} {y} (yes e) = variable (bound zero (var_sort x))
 closing_at {x} {y} (no n) = raised (variable y)
 
+-- the variable bound by a new binder, as a substitution
 abbrev pub closing : Var → Substitution
 closing x y = closing_at (var_eq y x)
 
@@ -74,6 +76,7 @@ closing x y = closing_at (var_eq y x)
 abbrev pub exists : Var → Formula → Formula
 exists x p = existential (var_sort x) (formula_with (closing x) p)
 
+-- the same for every thing
 abbrev pub forall : Var → Formula → Formula
 forall x p = universal (var_sort x) (formula_with (closing x) p)
 
@@ -82,5 +85,6 @@ abbrev pub replacing_at : {x y : Var} → Term → Dec (y ≡ x) → Term
 replacing_at {x} {y} t (yes e) = t
 replacing_at {x} {y} t (no n) = variable y
 
+-- a term for one variable, as a substitution
 abbrev pub replacing : Var → Term → Substitution
 replacing x t y = replacing_at t (var_eq y x)

@@ -1,4 +1,5 @@
--- Terms, their sorts, and what stands in them.
+-- Terms over variables and literals, their sorts, and substitution in them.
+-- Node and list numbers are those of PODS 2008; integers, texts and truth values our own.
 use Rattle.std.specs.Prelude.{◌≡◌, ◌⊎◌, zero, suc, Bool, true, false}
 use mathlib.Core.HLevel.{Discrete}
 use mathlib.Core.Path.{refl}
@@ -74,5 +75,6 @@ decided false f g = no (g refl)
 abbrev pub var_eq : (x y : Var) → Dec (x ≡ y)
 var_eq x y = decided (same_var x y) (same_var-is x y) (same_var-not x y)
 
+-- terms are equal or not
 pub term_eq : Discrete Term
 term_eq = Term-discrete value_eq var_eq

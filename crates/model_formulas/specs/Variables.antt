@@ -1,4 +1,5 @@
--- Variables. A variable is its name and its sort, so one name at two sorts is two variables.
+-- Variables of programs, of the logic, and bound ones: names as in PODS 2008, here with sorts.
+-- A variable is its name and its sort, so one name at two sorts is two variables.
 use Rattle.std.specs.Prelude.{ℕ, Bool, false, ◌&&◌, ◌==◌, List, bytes_eq}
 use Rattle.model_shapes.specs.Sorts.{Sort, value, ValueSort, same_value_sort, same_sort}
 

@@ -5,8 +5,15 @@ pub mod Fine
 pub mod SameRuns
 pub mod Unmodified
 pub mod Blocks
+pub mod BySteps
+pub mod NextMoves
 pub mod Picks
-pub mod Worked
+pub mod WorkedRuns
+pub mod WorkedFiles
 pub mod Plain
-pub mod Changing
+pub mod Starts
+pub mod Unchanged
+pub mod FileTests
+pub mod Scopes
+pub mod WellFormedTheories
 pub mod InContext

@@ -1,111 +1,62 @@
--- Ends read plainly, no pick of a run is bad, and binders opened.
-use Rattle.std.proofs.Common.{◌≡◌, ℕ, zero, suc, List, [], ◌∷◌, ◌++◌, Bool, true, false, cond, refl, sym, ap, ◌∙◌, subst, Option, Some, None}
-use mathlib.Core.Path.{fun_ext}
-use Rattle.model_shapes.specs.Trees.{Trees, none, node, hole, beside, fill, node_uses}
+-- A triple that is proved with "some data" read classically holds with it read plainly.
+use Rattle.std.proofs.Common.{[], ◌∷◌}
+use Rattle.model_shapes.specs.Trees.{Trees, fill}
 use Rattle.model_shapes.specs.Sorts.{shape, context, DataSort, grove}
-use Rattle.model_shapes.specs.Shapes.{SameAt, Shaped}
-use Rattle.model_shapes.specs.Values.{node_number}
-use Rattle.model_formulas.specs.Variables.{Var, prog, logic, bound}
-use Rattle.model_formulas.specs.Terms.{Term, variable, term_with, raised, var_eq, Substitution}
+use Rattle.model_shapes.specs.Shapes.{Shaped}
 use Rattle.model_formulas.specs.Formulas.{Formula}
-use Rattle.model_formulas.specs.Substitution.{formula_with, closing, closing_at}
-use Rattle.model_formulas.specs.Satisfaction.{Environment, Meets}
-use Rattle.model_formulas.specs.Satisfaction.{joint}
+use Rattle.model_formulas.specs.Satisfaction.{Environment}
 use Rattle.model_shapes.proofs.Shapes.{same-Shaped}
-use Rattle.model_formulas.proofs.Pull.{plain_end}
-use Rattle.model_formulas.proofs.Nameless.{formula-then, formula-variable}
-use Rattle.model_programs.specs.Stores.{ProgVar, Store, lookup, set, value_of, text_in}
-use Rattle.model_programs.specs.Commands.{skip, block, assign, create_node, node_name, child_nodes, parent_node, list_item, append_child, remove_child, if_else, while_do, local, call}
-use Rattle.model_programs.specs.Theories.{Procedures, Procedure, procedure_named}
-use Rattle.model_programs.specs.Machine.{Piece, run, restore, return, Move, becomes, faults, bad_pick, move, reading, appending, removing, calling, no_node, no_list, cycle, not_child, FaultKind}
-use Rattle.model_programs.specs.Groves.{positive, has_root, without, adding, node_at, list_at}
-use Rattle.model_programs.specs.Outcomes.{next_pick, outcome, on_move, within, limit_of, no_pick, LimitKind}
-use Rattle.model_programs.specs.LocalTriples.{Stands}
-use Rattle.model_programs.proofs.Picks.{next-free}
+use Rattle.model_formulas.proofs.Plainly.{plain_end}
+use Rattle.model_programs.specs.Stores.{Store, lookup}
+use Rattle.model_programs.specs.Commands.{Command}
+use Rattle.model_programs.specs.Theories.{Procedures}
+use Rattle.model_programs.specs.Sorting.{Sorted}
+use Rattle.model_programs.specs.Fitting.{BodiesSorted, Fine}
+use Rattle.model_programs.specs.Machine.{run, RunOutcome, running, ended, fault, picked_badly, runs}
+use Rattle.model_programs.specs.LocalTriples.{Ends, EndsWith, Stands, HoldsLocally, TripleFor}
+use Rattle.model_programs.proofs.Fine.{runs-fine}
+use Rattle.model_programs.proofs.StoreLaws.{proper-store}
 
 -- the data that stands in the context at the end
-pub plainly : (d : DataSort) (c : Trees) (q : Formula) (e : Environment) (st : Store) (g : Trees) → Shaped (context d grove) c → Shaped (shape grove) g → Stands d c q e st g
-    → (b : Trees) × Shaped (shape d) b × SameAt grove g (fill c b) × Meets q (joint (lookup st) e) (shape d) b
+pub plainly : (d : DataSort) (c : Trees) (q : Formula) (e : Environment) (st : Store) (g : Trees)
+    → Shaped (context d grove) c → Shaped (shape grove) g → Stands d c q e st g
+    → EndsWith d c q e st g
 plainly d c q e st g wc w s =
-    let x : (b : Trees) × Shaped (shape d) b × Shaped (shape grove) (fill c b) × SameAt grove g (fill c b) × Meets q (joint (lookup st) e) (shape d) b =
-    plain_end d c q e (lookup st) g wc (λ n. s (λ y. n (y.0, y.1, (same-Shaped (shape grove) g (fill c y.0) y.2.0 w, y.2.0, y.2.1)))) in
-    (x.0, x.1, x.3, x.4)
+    plain_end d c q e (lookup st) g wc (λ n. s (λ y. n (
+      y.0,
+      y.1,
+      (same-Shaped (shape grove) g (fill c y.0) y.2.0 w, y.2.0, y.2.1),
+    )))
 
--- only a new node has a pick, and the next pick is free
-reading-picks : (a : Trees) (f : FaultKind) (v : List ℕ → ℕ → Trees → ℕ → Rattle.model_shapes.specs.Values.Value) (x : ProgVar) (st : Store) (g : Trees) → reading a f v x st g ≡ bad_pick → ⊥
-reading-picks none f v x st g e = cc
-reading-picks (hole r) f v x st g e = cc
-reading-picks (node s i k l r) f v x st g e = cc
+-- and back
+pub standing : (d : DataSort) (c : Trees) (q : Formula) (e : Environment) (st : Store) (g : Trees)
+    → EndsWith d c q e st g → Stands d c q e st g
+standing d c q e st g x = λ n. n (x.0, x.1, (x.3, x.4))
 
-cond-picks : (b : Bool) (m n : Move) → (m ≡ bad_pick → ⊥) → (n ≡ bad_pick → ⊥) → cond b m n ≡ bad_pick → ⊥
-cond-picks true m n x y e = x e
-cond-picks false m n x y e = y e
+module _ (th : Procedures) (p : Formula) (c : Command) (q : Formula) (d : DataSort) where
+  -- a classical triple over all runs is a local one
+  pub classical-plain : BodiesSorted th → Sorted th c → TripleFor th (λ n. Unit) p c q d
+      → HoldsLocally th p c q d
+  classical-plain bodies sorted triple e st pr r wr mr around wa wf picks =
+      go (runs th picks (run c ∷ []) st (fill around r))
+      (triple e st pr r wr mr around wa wf picks tt)
+      (runs-fine th bodies picks (run c ∷ []) st (fill around r) (sorted, tt)
+      (record { proper = proper-store st e pr; whole = wf }))
+    where
+      go : (o : RunOutcome) → Ends ⊥ (Stands d around q e) o → Ends Unit Fine o
+          → Ends ⊥ (EndsWith d around q e) o
+      go running s f = tt
+      go picked_badly s f = tt
+      go (fault k) s f = s
+      go (ended st' g) s f = plainly d around q e st' g wa f.whole s
 
-appending-picks : (a b : Trees) (st : Store) (g : Trees) → appending a b st g ≡ bad_pick → ⊥
-appending-picks none b st g e = cc
-appending-picks (hole r) b st g e = cc
-appending-picks (node s i k l r) none st g e = cc
-appending-picks (node s i k l r) (hole r') st g e = cc
-appending-picks (node s i k l r) (node s' j k' l' r') st g e = cond-picks (positive (node_uses i (node s' j k' l' none))) (faults cycle) (becomes [] st (adding i (node s' j k' l' none) (without j g))) (λ x. cc) (λ x. cc) e
-
-removing-picks : (a b : Trees) (st : Store) (g : Trees) → removing a b st g ≡ bad_pick → ⊥
-removing-picks none b st g e = cc
-removing-picks (hole r) b st g e = cc
-removing-picks (node s i k l r) none st g e = cc
-removing-picks (node s i k l r) (hole r') st g e = cc
-removing-picks (node s i k l r) (node s' j k' l' r') st g e = cond-picks (has_root j k) (becomes [] st (beside (without j g) (node s' j k' l' none))) (faults not_child) (λ x. cc) (λ x. cc) e
-
-calling-picks : (o : Option Procedure) (xs : List ProgVar) (es : List Term) (st : Store) (g : Trees) → calling o xs es st g ≡ bad_pick → ⊥
-calling-picks None xs es st g e = cc
-calling-picks (Some f) xs es st g e = cc
-
-pub next-moves : (th : Procedures) (x : Piece) (st : Store) (g : Trees) → move th (next_pick g) x st g ≡ bad_pick → ⊥
-next-moves th (run skip) st g e = cc
-next-moves th (run (block b)) st g e = cc
-next-moves th (run (assign x t)) st g e = cc
-next-moves th (run (if_else c a b)) st g e = cc
-next-moves th (run (while_do c b)) st g e = cc
-next-moves th (run (local x b)) st g e = cc
-next-moves th (restore x v) st g e = cc
-next-moves th (return st0 rs xs) st g e = cc
-next-moves th (run (call xs f es)) st g e = calling-picks (procedure_named f th) xs es st g e
-next-moves th (run (create_node x t)) st g e =
-    let z : cond true (becomes [] (set x (node_number (next_pick g).node) st) (beside g (node (text_in (value_of st t)) (next_pick g).node none (next_pick g).list none))) bad_pick ≡ bad_pick =
-    subst (λ b. cond b (becomes [] (set x (node_number (next_pick g).node) st) (beside g (node (text_in (value_of st t)) (next_pick g).node none (next_pick g).list none))) bad_pick ≡ bad_pick) (next-free g) e in (cc)
-next-moves th (run (node_name x t)) st g e = reading-picks (node_at (value_of st t) g) no_node _ x st g e
-next-moves th (run (child_nodes x t)) st g e = reading-picks (node_at (value_of st t) g) no_node _ x st g e
-next-moves th (run (parent_node x t)) st g e = reading-picks (node_at (value_of st t) g) no_node _ x st g e
-next-moves th (run (list_item x t u)) st g e = reading-picks (list_at (value_of st t) g) no_list _ x st g e
-next-moves th (run (append_child t u)) st g e = appending-picks (node_at (value_of st t) g) (node_at (value_of st u) g) st g e
-next-moves th (run (remove_child t u)) st g e = removing-picks (node_at (value_of st t) g) (node_at (value_of st u) g) st g e
-
-pub outcome-picks : (th : Procedures) (rs : List ProgVar) (fuel taken : ℕ) (k : List Piece) (st : Store) (g : Trees) → outcome th rs fuel taken k st g ≡ no_pick → ⊥
-outcome-picks th rs zero taken [] st g e = cc
-outcome-picks th rs zero taken (x ∷ k) st g e = cc
-outcome-picks th rs (suc fuel) taken [] st g e = cc
-outcome-picks th rs (suc fuel) taken (x ∷ k) st g e = go (limit_of x k st g) (move th (next_pick g) x st g) (next-moves th x st g) (λ k' st' g'. outcome-picks th rs fuel (suc taken) k' st' g') e
-  where
-    go : (l : Option LimitKind) (m : Move) → (m ≡ bad_pick → ⊥) → ((k' : List Piece) (st' : Store) (g' : Trees) → outcome th rs fuel (suc taken) k' st' g' ≡ no_pick → ⊥) → within l (on_move (outcome th rs fuel (suc taken)) taken x k m) ≡ no_pick → ⊥
-    go (Some l) m n rec e = cc
-    go None (becomes ys st' g') n rec e = rec (ys ++ k) st' g' e
-    go None (faults f) n rec e = cc
-    go None bad_pick n rec e = n refl
-
--- a binder opened with its own name is the formula again: so the letters of eliminate are found from the conclusion
-abbrev pub opening : Var → Substitution
-opening x (prog y s) = variable (prog y s)
-opening x (logic y s) = variable (logic y s)
-opening x (bound zero s) = variable x
-opening x (bound (suc i) s) = variable (bound i s)
-
-pub opened : (x : Var) (p : Formula) → formula_with (opening x) (formula_with (closing x) p) ≡ p
-opened x p = formula-then p (closing x) (opening x) ∙ ap (λ f. formula_with f p) (fun_ext (λ y. at y (var_eq y x))) ∙ formula-variable p
-  where
-    again : (y : Var) → term_with (opening x) (raised (variable y)) ≡ variable y
-    again (prog y s) = refl
-    again (logic y s) = refl
-    again (bound i s) = refl
-
-    at : (y : Var) (d : Dec (y ≡ x)) → term_with (opening x) (closing_at d) ≡ variable y
-    at y (yes q) = ap variable (sym q)
-    at y (no n) = again y
+  -- and the other way round
+  pub plain-classical : HoldsLocally th p c q d → TripleFor th (λ n. Unit) p c q d
+  plain-classical triple e st pr r wr mr around wa wf picks long =
+      go (runs th picks (run c ∷ []) st (fill around r)) (triple e st pr r wr mr around wa wf picks)
+    where
+      go : (o : RunOutcome) → Ends ⊥ (EndsWith d around q e) o → Ends ⊥ (Stands d around q e) o
+      go running s = tt
+      go picked_badly s = tt
+      go (fault k) s = s
+      go (ended st' g) s = standing d around q e st' g s

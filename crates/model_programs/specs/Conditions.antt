@@ -1,4 +1,5 @@
 -- Conditions of commands, their truth in a store, and the formula of a condition.
+-- All are the language's own; formulas of conditions are those of the rules for choice and loops.
 use Rattle.std.specs.Prelude.{◌≡◌, int_le, Bool, true, false, not, ◌&&◌, ◌||◌}
 use Rattle.model_shapes.specs.Sorts.{ValueSort, int_sort, bool_sort}
 use Rattle.model_shapes.specs.Values.{Value, boolean}

@@ -1,4 +1,5 @@
--- Looking into a grove and changing it, as the commands do: DOM Level 1 Core on the groves of PODS 2008.
+-- Looking into a grove and changing it, as the commands of DOM Level 1 Core do, on the groves of
+-- PODS 2008.
 use Rattle.std.specs.Prelude.{ℕ, zero, suc, pos, Bool, true, false, cond, ◌||◌}
 use Rattle.std.proofs.Math.Decide.{ℕ_discrete}
 use Rattle.model_shapes.specs.Values.{Value, null, node_number, list_number, int}
@@ -24,9 +25,11 @@ has_root n (hole rest) = has_root n rest
 abbrev pub numbered : ℕ → ℕ → Trees → ℕ → Bool
 numbered n number kids list = is_yes (ℕ_discrete n number)
 
+-- the test of the list number
 abbrev pub listed : ℕ → ℕ → Trees → ℕ → Bool
 listed n number kids list = is_yes (ℕ_discrete n list)
 
+-- the test of a child with the number
 abbrev pub parental : ℕ → ℕ → Trees → ℕ → Bool
 parental n number kids list = has_root n kids
 
@@ -35,6 +38,7 @@ abbrev pub node_at : Value → Trees → Trees
 node_at (node_number n) grove = nodes_where (numbered n) grove
 node_at v grove = none
 
+-- the node whose children list a value names
 abbrev pub list_at : Value → Trees → Trees
 list_at (list_number n) grove = nodes_where (listed n) grove
 list_at v grove = none
@@ -73,6 +77,7 @@ adding n more (node name number kids list rest) =
     (adding n more kids)) list (adding n more rest)
 adding n more (hole rest) = hole (adding n more rest)
 
+-- the number isn't 0
 abbrev pub positive : ℕ → Bool
 positive zero = false
 positive (suc n) = true

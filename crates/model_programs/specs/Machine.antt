@@ -7,9 +7,10 @@ use Rattle.model_formulas.specs.Terms.{Term}
 use Rattle.model_programs.specs.Stores.{ProgVar, Store, unset, value_in, set, value_of, default, sort_of, text_in}
 use Rattle.model_programs.specs.Conditions.{truth_of}
 use Rattle.model_programs.specs.Commands.{Command, skip, block, assign, create_node, node_name, child_nodes, parent_node, list_item, append_child, remove_child, if_else, while_do, local, call, Block, stop, ◌then◌}
-use Rattle.model_programs.specs.Theories.{Procedure, Procedures, procedure_named}
+use Rattle.model_programs.specs.Theories.{ProcedureOf, Procedure, Procedures, procedure_named}
 use Rattle.model_programs.specs.Groves.{has_root, parental, nodes_where, node_at, list_at, first_number, item_of, without, adding, positive}
 
+-- why a command faults: no such node, no such list, a node below itself, no child of that node
 pub data FaultKind : Type 0 where
   no_node no_list cycle not_child : FaultKind
 
@@ -20,8 +21,8 @@ pub data Piece : Type 0 where
   restore : ProgVar → Value → Piece
   return : Store → List ProgVar → List ProgVar → Piece
 
--- what one step makes of the first piece: the pieces that stand in its place, with the new store and
--- grove; or a fault; or a pick that may not be used
+-- what one step makes of the first piece: the pieces that stand in its place, with the new store
+-- and grove; or a fault; or a pick that may not be used
 pub data Move : Type 0 where
   becomes : List Piece → Store → Trees → Move
   faults : FaultKind → Move
@@ -32,12 +33,14 @@ pub record Pick : Type 0 where
   pub node : ℕ
   pub list : ℕ
 
+-- the commands of a block, as pieces
 abbrev pub pieces_of : Block → List Piece
 pieces_of stop = []
 pieces_of (c then b) = run c ∷ pieces_of b
 
 -- sets the variable to what is read off the node that was found
-abbrev pub reading : Trees → FaultKind → (List ℕ → ℕ → Trees → ℕ → Value) → ProgVar → Store → Trees → Move
+abbrev pub reading : Trees → FaultKind → (List ℕ → ℕ → Trees → ℕ → Value) → ProgVar → Store
+    → Trees → Move
 reading (node name number kids list rest) fault read x store grove =
     becomes [] (set x (read name number kids list) store) grove
 reading none fault read x store grove = faults fault
@@ -82,6 +85,7 @@ abbrev pub returning : List ProgVar → List ProgVar → Store → Store → Sto
 returning (r ∷ rs) (x ∷ xs) callee store = set x (value_in callee r) (returning rs xs callee store)
 returning rs xs callee store = store
 
+-- the body with a return behind it; a procedure that isn't there does nothing
 abbrev pub calling : Option Procedure → List ProgVar → List Term → Store → Trees → Move
 calling (Some f) xs es store grove =
     becomes (run f.body ∷ return store f.results xs ∷ []) (entering f.params es store) grove
@@ -126,6 +130,19 @@ pub record Config : Type 0 where
   pub store : Store
   pub grove : Trees
 
+-- A run begins with the body as the only piece, and the parameters with their values as the store.
+abbrev pub holding_values : List ProgVar → List Value → Store
+holding_values (x ∷ xs) (v ∷ vs) = set x v (holding_values xs vs)
+holding_values xs vs = unset
+
+-- the configuration with which a procedure begins
+abbrev pub start : {F : Type 0} → ProcedureOf F → List Value → Trees → Config
+start f values grove = record {
+  pending = run f.body ∷ [];
+  store = holding_values f.params values;
+  grove = grove;
+}
+
 -- the answer of one step
 pub data StepOut : Type 0 where
   next : Config → StepOut
@@ -133,12 +150,14 @@ pub data StepOut : Type 0 where
   at_fault : FaultKind → StepOut
   at_bad_pick : StepOut
 
+-- the rest of what is pending stays behind
 abbrev pub stepped : List Piece → Move → StepOut
 stepped rest (becomes pieces store grove) =
     next (record { pending = pieces ++ rest; store = store; grove = grove })
 stepped rest (faults fault) = at_fault fault
 stepped rest bad_pick = at_bad_pick
 
+-- with nothing pending it is done
 abbrev pub step_on : Procedures → Pick → List Piece → Store → Trees → StepOut
 step_on ps pick [] store grove = done
 step_on ps pick (piece ∷ rest) store grove = stepped rest (move ps pick piece store grove)
@@ -154,6 +173,7 @@ pub data RunOutcome : Type 0 where
   fault : FaultKind → RunOutcome
   picked_badly : RunOutcome
 
+-- what a move makes of a run
 abbrev pub going_on : (List Piece → Store → Trees → RunOutcome) → List Piece → Move → RunOutcome
 going_on more rest (becomes pieces store grove) = more (pieces ++ rest) store grove
 going_on more rest (faults kind) = fault kind

@@ -1,4 +1,5 @@
--- Commands whose parts have the right sorts and number.
+-- Commands whose parts have the right sorts and number, as the laws about runs need them.
+-- A law says that the bodies of a well-formed theory are such commands.
 use Rattle.std.specs.Prelude.{◌≡◌, ◌⊎◌, List, [], ◌∷◌, Option, Some, None}
 use Rattle.model_shapes.specs.Sorts.{node_sort, list_sort, int_sort, str_sort}
 use Rattle.model_formulas.specs.Variables.{Var}
@@ -20,14 +21,17 @@ Receive [] [] = Unit
 Receive (r ∷ rs) (x ∷ xs) = (sort_of r ≡ sort_of x) × Receive rs xs
 Receive rs xs = ⊥
 
+-- the procedure is there, and the call fits it
 abbrev pub CallFits : Option Procedure → List ProgVar → List Term → Type 0
 CallFits None results arguments = ⊥
 CallFits (Some f) results arguments = Feed f.params arguments × Receive f.results results
 
+-- no variable stands twice
 abbrev pub Distinct : List ProgVar → Type 0
 Distinct [] = Unit
 Distinct (x ∷ xs) = (Among xs x → ⊥) × Distinct xs
 
+-- the variable stands in one of the terms
 abbrev pub InTerms : Var → List Term → Type 0
 InTerms x [] = ⊥
 InTerms x (t ∷ ts) = InTerm x t ⊎ InTerms x ts

@@ -1,4 +1,5 @@
--- Program variables, stores, and the values of terms in a store. Integers have no bounds here.
+-- Program variables, stores, and the values of terms in a store, after PODS 2008.
+-- Integers have no bounds here, and a variable that was never set has its sort's default.
 use Rattle.std.specs.Prelude.{◌≡◌, ℕ, ◌++◌, List, [], ℤ, pos, ◌+ℤ◌, ◌-ℤ◌, Bool, true, false, cond}
 use Rattle.model_shapes.specs.Sorts.{ValueSort, node_sort, list_sort, int_sort, str_sort, bool_sort}
 use Rattle.model_shapes.specs.Values.{Value, null, nolist, int, str, boolean, FitsValue}
@@ -13,6 +14,7 @@ pub data ProgVar : Type 0 where
 abbrev pub as_var : ProgVar → Var
 as_var (named x s) = prog x s
 
+-- its sort
 abbrev pub sort_of : ProgVar → ValueSort
 sort_of (named x s) = s
 
@@ -62,6 +64,7 @@ abbrev pub int_in : Value → ℤ
 int_in (int z) = z
 int_in v = pos 0
 
+-- the text that a value is, and the empty text where it is none
 abbrev pub text_in : Value → List ℕ
 text_in (str s) = s
 text_in v = []

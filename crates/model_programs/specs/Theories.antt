@@ -1,4 +1,5 @@
--- Judgements, steps of proofs, procedures and theories, as a file spells them.
+-- Judgements, steps of proofs, procedures and theories, as a file spells them: the language's own.
+-- With the names of bound variables they are as written; without, as the meaning takes them.
 use Rattle.std.specs.Prelude.{ℕ, List, [], ◌∷◌, cond, Option, Some, None, bytes_eq, map}
 use Rattle.model_shapes.specs.Sorts.{DataSort, Sort}
 use Rattle.model_formulas.specs.Variables.{Var}
@@ -44,13 +45,19 @@ pub record TheoryOf (F : Type 0) : Type 0 where
   pub logic : List Var
   pub procedures : List (ProcedureOf F)
 
+-- the procedure's own triple: its requires, its body, its ensures and its sort
+abbrev pub own_triple : {F : Type 0} → ProcedureOf F → JudgementOf F
+own_triple f = triple f.pre f.body f.post f.sort
+
 -- without the names of bound variables
 abbrev pub Judgement : Type 0
 Judgement = JudgementOf Formula
 
+-- a step without them
 abbrev pub Step : Type 0
 Step = StepOf Formula
 
+-- a procedure without them
 abbrev pub Procedure : Type 0
 Procedure = ProcedureOf Formula
 
@@ -62,10 +69,12 @@ Procedures = List Procedure
 abbrev pub Theory : Type 0
 Theory = TheoryOf Named
 
+-- a judgement, a step and a procedure as they are written, without them
 abbrev pub nameless_judgement : JudgementOf Named → Judgement
 nameless_judgement (entails p q s) = entails (nameless p) (nameless q) s
 nameless_judgement (triple p c q d) = triple (nameless p) c (nameless q) d
 
+-- of a step
 abbrev pub nameless_step : StepOf Named → Step
 nameless_step step = record {
   number = step.number;
@@ -74,6 +83,7 @@ nameless_step step = record {
   judgement = nameless_judgement step.judgement;
 }
 
+-- of a procedure
 abbrev pub nameless_procedure : ProcedureOf Named → Procedure
 nameless_procedure procedure = record {
   name = procedure.name;

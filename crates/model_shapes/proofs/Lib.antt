@@ -1,3 +1,12 @@
+pub mod Truth
 pub mod Basics
 pub mod Sameness
 pub mod Shapes
+pub mod Narrow
+pub mod Filling
+pub mod Cancelling
+pub mod Pulling
+pub mod ByConstruction
+pub mod Inhabited
+pub mod Reorders
+pub mod Worked

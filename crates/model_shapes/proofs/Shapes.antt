@@ -2,10 +2,11 @@
 use Rattle.std.proofs.Common.{◌≡◌, ℕ, ◌≤◌, ◌+◌, sym, refl, ap, arith, ◌∙◌, subst}
 use Rattle.model_shapes.specs.Trees.{Trees, none, node, hole, beside, width, node_uses, list_uses, WellFormed}
 use Rattle.model_shapes.specs.Shapes.{holes, root_holes, Same, SameAt, Shaped, HasWidth, HasHoles}
-use Rattle.model_shapes.specs.Sorts.{Sort, value, shape, context, DataSort, tree, forest, grove, outer}
+use Rattle.model_shapes.specs.Sorts.{Sort, value, shape, context, DataSort, tree, forest, grove, outer, giving}
 use Rattle.model_shapes.proofs.Basics.{holes-beside, root_holes-beside, width-beside, node_uses-beside, list_uses-beside, root_uses-beside}
 use Rattle.model_shapes.proofs.Sameness.{same-count}
 
+-- each thing is the same as itself
 pub Same-refl : (s : Sort) (a : Trees) → Same s a a
 Same-refl s a = go (outer s)
   where
@@ -14,16 +15,19 @@ Same-refl s a = go (outer s)
     go forest = refl
     go grove = λ t. refl
 
+-- sameness goes both ways
 pub SameAt-sym : (k : DataSort) (a b : Trees) → SameAt k a b → SameAt k b a
 SameAt-sym tree a b h = sym h
 SameAt-sym forest a b h = sym h
 SameAt-sym grove a b h = λ t. sym (h t)
 
+-- sameness goes on
 pub SameAt-trans : (k : DataSort) (a b c : Trees) → SameAt k a b → SameAt k b c → SameAt k a c
 SameAt-trans tree a b c h g = h ∙ g
 SameAt-trans forest a b c h g = h ∙ g
 SameAt-trans grove a b c h g = λ t. h t ∙ g t
 
+-- what is equal is the same
 pub SameAt-eq : (k : DataSort) (a b : Trees) → a ≡ b → SameAt k a b
 SameAt-eq k a b e = subst (SameAt k a) e (go k)
   where
@@ -33,30 +37,40 @@ SameAt-eq k a b e = subst (SameAt k a) e (go k)
     go grove = λ t. refl
 
 -- beside keeps sameness
-pub SameAt-beside : (k : DataSort) (a b a' b' : Trees) → SameAt k a a' → SameAt k b b' → SameAt k (beside a b) (beside a' b')
+pub SameAt-beside : (k : DataSort) (a b a' b' : Trees) → SameAt k a a' → SameAt k b b'
+    → SameAt k (beside a b) (beside a' b')
 SameAt-beside tree a b a' b' h g = λ i. beside (h i) (g i)
 SameAt-beside forest a b a' b' h g = λ i. beside (h i) (g i)
-SameAt-beside grove a b a' b' h g = λ t. omega (arith, root_uses-beside t a b, root_uses-beside t a' b', h t, g t)
+SameAt-beside grove a b a' b' h g =
+    λ t. omega (arith, root_uses-beside t a b, root_uses-beside t a' b', h t, g t)
 
 -- a count is the same for same things
-pub same-at : (f : Trees → ℕ) → ((a b : Trees) → f (beside a b) ≡ f a + f b) → (k : DataSort) (a b : Trees) → SameAt k a b → f a ≡ f b
+pub same-at : (f : Trees → ℕ) → ((a b : Trees) → f (beside a b) ≡ f a + f b)
+    → (k : DataSort) (a b : Trees) → SameAt k a b → f a ≡ f b
 same-at f adds tree a b h = ap f h
 same-at f adds forest a b h = ap f h
 same-at f adds grove a b h = same-count f adds a b h
 
+-- as many roots
 pub same-width : (k : DataSort) (a b : Trees) → SameAt k a b → width a ≡ width b
 same-width = same-at width width-beside
 
+-- as many holes
 pub same-holes : (k : DataSort) (a b : Trees) → SameAt k a b → holes a ≡ holes b
 same-holes = same-at holes holes-beside
 
+-- as many holes among the roots
 pub same-root_holes : (k : DataSort) (a b : Trees) → SameAt k a b → root_holes a ≡ root_holes b
 same-root_holes = same-at root_holes root_holes-beside
 
-pub same-node_uses : (n : ℕ) (k : DataSort) (a b : Trees) → SameAt k a b → node_uses n a ≡ node_uses n b
+-- as many uses of a node number
+pub same-node_uses : (n : ℕ) (k : DataSort) (a b : Trees) → SameAt k a b
+    → node_uses n a ≡ node_uses n b
 same-node_uses n = same-at (node_uses n) (node_uses-beside n)
 
-pub same-list_uses : (n : ℕ) (k : DataSort) (a b : Trees) → SameAt k a b → list_uses n a ≡ list_uses n b
+-- as many uses of a list number
+pub same-list_uses : (n : ℕ) (k : DataSort) (a b : Trees) → SameAt k a b
+    → list_uses n a ≡ list_uses n b
 same-list_uses n = same-at (list_uses n) (list_uses-beside n)
 
 -- what is the same is well formed and of the sort
@@ -68,6 +82,7 @@ same-WellFormed k a b h w = record {
   no_list_zero = omega (arith, w.no_list_zero, same-list_uses 0 k a b h);
 }
 
+-- the hole is as the sort asks
 same-Holed : (s : Sort) (a b : Trees) → Same s a b → HasHoles s a → HasHoles s b
 same-Holed (value v) a b h o = o
 same-Holed (shape k) a b h o = omega (arith, same-holes k a b h)
@@ -77,6 +92,7 @@ same-Holed (context j k) a b h o = record {
   below = λ z. o.below (omega (arith, same-root_holes k a b h));
 }
 
+-- of the sort
 pub same-Shaped : (s : Sort) (a b : Trees) → Same s a b → Shaped s a → Shaped s b
 same-Shaped s a b h w = record {
   well_formed = same-WellFormed (outer s) a b h w.well_formed;
@@ -84,7 +100,14 @@ same-Shaped s a b h w = record {
   holed = same-Holed s a b h w.holed;
 }
 
--- parts
+-- the same, where the sort of the whole is named apart
+pub same-Shaped-at : (s : Sort) (k : DataSort) (a b : Trees) → SameAt k a b
+    → Shaped (giving k s) a → Shaped (giving k s) b
+same-Shaped-at (value v) k a b h w = absurd w.holed
+same-Shaped-at (shape j) k a b h w = same-Shaped (shape k) a b h w
+same-Shaped-at (context j i) k a b h w = same-Shaped (context j k) a b h w
+
+-- the list in front is well formed
 pub left-WellFormed : (a b : Trees) → WellFormed (beside a b) → WellFormed a
 left-WellFormed a b w = record {
   nodes_once = λ n. omega (arith, w.nodes_once n, node_uses-beside n a b);
@@ -93,6 +116,7 @@ left-WellFormed a b w = record {
   no_list_zero = omega (arith, w.no_list_zero, list_uses-beside 0 a b);
 }
 
+-- the list behind is well formed
 pub right-WellFormed : (a b : Trees) → WellFormed (beside a b) → WellFormed b
 right-WellFormed a b w = record {
   nodes_once = λ n. omega (arith, w.nodes_once n, node_uses-beside n a b);
@@ -105,7 +129,8 @@ right-WellFormed a b w = record {
 abbrev pub IsList : DataSort → Type 0
 IsList k = (n : ℕ) → HasWidth k n
 
-left-Holed : (s : Sort) (a b : Trees) → holes b ≡ 0 → root_holes b ≡ 0 → HasHoles s (beside a b) → HasHoles s a
+left-Holed : (s : Sort) (a b : Trees) → holes b ≡ 0 → root_holes b ≡ 0 → HasHoles s (beside a b)
+    → HasHoles s a
 left-Holed (value v) a b z y o = o
 left-Holed (shape k) a b z y o = omega (arith, holes-beside a b)
 left-Holed (context j k) a b z y o = record {
@@ -114,26 +139,33 @@ left-Holed (context j k) a b z y o = record {
   below = λ x. o.below (omega (arith, root_holes-beside a b));
 }
 
+-- a hole among the roots is a hole
 pub root_holes-le : (a : Trees) → root_holes a ≤ holes a
 root_holes-le none = omega arith
 root_holes-le (node s i k l r) = omega (arith, root_holes-le r)
 root_holes-le (hole r) = omega (arith, root_holes-le r)
 
-pub left-Shaped : (s : Sort) (a b : Trees) → IsList (outer s) → holes b ≡ 0 → Shaped s (beside a b) → Shaped s a
+-- the list in front, with the hole if there is one
+pub left-Shaped : (s : Sort) (a b : Trees) → IsList (outer s) → holes b ≡ 0 → Shaped s (beside a b)
+    → Shaped s a
 left-Shaped s a b n z w = record {
   well_formed = left-WellFormed a b w.well_formed;
   width_fits = n (width a);
   holed = left-Holed s a b z (omega (arith, root_holes-le b)) w.holed;
 }
 
-pub right-Shaped-shape : (k : DataSort) (a b : Trees) → IsList k → holes b ≡ 0 → WellFormed (beside a b) → Shaped (shape k) b
+-- the list behind, as a shape
+pub right-Shaped-shape : (k : DataSort) (a b : Trees) → IsList k → holes b ≡ 0
+    → WellFormed (beside a b) → Shaped (shape k) b
 right-Shaped-shape k a b n z w = record {
   well_formed = right-WellFormed a b w;
   width_fits = n (width b);
   holed = z;
 }
 
-pub left-Shaped-shape : (k : DataSort) (a b : Trees) → IsList k → holes a ≡ 0 → WellFormed (beside a b) → Shaped (shape k) a
+-- the list in front, as a shape
+pub left-Shaped-shape : (k : DataSort) (a b : Trees) → IsList k → holes a ≡ 0
+    → WellFormed (beside a b) → Shaped (shape k) a
 left-Shaped-shape k a b n z w = record {
   well_formed = left-WellFormed a b w;
   width_fits = n (width a);

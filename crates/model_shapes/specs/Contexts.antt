@@ -1,8 +1,9 @@
--- Contexts with one hole by construction, as POPL 2005 has them, and the trees with a hole that they
--- stand for. The laws say that these are the contexts of the plain type, sort by sort.
-use Rattle.std.specs.Prelude.{ℕ, List}
-use Rattle.model_shapes.specs.Sorts.{DataSort, tree, forest}
+-- Contexts with one hole by construction, as POPL 2005 has them, and the plain ones that they stand
+-- for. Only laws speak of them: each plain context comes from one of these, and from one only.
+use Rattle.std.specs.Prelude.{◌≡◌, ℕ, List}
+use Rattle.model_shapes.specs.Sorts.{DataSort, tree, forest, grove}
 use Rattle.model_shapes.specs.Trees.{Trees, none, node, hole, beside}
+use Rattle.model_shapes.specs.Shapes.{holes, SameAt}
 
 mutual
   -- the hole, or a node round a forest context
@@ -24,6 +25,7 @@ pub data GroveContext : Type 0 where
   grove_hole : Trees → GroveContext
   root_context : TreeContext → Trees → GroveContext
 
+-- the plain context that each stands for: the hole with its surroundings as trees
 abbrev mutual
   pub tree_thing : TreeContext → Trees
   tree_thing tree_hole = hole none
@@ -37,6 +39,7 @@ abbrev mutual
   inner_thing forest_hole = hole none
   inner_thing (one_context inside) = tree_thing inside
 
+-- the sort of the hole
 abbrev mutual
   pub tree_hole_sort : TreeContext → DataSort
   tree_hole_sort tree_hole = tree
@@ -48,3 +51,37 @@ abbrev mutual
   pub inner_hole_sort : ForestInner → DataSort
   inner_hole_sort forest_hole = forest
   inner_hole_sort (one_context inside) = tree_hole_sort inside
+
+-- a grove context as a plain one, and the sort of its hole
+abbrev pub grove_thing : GroveContext → Trees
+grove_thing (grove_hole rest) = hole rest
+grove_thing (root_context root rest) = beside (tree_thing root) rest
+
+abbrev pub grove_hole_sort : GroveContext → DataSort
+grove_hole_sort (grove_hole rest) = grove
+grove_hole_sort (root_context root rest) = tree_hole_sort root
+
+-- the forests and roots beside the hole have no hole of their own
+abbrev mutual
+  pub TreeBare : TreeContext → Type 0
+  TreeBare tree_hole = Unit
+  TreeBare (around_node name number inside list) = ForestBare inside
+
+  pub ForestBare : ForestContext → Type 0
+  ForestBare (between left inside right) =
+      (holes left ≡ 0) × InnerBare inside × (holes right ≡ 0)
+
+  pub InnerBare : ForestInner → Type 0
+  InnerBare forest_hole = Unit
+  InnerBare (one_context inside) = TreeBare inside
+
+-- the same of a grove context
+abbrev pub GroveBare : GroveContext → Type 0
+GroveBare (grove_hole rest) = holes rest ≡ 0
+GroveBare (root_context root rest) = TreeBare root × (holes rest ≡ 0)
+
+-- grove contexts are the same where their inner parts are equal and their rests the same grove
+abbrev pub SameContext : GroveContext → GroveContext → Type 0
+SameContext (grove_hole a) (grove_hole b) = SameAt grove a b
+SameContext (root_context t a) (root_context u b) = (t ≡ u) × SameAt grove a b
+SameContext c d = ⊥

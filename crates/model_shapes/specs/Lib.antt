@@ -4,3 +4,4 @@ pub mod Trees
 pub mod Shapes
 pub mod Things
 pub mod Contexts
+pub mod Reordered

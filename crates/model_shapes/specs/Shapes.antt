@@ -1,5 +1,5 @@
 -- Shapes and contexts of a sort, and when two are the same.
--- Data with one hole, and the sorts of contexts, are those of POPL 2005; groves are those of PODS 2008.
+-- Data with one hole and the sorts of contexts are those of POPL 2005; groves are of PODS 2008.
 use Rattle.std.specs.Prelude.{◌≡◌, ℕ, ◌+◌, Bool, true, false}
 use Rattle.model_shapes.specs.Sorts.{DataSort, tree, forest, grove, Sort, value, shape, context, outer}
 use Rattle.model_shapes.specs.Trees.{Trees, none, node, hole, width, root_uses, WellFormed}
@@ -47,8 +47,8 @@ pub record Shaped (s : Sort) (trees : Trees) : Type 0 where
   pub width_fits : HasWidth (outer s) (width trees)
   pub holed : HasHoles s trees
 
--- The roots of a grove have no order: two groves are the same where each tree stands as often among
--- the roots of one as among those of the other. Trees and forests are the same where they are equal.
+-- The roots of a grove have no order: two groves are the same where each tree stands as often
+-- among the roots of one as among those of the other. Trees and forests are the same where equal.
 abbrev pub SameAt : DataSort → Trees → Trees → Type 0
 SameAt tree a b = a ≡ b
 SameAt forest a b = a ≡ b

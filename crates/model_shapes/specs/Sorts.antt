@@ -1,5 +1,5 @@
 -- The sorts of values, of data and of contexts.
--- Data sorts and contexts are those of POPL 2005 and PODS 2008; the value sorts are the language's own.
+-- Data sorts and contexts are those of POPL 2005 and PODS 2008; value sorts are the language's own.
 use Rattle.std.specs.Prelude.{Bool, true, false, ◌&&◌}
 use mathlib.Core.HLevel.{Discrete}
 
@@ -48,7 +48,7 @@ giving k (value v) = value v
 giving k (shape j) = shape k
 giving k (context h j) = context h k
 
--- the tests of equality
+-- the tests of equality: of value sorts
 abbrev pub same_value_sort : ValueSort → ValueSort → Bool
 same_value_sort node_sort node_sort = true
 same_value_sort list_sort list_sort = true
@@ -57,12 +57,14 @@ same_value_sort str_sort str_sort = true
 same_value_sort bool_sort bool_sort = true
 same_value_sort a b = false
 
+-- of data sorts
 abbrev pub same_data_sort : DataSort → DataSort → Bool
 same_data_sort tree tree = true
 same_data_sort forest forest = true
 same_data_sort grove grove = true
 same_data_sort a b = false
 
+-- of sorts
 abbrev pub same_sort : Sort → Sort → Bool
 same_sort (value a) (value b) = same_value_sort a b
 same_sort (shape a) (shape b) = same_data_sort a b

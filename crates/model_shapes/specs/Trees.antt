@@ -1,4 +1,4 @@
--- Trees, forests and groves, with or without holes, as one type: the first root and the roots after it.
+-- Trees, forests and groves, with or without holes, as one type: the first root and those after it.
 -- The trees are those of PODS 2008; a hole and its filling are those of POPL 2005.
 use Rattle.std.specs.Prelude.{◌≡◌, ℕ, ◌+◌, ◌≤◌, List}
 use Rattle.std.proofs.Math.Decide.{ℕ_discrete}

@@ -38,9 +38,10 @@ FitsValue str_sort (str s) = Unit
 FitsValue bool_sort (boolean b) = Unit
 FitsValue s x = ⊥
 
--- texts and values are equal or not
+-- texts are equal or not
 pub text_eq : Discrete (List ℕ)
 text_eq = List-discrete ℕ_discrete
 
+-- values are equal or not
 pub value_eq : Discrete Value
 value_eq = Value-discrete ℕ_discrete ℤ_discrete text_eq Bool-discrete
