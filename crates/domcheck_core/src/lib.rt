@@ -13,6 +13,8 @@ mod answers;
 mod file;
 mod form;
 mod status;
+#[cfg(test)]
+mod tests;
 
 pub use answers::{Refusal, Reply};
 use answers::answer_words;

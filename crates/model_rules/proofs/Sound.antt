@@ -18,8 +18,8 @@ Holds ps (triple p c q d) = HoldsLocally ps p c q d
 -- one step drops the command, and what stood in the context stands there still
 skip_holds : (ps : Procedures) (p : Formula) (d : DataSort) → HoldsLocally ps p skip p d
 skip_holds ps p d e store proper r shaped meets around fits whole [] = tt
-skip_holds ps p d e store proper r shaped meets around fits whole (pick ∷ []) = (r, shaped, SameAt-eq grove _ _ refl, meets)
-skip_holds ps p d e store proper r shaped meets around fits whole (pick ∷ next ∷ picks) = (r, shaped, SameAt-eq grove _ _ refl, meets)
+skip_holds ps p d e store proper r shaped meets around fits whole (pick ∷ []) = (r, shaped, whole, SameAt-eq grove _ _ refl, meets)
+skip_holds ps p d e store proper r shaped meets around fits whole (pick ∷ next ∷ picks) = (r, shaped, whole, SameAt-eq grove _ _ refl, meets)
 
 row_holds : (ps : Procedures) {name : _} {arguments : _} {js : _} {j : Judgement} → Row name arguments js j → Holds ps j
 row_holds ps (skip_row p d) = skip_holds ps p d
