@@ -4,6 +4,7 @@ use Rattle.std.specs.List.{list_any}
 use Rattle.std.specs.Str.Parse.{digits_value}
 use Rattle.model_text.specs.Tokens.{TokenKind, word_token, logic_token, number_token, literal_token, symbol_token, bad_token, Token, digits_fit}
 
+-- a token, but for its places and for the line of each but `step`
 pub data Lexeme : Type 0 where
   -- a reserved word or a symbol, by its text
   terminal : List ℕ → Lexeme
@@ -41,7 +42,7 @@ abbrev pub word_lexeme : List ℕ → ℕ → Lexeme
 word_lexeme text line = if bytes_eq text (codes "step") then step_word line
     else (if is_reserved text then terminal text else name_lexeme text)
 
--- what it sees of a number; digits that write none stand in no text
+-- what it sees of a number; no text has a number token whose digits don't fit
 abbrev pub digits_lexeme : List ℕ → Lexeme
 digits_lexeme text = if digits_fit text then number_lexeme (digits_value 10 text) else bad_lexeme
 
