@@ -1,16 +1,32 @@
 -- No binder binds a program variable.
-use Rattle.std.proofs.Common.{◌≡◌, ℕ, List, refl, ap, ◌∙◌, false}
+use Rattle.std.proofs.Common.{◌≡◌, ℕ, List, ◌∷◌, refl, sym, ap, ◌∙◌, true, false}
 use Rattle.model_shapes.specs.Sorts.{ValueSort, Sort}
-use Rattle.model_formulas.specs.Variables.{Var, bound, logic, prog, same_var}
+use Rattle.model_formulas.specs.Variables.{Var, bound, logic, prog, same_var, var_sort}
 use Rattle.model_formulas.specs.Terms.{raised_var, var_eq}
 use Rattle.model_formulas.specs.Nameless.{names, name_or}
 use Rattle.model_formulas.proofs.SameFormulas.{same_formula-Decides}
-use Rattle.model_formulas.proofs.SameTests.{names-here, names-there}
+use Rattle.model_formulas.specs.VariableTests.{false≢true, same_var-is, same_var-refl}
 use Rattle.dom_terms.specs.Sorts.{sort_of}
 use Rattle.dom_terms.specs.Terms.{logic_var_of}
 use Rattle.formula_syntax.specs.declared.same.Binders.{Binders}
 use Rattle.formula_syntax.specs.declared.same.Binders.TheVariants as b
 use Rattle.formula_syntax.specs.Binders.{bound_by}
+
+-- below a binder with this name the variable is the nearest bound one
+pub names-here : (x y : Var) (ys : List Var) → same_var x y ≡ true → names (y ∷ ys) x ≡ bound 0 (var_sort x)
+names-here x y ys e = go (var_eq x y)
+  where
+    go : (d : Dec (x ≡ y)) → name_or (names ys x) d ≡ bound 0 (var_sort x)
+    go (yes q) = ap (λ z. bound 0 (var_sort z)) (sym q)
+    go (no n) = absurd (n (same_var-is x y e))
+
+-- below a binder with another name it is what it is further out
+pub names-there : (x y : Var) (ys : List Var) → same_var x y ≡ false → names (y ∷ ys) x ≡ raised_var (names ys x)
+names-there x y ys e = go (var_eq x y)
+  where
+    go : (d : Dec (x ≡ y)) → name_or (names ys x) d ≡ raised_var (names ys x)
+    go (yes q) = false≢true (sym e ∙ ap (same_var x) (sym q) ∙ same_var-refl x)
+    go (no n) = refl
 
 apart : (x y : List ℕ) (s : ValueSort) (u : Sort) → prog x s ≡ logic y u → ⊥
 apart x y s u e = cc
