@@ -25,7 +25,7 @@ Unreadable bytes = (theory : Theory) → SpellsFile bytes theory → ⊥
 -- the answer of `check` on a file with these bytes
 pub data CheckAnswer (bytes : List ℕ) : Status → List ℕ → Type 0 where
   says_yes : (theory : Theory) → SpellsFile bytes theory → IsAccepted theory
-    → CheckAnswer bytes status.Done (accepted_line theory)
+      → CheckAnswer bytes status.Done (accepted_line theory)
   says_no : Refused bytes → CheckAnswer bytes status.StepFails not_accepted_line
   reads_nothing : Unreadable bytes → CheckAnswer bytes status.BadText bad_text_line
 
@@ -33,7 +33,7 @@ pub data CheckAnswer (bytes : List ℕ) : Status → List ℕ → Type 0 where
 pub data IsAnswer (books : Books) : Option Request → Status → List ℕ → Type 0 where
   bad_words : IsAnswer books None status.BadWords bad_words_line
   checked : (file bytes : List ℕ) {s : Status} {output : List ℕ} → books file ≡ Some bytes
-    → CheckAnswer bytes s output → IsAnswer books (Some (check file)) s output
+      → CheckAnswer bytes s output → IsAnswer books (Some (check file)) s output
 
 -- the book that a request reads is told
 abbrev pub IsTold : Option Request → Books → Type 0

@@ -42,7 +42,9 @@ fn is_by_skip(reason: &Reason) -> bool
     match reason {
         Reason::Auto => false,
         Reason::Rule {
-            name, arguments, ..
+            name,
+            arguments,
+            ..
         } => name.as_str() == "skip" && are_none(arguments),
     }
 }

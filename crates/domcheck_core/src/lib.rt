@@ -16,8 +16,8 @@ mod status;
 #[cfg(test)]
 mod tests;
 
-pub use answers::{Refusal, Reply};
 use answers::answer_words;
+pub use answers::{Refusal, Reply};
 use outside_io::{Library, Sink, write_all_of};
 pub use status::Status;
 use std::alloc::Global;

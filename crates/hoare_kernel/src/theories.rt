@@ -12,7 +12,11 @@ use dom_terms::OutOfMemory;
 use std::alloc::Global;
 
 // Whether the formulas of the triple are the procedure's requires and ensures.
-fn has_own_formulas(alloc: Global, procedure: &Procedure, triple: &Triple) -> Result<bool, OutOfMemory>
+fn has_own_formulas(
+    alloc: Global,
+    procedure: &Procedure,
+    triple: &Triple,
+) -> Result<bool, OutOfMemory>
     requires procedure { ProcedureIsSmall (procedure_of procedure.now) }
     requires triple { JudgementIsSmall (triple_of triple.now) }
     ensures { IfOk result (λ b. b ≡ (test.same_test (formula_of triple.now.pre) (formula_of procedure.now.pre)
@@ -30,7 +34,11 @@ ghost use Rattle.formula_syntax.specs.Formulas.{formula_of};
 ghost use Rattle.dom_syntax.specs.Judgements.{triple_of};
 
 // Whether the judgement is the procedure's own triple, where both commands are `skip`.
-fn is_own_triple(alloc: Global, procedure: &Procedure, judgement: &Judgement) -> Result<bool, OutOfMemory>
+fn is_own_triple(
+    alloc: Global,
+    procedure: &Procedure,
+    judgement: &Judgement,
+) -> Result<bool, OutOfMemory>
     requires procedure { ProcedureIsSmall (procedure_of procedure.now) }
     requires judgement { JudgementIsSmall (judgement_of judgement.now) }
     ensures { IfOk result (λ b. b ≡ test.own_test (procedure_of procedure.now) (judgement_of judgement.now)) }
@@ -53,7 +61,11 @@ fn is_own_triple(alloc: Global, procedure: &Procedure, judgement: &Judgement) ->
 use dom_terms::same_data_sort;
 
 // Whether the last of the steps is the procedure's own triple.
-fn ends_in_own_triple(alloc: Global, procedure: &Procedure, steps: &[Step]) -> Result<bool, OutOfMemory>
+fn ends_in_own_triple(
+    alloc: Global,
+    procedure: &Procedure,
+    steps: &[Step],
+) -> Result<bool, OutOfMemory>
     requires procedure { ProcedureIsSmall (procedure_of procedure.now) }
     requires steps { StepsAreSmall (map step_of steps.now) }
     ensures { IfOk result (λ b. b ≡ test.own_last (procedure_of procedure.now) (test.last_step (map step_of steps.now))) }

@@ -42,7 +42,7 @@ premises_read most ns s rest (some_premises {s = u} ls) =
     let skips : when (codes ")") (ret []) inside ((u ++ one (codes ")")) ++ rest) ≡ inside ((u ++ one (codes ")")) ++ rest) =
     subst (λ (z : List Lexeme). when (codes ")") (ret []) inside z ≡ inside z) (sym (append_assoc u (one (codes ")")) rest)) (not_closed (one (codes ")") ++ rest) (ret []) inside ls) in
     subst (λ (z : _). OrDeep z ns rest) (sym skips)
-        (o_then _ (one (codes ")")) rest (list_only (codes ",") (leaf leaf_number) SpellsNumber number_only most) (listed ls) refl read)
+    (o_then _ (one (codes ")")) rest (list_only (codes ",") (leaf leaf_number) SpellsNumber number_only most) (listed ls) refl read)
 
 pub premises_only : (most : ℕ) → Only (premises_at most) SpellsPremises Prefix_free
 premises_only most = record { only = λ a s rest l st. premises_read most a s rest l }

@@ -27,37 +27,45 @@ command_at = expect (codes "skip") (ret skip)
 unfoldable pub premises_at : ℕ → Read (List ℕ)
 premises_at most =
     expect (codes "(") (when (codes ")") (ret [])
-        (then (sep_list comma (leaf leaf_number) most) λ ns. expect (codes ")") (ret ns)))
+    (then (sep_list comma (leaf leaf_number) most) λ ns. expect (codes ")") (ret ns)))
 
 unfoldable pub judgement_at : Read (JudgementOf Named)
 judgement_at =
     expect (codes "pre") (then formula_at λ p. expect (codes "do") (then command_at λ c.
-        expect (codes "post") (then formula_at λ q. expect (codes "at") (then (leaf leaf_sort) λ d.
-        ret (triple p c q d)))))
+    expect (codes "post") (then formula_at λ q. expect (codes "at") (then (leaf leaf_sort) λ d.
+    ret (triple p c q d)))))
 
 -- behind the word `step`
 unfoldable pub step_tail : ℕ → ℕ → Read (StepOf Named)
 step_tail most line =
     then (leaf leaf_number) λ n. expect (codes "by") (then (leaf leaf_word) λ w.
-        then (premises_at most) λ ns. expect (codes ":") (then judgement_at λ j.
-        expect (codes ";")
-        (ret (record { number = n; line = line; reason = by_rule w ns []; judgement = j }))))
+    then (premises_at most) λ ns. expect (codes ":") (then judgement_at λ j.
+    expect (codes ";")
+    (ret (record { number = n; line = line; reason = by_rule w ns []; judgement = j }))))
 
 -- what stands before the requires
 unfoldable pub header_at : Read (List ℕ)
 header_at =
     then (leaf leaf_name) λ f. expect (codes "(") (expect (codes ")") (expect (codes "returns")
-        (expect (codes "(") (expect (codes ")") (expect (codes "sort") (ret f))))))
+    (expect (codes "(") (expect (codes ")") (expect (codes "sort") (ret f))))))
 
 -- behind the word `proc`
 unfoldable pub procedure_tail : ℕ → Read (ProcedureOf Named)
 procedure_tail most =
     then header_at λ f. then (leaf leaf_sort) λ d.
-        expect (codes "requires") (then formula_at λ p.
-        expect (codes "ensures") (then formula_at λ q. expect (codes "body") (then command_at λ c.
-        expect (codes "proof") (then (many leaf_step (step_tail most) most) λ xs.
-        expect (codes "end") (ret (record { name = f; params = []; results = []; sort = d; pre = p;
-          post = q; body = c; proof = xs }))))))
+    expect (codes "requires") (then formula_at λ p.
+    expect (codes "ensures") (then formula_at λ q. expect (codes "body") (then command_at λ c.
+    expect (codes "proof") (then (many leaf_step (step_tail most) most) λ xs.
+    expect (codes "end") (ret (record {
+      name = f;
+      params = [];
+      results = [];
+      sort = d;
+      pre = p;
+      post = q;
+      body = c;
+      proof = xs;
+    }))))))
 
 -- more procedures, each behind the word `proc`
 unfoldable pub more_procedures_at : ℕ → Read (List (ProcedureOf Named))
@@ -66,9 +74,9 @@ more_procedures_at most = many (the_terminal (codes "proc")) (λ x. procedure_ta
 unfoldable pub procedures_at : ℕ → Read (List (ProcedureOf Named))
 procedures_at most =
     expect (codes "proc") (then (procedure_tail most) λ f.
-        then (more_procedures_at most) λ fs. ret (f ∷ fs))
+    then (more_procedures_at most) λ fs. ret (f ∷ fs))
 
 unfoldable pub theory_at : ℕ → Read Theory
 theory_at most =
     expect (codes "domlogic") (then (leaf leaf_number) λ v. then (procedures_at most) λ fs.
-        ret (record { version = v; logic = []; procedures = fs }))
+    ret (record { version = v; logic = []; procedures = fs }))

@@ -22,9 +22,9 @@ s_list sep {item} {L} zero n h S =
 s_list sep {item} {L} (suc m) n h S =
     s_then (SpellsList sep L) S λ a s la.
     s_step (pred n) n (omega arith) sep
-      (s_then _ (s_list sep m (pred n) (omega arith) (s_less (pred n) n (omega arith) S)) λ xs t las.
-        s_ret (pred n) (a ∷ xs) _ (more la (subst (λ (z : List Lexeme). SpellsList sep L xs z) (sym (append-nil t)) las)))
-      (s_ret n (a ∷ []) _ (subst (λ (z : List Lexeme). SpellsList sep L (a ∷ []) z) (sym (append-nil s)) (last la)))
+    (s_then _ (s_list sep m (pred n) (omega arith) (s_less (pred n) n (omega arith) S)) λ xs t las.
+    s_ret (pred n) (a ∷ xs) _ (more la (subst (λ (z : List Lexeme). SpellsList sep L xs z) (sym (append-nil t)) las)))
+    (s_ret n (a ∷ []) _ (subst (λ (z : List Lexeme). SpellsList sep L (a ∷ []) z) (sym (append-nil s)) (last la)))
 
 -- ---- what is spelled is read
 
@@ -73,10 +73,10 @@ unfolding many
 s_many f item L zero n h S = s_less n 0 (omega arith) (s_deep (many f item zero) (SpellsMany f L) (λ ts. refl) [] [] none_left)
 s_many f item L (suc m) n h S =
     s_begins (pred n) n (omega arith) f _ (ret []) (SpellsMany f L)
-      (λ t x e. s_then _ (s_less (pred n) n (omega arith) (S t x e)) λ a s la.
-        s_then _ (s_many f item L m (pred n) (omega arith) (λ t x e. s_less (pred n) n (omega arith) (S t x e))) λ xs u las.
-        s_ret (pred n) (a ∷ xs) _ (one_more t x e la (subst (λ (z : List Lexeme). SpellsMany f L xs z) (sym (append-nil u)) las)))
-      (s_ret n [] _ none_left)
+    (λ t x e. s_then _ (s_less (pred n) n (omega arith) (S t x e)) λ a s la.
+    s_then _ (s_many f item L m (pred n) (omega arith) (λ t x e. s_less (pred n) n (omega arith) (S t x e))) λ xs u las.
+    s_ret (pred n) (a ∷ xs) _ (one_more t x e la (subst (λ (z : List Lexeme). SpellsMany f L xs z) (sym (append-nil u)) las)))
+    (s_ret n [] _ none_left)
 
 -- nothing that begins an item comes next
 ends_many : {X A : Type 0} (f : Lexeme → Option X) (r : X → Read (List A)) (rest : List Lexeme) → not_begun f rest ≡ true → OrDeep (begins f r (ret []) rest) [] rest
@@ -99,7 +99,7 @@ module _ {X A : Type 0} (f : Lexeme → Option X) (item : X → Read A) (L : A �
   many_reads (suc m) xs s rest none_left st = ends_many f _ rest st
   many_reads (suc m) xs s rest (one_more {a = a} {xs = bs} {s = p} {u = u} t x e la las) st =
       first_read f _ (ret []) t ((p ++ u) ++ rest) x e
-        (o_then _ u rest (O t x e) la refl (or_map (many f item m (u ++ rest)) a bs rest (many_reads m bs u rest las st)))
+      (o_then _ u rest (O t x e) la refl (or_map (many f item m (u ++ rest)) a bs rest (many_reads m bs u rest las st)))
 
   pub many_only : (m : ℕ) → Only (many f item m) (SpellsMany f L) (not_begun f)
   many_only m = record { only = λ xs s rest l st. many_reads m xs s rest l st }
@@ -118,17 +118,17 @@ regroup {A} front a (Ok x) = ap (λ (xs : List A). done (xs, x.1)) (sym (append_
 regroup front a (Err f) = refl
 
 pub goes_on : {A : Type 0} (sep : List ℕ) (item : Read A) (front : List A) (most i : ℕ) (ts : List Lexeme) (a : A) (behind next : List Lexeme) (total : Answer (List A))
-  → i < most → item ts ≡ Ok (a, behind) → after sep behind ≡ Some next
-  → with_front front (sep_list sep item (most - i) ts) ≡ total → with_front (front ++ a ∷ []) (sep_list sep item (most - (i + 1)) next) ≡ total
+    → i < most → item ts ≡ Ok (a, behind) → after sep behind ≡ Some next
+    → with_front front (sep_list sep item (most - i) ts) ≡ total → with_front (front ++ a ∷ []) (sep_list sep item (most - (i + 1)) next) ≡ total
 unfolding sep_list
 goes_on sep item front most i ts a behind next total lt h n so_far =
     let k : most - i ≡ suc (most - (i + 1)) = omega arith in
     let one : with_front front (sep_list sep item (most - i) ts) ≡ with_front (front ++ a ∷ []) (sep_list sep item (most - (i + 1)) next) =
-      rw (k, h, n) (regroup front a (sep_list sep item (most - (i + 1)) next)) in
+    rw (k, h, n) (regroup front a (sep_list sep item (most - (i + 1)) next)) in
     sym one ∙ so_far
 
 pub breaks : {A : Type 0} (sep : List ℕ) (item : Read A) (e : ReadFault) (front : List A) (most i : ℕ) (ts : List Lexeme) (total : Answer (List A))
-  → i < most → Fails e (item ts) → with_front front (sep_list sep item (most - i) ts) ≡ total → Fails e total
+    → i < most → Fails e (item ts) → with_front front (sep_list sep item (most - i) ts) ≡ total → Fails e total
 unfolding sep_list
 breaks sep item faults.Memory front most i ts total lt h so_far = tt
 breaks sep item (faults.Text k) front most i ts total lt h so_far =
@@ -137,8 +137,8 @@ breaks sep item (faults.Text k) front most i ts total lt h so_far =
     sym so_far ∙ one
 
 pub is_done : {A : Type 0} (sep : List ℕ) (item : Read A) (front : List A) (most i : ℕ) (ts : List Lexeme) (a : A) (behind : List Lexeme) (total : Answer (List A))
-  → i < most → item ts ≡ Ok (a, behind) → after sep behind ≡ None
-  → with_front front (sep_list sep item (most - i) ts) ≡ total → total ≡ Ok (front ++ a ∷ [], behind)
+    → i < most → item ts ≡ Ok (a, behind) → after sep behind ≡ None
+    → with_front front (sep_list sep item (most - i) ts) ≡ total → total ≡ Ok (front ++ a ∷ [], behind)
 unfolding sep_list
 is_done sep item front most i ts a behind total lt h n so_far =
     let k : most - i ≡ suc (most - (i + 1)) = omega arith in
@@ -152,17 +152,17 @@ nothing_yet (Err e) = refl
 -- the same for items as long as one begins
 module _ {X A : Type 0} (f : Lexeme → Option X) (item : X → Read A) where
   pub many_goes_on : (front : List A) (most i : ℕ) (ts : List Lexeme) (x : X) (behind : List Lexeme) (a : A) (next : List Lexeme) (total : Answer (List A))
-    → i < most → first f ts ≡ Some (x, behind) → item x behind ≡ Ok (a, next)
-    → with_front front (many f item (most - i) ts) ≡ total → with_front (front ++ a ∷ []) (many f item (most - (i + 1)) next) ≡ total
+      → i < most → first f ts ≡ Some (x, behind) → item x behind ≡ Ok (a, next)
+      → with_front front (many f item (most - i) ts) ≡ total → with_front (front ++ a ∷ []) (many f item (most - (i + 1)) next) ≡ total
   unfolding many
   many_goes_on front most i ts x behind a next total lt b h so_far =
       let k : most - i ≡ suc (most - (i + 1)) = omega arith in
       let one : with_front front (many f item (most - i) ts) ≡ with_front (front ++ a ∷ []) (many f item (most - (i + 1)) next) =
-        rw (k, b, h) (regroup front a (many f item (most - (i + 1)) next)) in
+      rw (k, b, h) (regroup front a (many f item (most - (i + 1)) next)) in
       sym one ∙ so_far
 
   pub many_breaks : (e : ReadFault) (front : List A) (most i : ℕ) (ts : List Lexeme) (x : X) (behind : List Lexeme) (total : Answer (List A))
-    → i < most → first f ts ≡ Some (x, behind) → Fails e (item x behind) → with_front front (many f item (most - i) ts) ≡ total → Fails e total
+      → i < most → first f ts ≡ Some (x, behind) → Fails e (item x behind) → with_front front (many f item (most - i) ts) ≡ total → Fails e total
   unfolding many
   many_breaks faults.Memory front most i ts x behind total lt b h so_far = tt
   many_breaks (faults.Text k) front most i ts x behind total lt b h so_far =
@@ -171,7 +171,7 @@ module _ {X A : Type 0} (f : Lexeme → Option X) (item : X → Read A) where
       sym so_far ∙ one
 
   pub many_done : (front : List A) (most i : ℕ) (ts : List Lexeme) (total : Answer (List A))
-    → i < most → first f ts ≡ None → with_front front (many f item (most - i) ts) ≡ total → total ≡ Ok (front, ts)
+      → i < most → first f ts ≡ None → with_front front (many f item (most - i) ts) ≡ total → total ≡ Ok (front, ts)
   unfolding many
   many_done front most i ts total lt b so_far =
       let k : most - i ≡ suc (most - (i + 1)) = omega arith in

@@ -50,11 +50,11 @@ pub record Sound {A : Type 0} (n : ℕ) (r : Read A) (L : A → List Lexeme → 
   pub some : (a : A) × (s : List Lexeme) × L a s
   pub found : (ts : List Lexeme) (a : A) (rest : List Lexeme) → r ts ≡ Ok (a, rest) → (s : List Lexeme) × (ts ≡ s ++ rest) × L a s
   pub viable : (ts : List Lexeme) (k : ℕ) → r ts ≡ Err (At k)
-    → (p : List Lexeme) × (rest : List Lexeme) × (ts ≡ p ++ rest) × (k ≡ length rest) × (a : A) × (s : List Lexeme) × L a (p ++ s)
+      → (p : List Lexeme) × (rest : List Lexeme) × (ts ≡ p ++ rest) × (k ≡ length rest) × (a : A) × (s : List Lexeme) × L a (p ++ s)
   pub local_ok : (p : List Lexeme) (t : Lexeme) (rest : List Lexeme) (a : A) → r (p ++ (t ∷ rest)) ≡ Ok (a, t ∷ rest)
-    → (s : List Lexeme) → r (p ++ (t ∷ s)) ≡ Ok (a, t ∷ s)
+      → (s : List Lexeme) → r (p ++ (t ∷ s)) ≡ Ok (a, t ∷ s)
   pub local_err : (p : List Lexeme) (t : Lexeme) (rest : List Lexeme) → r (p ++ (t ∷ rest)) ≡ Err (At (suc (length rest)))
-    → (s : List Lexeme) → r (p ++ (t ∷ s)) ≡ Err (At (suc (length s)))
+      → (s : List Lexeme) → r (p ++ (t ∷ s)) ≡ Err (At (suc (length s)))
   pub ends : (ts : List Lexeme) → length ts < n → r ts ≡ Err Deep → ⊥
 
 -- what is left of a language behind a list, behind a token
@@ -69,11 +69,10 @@ length_of ts s rest e = ap (length {A = Lexeme}) e ∙ length-append s rest
 
 -- a reader's answer, with tokens q left before the one that it looked at
 local_ok_far : {A : Type 0} {n : ℕ} {r : Read A} {L : A → List Lexeme → Type 0} → Sound n r L
-  → (p q : List Lexeme) (t : Lexeme) (rest : List Lexeme) (a : A) → r (p ++ (q ++ (t ∷ rest))) ≡ Ok (a, q ++ (t ∷ rest))
-  → (s : List Lexeme) → r (p ++ (q ++ (t ∷ s))) ≡ Ok (a, q ++ (t ∷ s))
+    → (p q : List Lexeme) (t : Lexeme) (rest : List Lexeme) (a : A) → r (p ++ (q ++ (t ∷ rest))) ≡ Ok (a, q ++ (t ∷ rest))
+    → (s : List Lexeme) → r (p ++ (q ++ (t ∷ s))) ≡ Ok (a, q ++ (t ∷ s))
 local_ok_far S p [] t rest a e s = S.local_ok p t rest a e s
 local_ok_far S p (u ∷ q) t rest a e s = S.local_ok p u (q ++ (t ∷ rest)) a e (q ++ (t ∷ s))
-
 
 empty_front : (p r : List Lexeme) → length (p ++ r) ≡ length r → p ≡ []
 empty_front [] r e = refl
@@ -81,9 +80,9 @@ empty_front (x ∷ p) r e = absurd (omega (arith, length-append p r))
 
 -- what the second reader does on other tokens behind the one that it looked at
 then_moved : {A B : Type 0} (r : Read A) (k : A → Read B) (p q1 q2 : List Lexeme) (t : Lexeme) (rest : List Lexeme) (x : A × List Lexeme)
-  → r (p ++ (t ∷ rest)) ≡ Ok x → p ≡ q1 ++ q2 → x.1 ≡ q2 ++ (t ∷ rest) → (s : List Lexeme)
-  → ((p q : List Lexeme) (t : Lexeme) (rest : List Lexeme) (a : A) → r (p ++ (q ++ (t ∷ rest))) ≡ Ok (a, q ++ (t ∷ rest)) → (s : List Lexeme) → r (p ++ (q ++ (t ∷ s))) ≡ Ok (a, q ++ (t ∷ s)))
-  → (y : Answer B) → k x.0 (q2 ++ (t ∷ s)) ≡ y → then r k (p ++ (t ∷ s)) ≡ y
+    → r (p ++ (t ∷ rest)) ≡ Ok x → p ≡ q1 ++ q2 → x.1 ≡ q2 ++ (t ∷ rest) → (s : List Lexeme)
+    → ((p q : List Lexeme) (t : Lexeme) (rest : List Lexeme) (a : A) → r (p ++ (q ++ (t ∷ rest))) ≡ Ok (a, q ++ (t ∷ rest)) → (s : List Lexeme) → r (p ++ (q ++ (t ∷ s))) ≡ Ok (a, q ++ (t ∷ s)))
+    → (y : Answer B) → k x.0 (q2 ++ (t ∷ s)) ≡ y → then r k (p ++ (t ∷ s)) ≡ y
 then_moved {A} r k p q1 q2 t rest x e cut e1 s far y e2 =
     let a1 : p ++ (t ∷ rest) ≡ q1 ++ (q2 ++ (t ∷ rest)) = rw cut (append_assoc q1 q2 (t ∷ rest)) in
     let a2 : p ++ (t ∷ s) ≡ q1 ++ (q2 ++ (t ∷ s)) = rw cut (append_assoc q1 q2 (t ∷ s)) in
@@ -99,14 +98,14 @@ pub s_ret : {A : Type 0} (n : ℕ) (a : A) (L : A → List Lexeme → Type 0) �
 s_ret {A} n a L l = record {
   some = (a, [], l);
   found = λ ts b rest e.
-    let d = ok_parts a b ts rest e in
-    ([], d.1, subst (λ (x : A). L x []) d.0 l);
+      let d = ok_parts a b ts rest e in
+      ([], d.1, subst (λ (x : A). L x []) d.0 l);
   viable = λ ts k e. absurd cc;
   local_ok = λ p t rest b e s.
-    let d = ok_parts a b (p ++ (t ∷ rest)) (t ∷ rest) e in
-    let ea : a ≡ b = d.0 in
-    let ep : p ≡ [] = (split_rest [] (t ∷ rest) p (t ∷ rest) d.1 refl).0 in
-    rw (ea, ep) refl;
+      let d = ok_parts a b (p ++ (t ∷ rest)) (t ∷ rest) e in
+      let ea : a ≡ b = d.0 in
+      let ep : p ≡ [] = (split_rest [] (t ∷ rest) p (t ∷ rest) d.1 refl).0 in
+      rw (ea, ep) refl;
   local_err = λ p t rest e s. absurd cc;
   ends = λ ts lt e. cc;
 }
@@ -118,70 +117,76 @@ s_fail {A} n a s L l = record {
   some = (a, s, l);
   found = λ ts b rest e. absurd cc;
   viable = λ ts k e.
-    let h : length ts ≡ k = cc in
-    ([], ts, refl, sym h, a, s, l);
+      let h : length ts ≡ k = cc in
+      ([], ts, refl, sym h, a, s, l);
   local_ok = λ p t rest b e s. absurd cc;
   local_err = λ p t rest e s.
-    let et : length (p ++ (t ∷ rest)) ≡ suc (length rest) = cc in
-    let ep : p ≡ [] = empty_front p (t ∷ rest) et in
-    rw ep refl;
+      let et : length (p ++ (t ∷ rest)) ≡ suc (length rest) = cc in
+      let ep : p ≡ [] = empty_front p (t ∷ rest) et in
+      rw ep refl;
   ends = λ ts lt e. cc;
 }
 
 -- ---- one after the other
 
 pub s_then : {A B : Type 0} {n : ℕ} {r : Read A} {k : A → Read B} {L1 : A → List Lexeme → Type 0} (L : B → List Lexeme → Type 0)
-  → Sound n r L1 → ((a : A) (s : List Lexeme) → L1 a s → Sound n (k a) (Behind s L)) → Sound n (then r k) L
+    → Sound n r L1 → ((a : A) (s : List Lexeme) → L1 a s → Sound n (k a) (Behind s L)) → Sound n (then r k) L
 s_then {A} {B} {n} {r} {k} {L1} L S1 S2 = record {
   some =
-    let x = S1.some in
-    let y = (S2 x.0 x.1 x.2).some in
-    (y.0, x.1 ++ y.1, y.2);
+      let x = S1.some in
+      let y = (S2 x.0 x.1 x.2).some in
+      (y.0, x.1 ++ y.1, y.2);
   found = λ ts b rest e.
-    let x = bind_ok (r ts) (λ (x : A × List Lexeme). k x.0 x.1) (b, rest) e in
-    let f = S1.found ts x.0.0 x.0.1 x.1 in
-    let g = (S2 x.0.0 f.0 f.2).found x.0.1 b rest x.2 in
-    (f.0 ++ g.0, f.1 ∙ ap (λ (z : List Lexeme). f.0 ++ z) g.1 ∙ sym (append_assoc f.0 g.0 rest), g.2);
+      let x = bind_ok (r ts) (λ (x : A × List Lexeme). k x.0 x.1) (b, rest) e in
+      let f = S1.found ts x.0.0 x.0.1 x.1 in
+      let g = (S2 x.0.0 f.0 f.2).found x.0.1 b rest x.2 in
+      (f.0 ++ g.0, f.1 ∙ ap (λ (z : List Lexeme). f.0 ++ z) g.1 ∙ sym (append_assoc f.0 g.0 rest), g.2);
   viable = λ ts j e.
-    elim (bind_err (r ts) (λ (x : A × List Lexeme). k x.0 x.1) (At j) e) [
-      | inl h ↦
-        let v = S1.viable ts j h in
-        let y = (S2 v.4 (v.0 ++ v.5) v.6).some in
-        (v.0, v.1, v.2, v.3, y.0, v.5 ++ y.1, subst (λ (z : List Lexeme). L y.0 z) (append_assoc v.0 v.5 y.1) y.2)
-      | inr x ↦
-        let f = S1.found ts x.0.0 x.0.1 x.1 in
-        let v = (S2 x.0.0 f.0 f.2).viable x.0.1 j x.2 in
-        (f.0 ++ v.0, v.1, f.1 ∙ ap (λ (z : List Lexeme). f.0 ++ z) v.2 ∙ sym (append_assoc f.0 v.0 v.1), v.3, v.4, v.5,
-          subst (λ (z : List Lexeme). L v.4 z) (sym (append_assoc f.0 v.0 v.5)) v.6)
-    ];
+      elim (bind_err (r ts) (λ (x : A × List Lexeme). k x.0 x.1) (At j) e) [
+        | inl h ↦
+            let v = S1.viable ts j h in
+            let y = (S2 v.4 (v.0 ++ v.5) v.6).some in
+            (v.0, v.1, v.2, v.3, y.0, v.5 ++ y.1, subst (λ (z : List Lexeme). L y.0 z) (append_assoc v.0 v.5 y.1) y.2)
+        | inr x ↦
+            let f = S1.found ts x.0.0 x.0.1 x.1 in
+            let v = (S2 x.0.0 f.0 f.2).viable x.0.1 j x.2 in (
+              f.0 ++ v.0,
+              v.1,
+              f.1 ∙ ap (λ (z : List Lexeme). f.0 ++ z) v.2 ∙ sym (append_assoc f.0 v.0 v.1),
+              v.3,
+              v.4,
+              v.5,
+              subst (λ (z : List Lexeme). L v.4 z) (sym (append_assoc f.0 v.0 v.5)) v.6,
+            )
+      ];
   local_ok = λ p t rest b e s.
-    let x = bind_ok (r (p ++ (t ∷ rest))) (λ (x : A × List Lexeme). k x.0 x.1) (b, t ∷ rest) e in
-    let f = S1.found (p ++ (t ∷ rest)) x.0.0 x.0.1 x.1 in
-    let S = S2 x.0.0 f.0 f.2 in
-    let g = S.found x.0.1 b (t ∷ rest) x.2 in
-    let cut = split_rest (f.0 ++ g.0) (t ∷ rest) p (t ∷ rest) (f.1 ∙ ap (λ (z : List Lexeme). f.0 ++ z) g.1 ∙ sym (append_assoc f.0 g.0 (t ∷ rest))) refl in
-    then_moved r k p f.0 g.0 t rest x.0 x.1 cut.0 g.1 s (local_ok_far S1) (Ok (b, t ∷ s))
+      let x = bind_ok (r (p ++ (t ∷ rest))) (λ (x : A × List Lexeme). k x.0 x.1) (b, t ∷ rest) e in
+      let f = S1.found (p ++ (t ∷ rest)) x.0.0 x.0.1 x.1 in
+      let S = S2 x.0.0 f.0 f.2 in
+      let g = S.found x.0.1 b (t ∷ rest) x.2 in
+      let cut = split_rest (f.0 ++ g.0) (t ∷ rest) p (t ∷ rest) (f.1 ∙ ap (λ (z : List Lexeme). f.0 ++ z) g.1 ∙ sym (append_assoc f.0 g.0 (t ∷ rest))) refl in
+      then_moved r k p f.0 g.0 t rest x.0 x.1 cut.0 g.1 s (local_ok_far S1) (Ok (b, t ∷ s))
       (S.local_ok g.0 t rest b (subst (λ (z : List Lexeme). k x.0.0 z ≡ Ok (b, t ∷ rest)) g.1 x.2) s);
   local_err = λ p t rest e s.
-    elim (bind_err (r (p ++ (t ∷ rest))) (λ (x : A × List Lexeme). k x.0 x.1) (At (suc (length rest))) e) [
-      | inl h ↦ bind_stop (r (p ++ (t ∷ s))) (λ (x : A × List Lexeme). k x.0 x.1) _ (S1.local_err p t rest h s)
-      | inr x ↦
-        let f = S1.found (p ++ (t ∷ rest)) x.0.0 x.0.1 x.1 in
-        let S = S2 x.0.0 f.0 f.2 in
-        let v = S.viable x.0.1 (suc (length rest)) x.2 in
-        let cut = split_rest (f.0 ++ v.0) v.1 p (t ∷ rest) (f.1 ∙ ap (λ (z : List Lexeme). f.0 ++ z) v.2 ∙ sym (append_assoc f.0 v.0 v.1)) v.3 in
-        let g1 : x.0.1 ≡ v.0 ++ (t ∷ rest) = v.2 ∙ ap (λ (z : List Lexeme). v.0 ++ z) (sym cut.1) in
-        then_moved r k p f.0 v.0 t rest x.0 x.1 cut.0 g1 s (local_ok_far S1) (Err (At (suc (length s))))
-          (S.local_err v.0 t rest (subst (λ (z : List Lexeme). k x.0.0 z ≡ Err (At (suc (length rest)))) g1 x.2) s)
-    ];
+      elim (bind_err (r (p ++ (t ∷ rest))) (λ (x : A × List Lexeme). k x.0 x.1) (At (suc (length rest))) e) [
+        | inl h ↦ bind_stop (r (p ++ (t ∷ s))) (λ (x : A × List Lexeme). k x.0 x.1) _ (S1.local_err p t rest h s)
+        | inr x ↦
+            let f = S1.found (p ++ (t ∷ rest)) x.0.0 x.0.1 x.1 in
+            let S = S2 x.0.0 f.0 f.2 in
+            let v = S.viable x.0.1 (suc (length rest)) x.2 in
+            let cut = split_rest (f.0 ++ v.0) v.1 p (t ∷ rest) (f.1 ∙ ap (λ (z : List Lexeme). f.0 ++ z) v.2 ∙ sym (append_assoc f.0 v.0 v.1)) v.3 in
+            let g1 : x.0.1 ≡ v.0 ++ (t ∷ rest) = v.2 ∙ ap (λ (z : List Lexeme). v.0 ++ z) (sym cut.1) in
+            then_moved r k p f.0 v.0 t rest x.0 x.1 cut.0 g1 s (local_ok_far S1) (Err (At (suc (length s))))
+            (S.local_err v.0 t rest (subst (λ (z : List Lexeme). k x.0.0 z ≡ Err (At (suc (length rest)))) g1 x.2) s)
+      ];
   ends = λ ts lt e.
-    elim (bind_err (r ts) (λ (x : A × List Lexeme). k x.0 x.1) Deep e) [
-      | inl h ↦ S1.ends ts lt h
-      | inr x ↦
-        let f = S1.found ts x.0.0 x.0.1 x.1 in
-        let le : length ts ≡ length f.0 + length x.0.1 = length_of ts f.0 x.0.1 f.1 in
-        (S2 x.0.0 f.0 f.2).ends x.0.1 (omega arith) x.2
-    ];
+      elim (bind_err (r ts) (λ (x : A × List Lexeme). k x.0 x.1) Deep e) [
+        | inl h ↦ S1.ends ts lt h
+        | inr x ↦
+            let f = S1.found ts x.0.0 x.0.1 x.1 in
+            let le : length ts ≡ length f.0 + length x.0.1 = length_of ts f.0 x.0.1 f.1 in
+            (S2 x.0.0 f.0 f.2).ends x.0.1 (omega arith) x.2
+      ];
 }
 
 -- ---- a first lexeme that stands for something, or something else
@@ -203,29 +208,29 @@ module _ {X A : Type 0} (n k : ℕ) (nk : k ≤ suc n) (f : Lexeme → Option X)
   begins_found (t ∷ ts) a rest e =
       elim (option_cases (f t)) [
         | inr y ↦
-          let g = (S1 t y.0 y.1).found ts a rest (sym (begins_yes f r other t ts y.0 y.1) ∙ e) in
-          (t ∷ g.0, ap (λ (z : List Lexeme). t ∷ z) g.1, g.2)
+            let g = (S1 t y.0 y.1).found ts a rest (sym (begins_yes f r other t ts y.0 y.1) ∙ e) in
+            (t ∷ g.0, ap (λ (z : List Lexeme). t ∷ z) g.1, g.2)
         | inl q ↦ S2.found (t ∷ ts) a rest (sym (begins_no f r other t ts q) ∙ e)
       ]
 
   begins_viable : (ts : List Lexeme) (j : ℕ) → begins f r other ts ≡ Err (At j)
-    → (p : List Lexeme) × (rest : List Lexeme) × (ts ≡ p ++ rest) × (j ≡ length rest) × (a : A) × (s : List Lexeme) × L a (p ++ s)
+      → (p : List Lexeme) × (rest : List Lexeme) × (ts ≡ p ++ rest) × (j ≡ length rest) × (a : A) × (s : List Lexeme) × L a (p ++ s)
   begins_viable [] j e = S2.viable [] j e
   begins_viable (t ∷ ts) j e =
       elim (option_cases (f t)) [
         | inr y ↦
-          let v = (S1 t y.0 y.1).viable ts j (sym (begins_yes f r other t ts y.0 y.1) ∙ e) in
-          (t ∷ v.0, v.1, ap (λ (z : List Lexeme). t ∷ z) v.2, v.3, v.4, v.5, v.6)
+            let v = (S1 t y.0 y.1).viable ts j (sym (begins_yes f r other t ts y.0 y.1) ∙ e) in
+            (t ∷ v.0, v.1, ap (λ (z : List Lexeme). t ∷ z) v.2, v.3, v.4, v.5, v.6)
         | inl q ↦ S2.viable (t ∷ ts) j (sym (begins_no f r other t ts q) ∙ e)
       ]
 
   begins_local_ok : (p : List Lexeme) (t : Lexeme) (rest : List Lexeme) (a : A) → begins f r other (p ++ (t ∷ rest)) ≡ Ok (a, t ∷ rest)
-    → (s : List Lexeme) → begins f r other (p ++ (t ∷ s)) ≡ Ok (a, t ∷ s)
+      → (s : List Lexeme) → begins f r other (p ++ (t ∷ s)) ≡ Ok (a, t ∷ s)
   begins_local_ok [] t rest a e s =
       elim (option_cases (f t)) [
         | inr y ↦
-          let g = (S1 t y.0 y.1).found rest a (t ∷ rest) (sym (begins_yes f r other t rest y.0 y.1) ∙ e) in
-          absurd (omega (arith, length_of rest g.0 (t ∷ rest) g.1))
+            let g = (S1 t y.0 y.1).found rest a (t ∷ rest) (sym (begins_yes f r other t rest y.0 y.1) ∙ e) in
+            absurd (omega (arith, length_of rest g.0 (t ∷ rest) g.1))
         | inl q ↦ begins_no f r other t s q ∙ S2.local_ok [] t rest a (sym (begins_no f r other t rest q) ∙ e) s
       ]
   begins_local_ok (u ∷ p) t rest a e s =
@@ -235,12 +240,12 @@ module _ {X A : Type 0} (n k : ℕ) (nk : k ≤ suc n) (f : Lexeme → Option X)
       ]
 
   begins_local_err : (p : List Lexeme) (t : Lexeme) (rest : List Lexeme) → begins f r other (p ++ (t ∷ rest)) ≡ Err (At (suc (length rest)))
-    → (s : List Lexeme) → begins f r other (p ++ (t ∷ s)) ≡ Err (At (suc (length s)))
+      → (s : List Lexeme) → begins f r other (p ++ (t ∷ s)) ≡ Err (At (suc (length s)))
   begins_local_err [] t rest e s =
       elim (option_cases (f t)) [
         | inr y ↦
-          let v = (S1 t y.0 y.1).viable rest (suc (length rest)) (sym (begins_yes f r other t rest y.0 y.1) ∙ e) in
-          absurd (omega (arith, length_of rest v.0 v.1 v.2, v.3))
+            let v = (S1 t y.0 y.1).viable rest (suc (length rest)) (sym (begins_yes f r other t rest y.0 y.1) ∙ e) in
+            absurd (omega (arith, length_of rest v.0 v.1 v.2, v.3))
         | inl q ↦ begins_no f r other t s q ∙ S2.local_err [] t rest (sym (begins_no f r other t rest q) ∙ e) s
       ]
   begins_local_err (u ∷ p) t rest e s =
@@ -325,43 +330,43 @@ module _ {A : Type 0} (n : ℕ) (f : Lexeme → Option A) (L : A → List Lexeme
       elim (option_cases (f t)) [
         | inl q ↦ absurd (let h = sym (leaf_none f t ts q) ∙ e in cc)
         | inr y ↦
-          let d = ok_parts y.0 a ts rest (sym (leaf_some f t ts y.0 y.1) ∙ e) in
-          (t ∷ [], ap (λ (z : List Lexeme). t ∷ z) d.1, subst (λ (z : A). L z (t ∷ [])) d.0 (each t y.0 y.1))
+            let d = ok_parts y.0 a ts rest (sym (leaf_some f t ts y.0 y.1) ∙ e) in
+            (t ∷ [], ap (λ (z : List Lexeme). t ∷ z) d.1, subst (λ (z : A). L z (t ∷ [])) d.0 (each t y.0 y.1))
       ]
 
   leaf_viable : (ts : List Lexeme) (k : ℕ) → leaf f ts ≡ Err (At k)
-    → (p : List Lexeme) × (rest : List Lexeme) × (ts ≡ p ++ rest) × (k ≡ length rest) × (a : A) × (s : List Lexeme) × L a (p ++ s)
+      → (p : List Lexeme) × (rest : List Lexeme) × (ts ≡ p ++ rest) × (k ≡ length rest) × (a : A) × (s : List Lexeme) × L a (p ++ s)
   leaf_viable [] k e = let h : 0 ≡ k = cc in ([], [], refl, sym h, has.0, has.1, has.2)
   leaf_viable (t ∷ ts) k e =
       elim (option_cases (f t)) [
         | inl q ↦
-          let h = sym (leaf_none f t ts q) ∙ e in
-          let g : suc (length ts) ≡ k = cc in
-          ([], t ∷ ts, refl, sym g, has.0, has.1, has.2)
+            let h = sym (leaf_none f t ts q) ∙ e in
+            let g : suc (length ts) ≡ k = cc in
+            ([], t ∷ ts, refl, sym g, has.0, has.1, has.2)
         | inr y ↦ absurd (let h = sym (leaf_some f t ts y.0 y.1) ∙ e in cc)
       ]
 
   leaf_local_ok : (p : List Lexeme) (t : Lexeme) (rest : List Lexeme) (a : A) → leaf f (p ++ (t ∷ rest)) ≡ Ok (a, t ∷ rest)
-    → (s : List Lexeme) → leaf f (p ++ (t ∷ s)) ≡ Ok (a, t ∷ s)
+      → (s : List Lexeme) → leaf f (p ++ (t ∷ s)) ≡ Ok (a, t ∷ s)
   leaf_local_ok [] t rest a e s =
       elim (option_cases (f t)) [
         | inl q ↦ absurd (let h = sym (leaf_none f t rest q) ∙ e in cc)
         | inr y ↦
-          let d = ok_parts y.0 a rest (t ∷ rest) (sym (leaf_some f t rest y.0 y.1) ∙ e) in
-          absurd (omega (arith, ap (length {A = Lexeme}) d.1))
+            let d = ok_parts y.0 a rest (t ∷ rest) (sym (leaf_some f t rest y.0 y.1) ∙ e) in
+            absurd (omega (arith, ap (length {A = Lexeme}) d.1))
       ]
   leaf_local_ok (u ∷ p) t rest a e s =
       elim (option_cases (f u)) [
         | inl q ↦ absurd (let h = sym (leaf_none f u (p ++ (t ∷ rest)) q) ∙ e in cc)
         | inr y ↦
-          let d = ok_parts y.0 a (p ++ (t ∷ rest)) (t ∷ rest) (sym (leaf_some f u (p ++ (t ∷ rest)) y.0 y.1) ∙ e) in
-          let ep : p ≡ [] = (split_rest [] (t ∷ rest) p (t ∷ rest) d.1 refl).0 in
-          let ea : y.0 ≡ a = d.0 in
-          leaf_some f u (p ++ (t ∷ s)) y.0 y.1 ∙ rw (ea, ep) refl
+            let d = ok_parts y.0 a (p ++ (t ∷ rest)) (t ∷ rest) (sym (leaf_some f u (p ++ (t ∷ rest)) y.0 y.1) ∙ e) in
+            let ep : p ≡ [] = (split_rest [] (t ∷ rest) p (t ∷ rest) d.1 refl).0 in
+            let ea : y.0 ≡ a = d.0 in
+            leaf_some f u (p ++ (t ∷ s)) y.0 y.1 ∙ rw (ea, ep) refl
       ]
 
   leaf_local_err : (p : List Lexeme) (t : Lexeme) (rest : List Lexeme) → leaf f (p ++ (t ∷ rest)) ≡ Err (At (suc (length rest)))
-    → (s : List Lexeme) → leaf f (p ++ (t ∷ s)) ≡ Err (At (suc (length s)))
+      → (s : List Lexeme) → leaf f (p ++ (t ∷ s)) ≡ Err (At (suc (length s)))
   leaf_local_err [] t rest e s =
       elim (option_cases (f t)) [
         | inl q ↦ leaf_none f t s q
@@ -370,9 +375,9 @@ module _ {A : Type 0} (n : ℕ) (f : Lexeme → Option A) (L : A → List Lexeme
   leaf_local_err (u ∷ p) t rest e s =
       elim (option_cases (f u)) [
         | inl q ↦
-          let h = sym (leaf_none f u (p ++ (t ∷ rest)) q) ∙ e in
-          let g : suc (length (p ++ (t ∷ rest))) ≡ suc (length rest) = cc in
-          absurd (omega (arith, g, length-append p (t ∷ rest)))
+            let h = sym (leaf_none f u (p ++ (t ∷ rest)) q) ∙ e in
+            let g : suc (length (p ++ (t ∷ rest))) ≡ suc (length rest) = cc in
+            absurd (omega (arith, g, length-append p (t ∷ rest)))
         | inr y ↦ absurd (let h = sym (leaf_some f u (p ++ (t ∷ rest)) y.0 y.1) ∙ e in cc)
       ]
 

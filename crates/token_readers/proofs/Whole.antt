@@ -24,17 +24,20 @@ take_front : (p s : List Lexeme) (j : ℕ) → j ≤ length p → take j (p ++ s
 take_front p s j h = take-append-le j p s h
 
 begins_front : {A : Type 0} (L : A → List Lexeme → Type 0) (p : List Lexeme) (j : ℕ) → Begins L p → Begins L (take j p)
-begins_front L p j b =
-    (b.0, drop j p ++ b.1, subst (λ (z : List Lexeme). L b.0 z)
-      (ap (λ (z : List Lexeme). z ++ b.1) (sym (take-append-drop j p)) ∙ append_assoc (take j p) (drop j p) b.1) b.2)
+begins_front L p j b = (
+  b.0,
+  drop j p ++ b.1,
+  subst (λ (z : List Lexeme). L b.0 z)
+      (ap (λ (z : List Lexeme). z ++ b.1) (sym (take-append-drop j p)) ∙ append_assoc (take j p) (drop j p) b.1) b.2,
+)
 
 take_next : (p : List Lexeme) (t : Lexeme) (s : List Lexeme) → take (suc (length p)) (p ++ (t ∷ s)) ≡ p ++ (t ∷ [])
 take_next [] t s = refl
 take_next (x ∷ p) t s = ap (λ (z : List Lexeme). x ∷ z) (take_next p t s)
 
 no_longer : {A : Type 0} (L : A → List Lexeme → Type 0) (ts p rest : List Lexeme) → ts ≡ p ++ rest
-  → ((t : Lexeme) (s : List Lexeme) → rest ≡ t ∷ s → (a : A) (u : List Lexeme) → L a (p ++ (t ∷ u)) → ⊥)
-  → suc (length p) ≤ length ts → Begins L (take (suc (length p)) ts) → ⊥
+    → ((t : Lexeme) (s : List Lexeme) → rest ≡ t ∷ s → (a : A) (u : List Lexeme) → L a (p ++ (t ∷ u)) → ⊥)
+    → suc (length p) ≤ length ts → Begins L (take (suc (length p)) ts) → ⊥
 no_longer L ts p [] e dead le x = omega (arith, ap (length {A = Lexeme}) e, length-append p [])
 no_longer L ts p (t ∷ s) e dead le x =
     let h : take (suc (length p)) ts ≡ p ++ (t ∷ []) = ap (take (suc (length p))) e ∙ take_next p t s in
@@ -42,14 +45,14 @@ no_longer L ts p (t ∷ s) e dead le x =
     dead t s refl y.0 y.1 (subst (λ (z : List Lexeme). L y.0 z) (append_assoc p (t ∷ []) y.1) y.2)
 
 cut_fault : {A : Type 0} (L : A → List Lexeme → Type 0) (ts p rest : List Lexeme) → ts ≡ p ++ rest → Begins L p
-  → ((t : Lexeme) (s : List Lexeme) → rest ≡ t ∷ s → (a : A) (u : List Lexeme) → L a (p ++ (t ∷ u)) → ⊥)
-  → IsFaultToken L ts (suc (length p))
+    → ((t : Lexeme) (s : List Lexeme) → rest ≡ t ∷ s → (a : A) (u : List Lexeme) → L a (p ++ (t ∷ u)) → ⊥)
+    → IsFaultToken L ts (suc (length p))
 cut_fault L ts p rest e b dead = record {
   low = omega arith;
   high = omega (arith, ap (length {A = Lexeme}) e, length-append p rest);
   before = λ j lt.
-    let h : take j ts ≡ take j p = ap (take j) e ∙ take_front p rest j (omega arith) in
-    subst (λ (z : List Lexeme). Begins L z) (sym h) (begins_front L p j b);
+      let h : take j ts ≡ take j p = ap (take j) e ∙ take_front p rest j (omega arith) in
+      subst (λ (z : List Lexeme). Begins L z) (sym h) (begins_front L p j b);
   here = λ le x. no_longer L ts p rest e dead le x;
 }
 
@@ -88,29 +91,29 @@ module _ {A : Type 0} (r : ℕ → Read A) (L : A → List Lexeme → Type 0) (s
   whole_fault n ts k e =
       elim (bind_err (r n ts) (λ (x : A × List Lexeme). ended x.0 x.1) (At k) e) [
         | inl h ↦
-          let v = (S n).viable ts k h in
-          let len : length ts - k ≡ length v.0 = omega (arith, ap (length {A = Lexeme}) v.2, length-append v.0 v.1, v.3) in
-          subst (λ (z : ℕ). IsFaultToken L ts (suc z)) (sym len)
+            let v = (S n).viable ts k h in
+            let len : length ts - k ≡ length v.0 = omega (arith, ap (length {A = Lexeme}) v.2, length-append v.0 v.1, v.3) in
+            subst (λ (z : ℕ). IsFaultToken L ts (suc z)) (sym len)
             (cut_fault L ts v.0 v.1 v.2 (v.4, v.5, v.6) λ t s es a u la.
-              let h2 : r n (v.0 ++ (t ∷ s)) ≡ Err (At (suc (length s))) =
-                subst (λ (z : List Lexeme). r n (v.0 ++ z) ≡ Err (At (length z))) es (subst (λ (z : List Lexeme). r n z ≡ Err (At (length v.1))) v.2 (subst (λ (z : ℕ). r n ts ≡ Err (At z)) v.3 h)) in
-              never_err (r n (v.0 ++ (t ∷ u))) a [] (suc (length u)) (whole_reads n a (v.0 ++ (t ∷ u)) la) ((S n).local_err v.0 t s h2 u))
+            let h2 : r n (v.0 ++ (t ∷ s)) ≡ Err (At (suc (length s))) =
+            subst (λ (z : List Lexeme). r n (v.0 ++ z) ≡ Err (At (length z))) es (subst (λ (z : List Lexeme). r n z ≡ Err (At (length v.1))) v.2 (subst (λ (z : ℕ). r n ts ≡ Err (At z)) v.3 h)) in
+            never_err (r n (v.0 ++ (t ∷ u))) a [] (suc (length u)) (whole_reads n a (v.0 ++ (t ∷ u)) la) ((S n).local_err v.0 t s h2 u))
         | inr x ↦
-          let f = (S n).found ts x.0.0 x.0.1 x.1 in
-          more_fault n ts k x.0.0 x.0.1 f.0 x.1 x.2 f.1 f.2
+            let f = (S n).found ts x.0.0 x.0.1 x.1 in
+            more_fault n ts k x.0.0 x.0.1 f.0 x.1 x.2 f.1 f.2
       ]
     where
       more_fault : (n : ℕ) (ts : List Lexeme) (k : ℕ) (b : A) (rest s : List Lexeme) → r n ts ≡ Ok (b, rest) → ended b rest ≡ Err (At k) → ts ≡ s ++ rest → L b s
-        → IsFaultToken L ts (suc (length ts - k))
+          → IsFaultToken L ts (suc (length ts - k))
       more_fault n ts k b [] s e h cut l = absurd cc
       more_fault n ts k b (t ∷ rest) s e h cut l =
           let ke : suc (length rest) ≡ k = cc in
           let len : length ts - k ≡ length s = omega (arith, ap (length {A = Lexeme}) cut, length-append s (t ∷ rest), ke) in
           subst (λ (z : ℕ). IsFaultToken L ts (suc z)) (sym len)
-            (cut_fault L ts s (t ∷ rest) cut (b, [], subst (λ (z : List Lexeme). L b z) (sym (append-nil s)) l) λ t2 s2 es a u la.
-              let h2 : r n (s ++ (t2 ∷ s2)) ≡ Ok (b, t2 ∷ s2) =
-                subst (λ (z : List Lexeme). r n (s ++ z) ≡ Ok (b, z)) es (subst (λ (z : List Lexeme). r n z ≡ Ok (b, t ∷ rest)) cut e) in
-              never_more (r n (s ++ (t2 ∷ u))) a b t2 u (whole_reads n a (s ++ (t2 ∷ u)) la) ((S n).local_ok s t2 s2 b h2 u))
+          (cut_fault L ts s (t ∷ rest) cut (b, [], subst (λ (z : List Lexeme). L b z) (sym (append-nil s)) l) λ t2 s2 es a u la.
+          let h2 : r n (s ++ (t2 ∷ s2)) ≡ Ok (b, t2 ∷ s2) =
+          subst (λ (z : List Lexeme). r n (s ++ z) ≡ Ok (b, z)) es (subst (λ (z : List Lexeme). r n z ≡ Ok (b, t ∷ rest)) cut e) in
+          never_more (r n (s ++ (t2 ∷ u))) a b t2 u (whole_reads n a (s ++ (t2 ∷ u)) la) ((S n).local_ok s t2 s2 b h2 u))
 
   -- what is spelled is read, or nothing is said
   pub whole_or_deep : (n : ℕ) (ts : List Lexeme) (a : A) → L a ts → (whole (r n) ts ≡ Ok a) ⊎ (whole (r n) ts ≡ Err Deep)

@@ -39,7 +39,11 @@ fn number_of(token: &Token) -> Option<u32>
 fn line_of(token: &Token) -> Option<u32>
     ensures { result ≡ leaf_step (seen token.now) }
 {
-    if token.is_step() { Some(token.line) } else { None }
+    if token.is_step() {
+        Some(token.line)
+    } else {
+        None
+    }
 }
 
 /// A word that isn't reserved.

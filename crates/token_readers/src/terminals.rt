@@ -21,7 +21,11 @@ pub fn after<'a>(tokens: &'a [Token], text: &str) -> Option<&'a [Token]>
     let [first, rest @ ..] = tokens else {
         return None;
     };
-    if is_this(first, text) { Some(rest) } else { None }
+    if is_this(first, text) {
+        Some(rest)
+    } else {
+        None
+    }
 }
 
 /// What stands behind the reserved word or symbol, which has to come first.
