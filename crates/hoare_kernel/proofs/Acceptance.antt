@@ -1,16 +1,16 @@
 -- The test of acceptance is the definition.
-use Rattle.std.proofs.Common.{◌≡◌, ℕ, Bool, true, false, ◌&&◌, List, [], ◌∷◌, ◌++◌, map, Option, Some, None, refl, sym, ap, ◌∙◌, subst, bytes_eq, codes}
+use Rattle.std.proofs.Common.{◌≡◌, ℕ, true, false, ◌&&◌, List, [], ◌∷◌, ◌++◌, map, Option, Some, None, refl, sym, ap, ◌∙◌, subst, bytes_eq, codes}
 use Rattle.std.specs.Option.{option_map}
 use Rattle.std.proofs.lemmas.Slice.Eq.{bytes_eq-Decides}
-use Rattle.model_shapes.specs.Sorts.{DataSort, Sort, same_data_sort}
+use Rattle.model_shapes.specs.Sorts.{DataSort, same_data_sort}
 use Rattle.model_formulas.specs.VariableTests.{same_data_sort-is, same_data_sort-refl}
 use Rattle.model_formulas.specs.Terms.{Term}
 use Rattle.model_formulas.specs.Formulas.{Named, Formula}
 use Rattle.model_formulas.specs.Nameless.{nameless}
 use Rattle.model_programs.specs.Commands.{Command, skip}
-use Rattle.model_programs.specs.Theories.{JudgementOf, Judgement, entails, triple, Reason, auto, by_rule, StepOf, Step, ProcedureOf, Theory, nameless_judgement, nameless_step, nameless_procedure, procedures_of}
+use Rattle.model_programs.specs.Theories.{JudgementOf, Judgement, entails, triple, Reason, auto, by_rule, StepOf, Step, ProcedureOf, nameless_judgement, nameless_step, nameless_procedure}
 use Rattle.model_rules.specs.Rows.{Row, skip_row}
-use Rattle.model_rules.specs.Accepted.{Cites, InstanceBy, AllInstances, last_judgement, own_triple, IsProved, Each, IsAccepted}
+use Rattle.model_rules.specs.Accepted.{Cites, InstanceBy, AllInstances, last_judgement, own_triple, IsProved, Each}
 use Rattle.hoare_kernel.specs.Tests.{same_test, is_skip, no_items, skip_reason, skip_triple, instance_test, instances_test, own_test, own_last, last_step, proved_test, accepted_test}
 use Rattle.hoare_kernel.proofs.Decisions.{both, join, same_is, is_same, skip_is, nothing_is}
 

@@ -1,9 +1,9 @@
 -- What the small tests say.
-use Rattle.std.proofs.Common.{◌≡◌, ◌⊎◌, inl, inr, ℕ, Bool, true, false, ◌&&◌, List, [], ◌∷◌, map, refl, sym, ap, IsTrue}
+use Rattle.std.proofs.Common.{◌≡◌, Bool, true, false, ◌&&◌, List, [], ◌∷◌, map, refl, IsTrue}
 use Rattle.model_formulas.specs.Formulas.{Named, formula_eq}
 use Rattle.model_formulas.specs.Nameless.{nameless}
 use Rattle.model_programs.specs.Stores.{is_yes}
-use Rattle.model_programs.specs.Commands.{Command, skip, block, assign, create_node, node_name, child_nodes, parent_node, list_item, append_child, remove_child, if_else, while_do, local, call}
+use Rattle.model_programs.specs.Commands.{Command, skip}
 use Rattle.hoare_kernel.specs.Tests.{same_test, is_skip, no_items}
 
 pub both : (a b : Bool) → (a && b) ≡ true → (a ≡ true) × (b ≡ true)

@@ -1,5 +1,5 @@
 -- The last step of a slice.
-use Rattle.std.proofs.Common.{◌≡◌, ℕ, zero, suc, ◌-◌, ◌<◌, List, [], ◌∷◌, map, length, get_or, Some, refl, arith}
+use Rattle.std.proofs.Common.{◌≡◌, ℕ, zero, suc, ◌<◌, List, [], ◌∷◌, map, length, get_or, Some, refl, arith}
 use Rattle.dom_syntax.specs.declared.steps.Step.{Step}
 use Rattle.dom_syntax.specs.Judgements.{step_of, judgement_of}
 use Rattle.hoare_kernel.specs.Sizes.{StepsAreSmall, JudgementIsSmall}

@@ -1,6 +1,6 @@
 -- Acceptance as a test that computes. Nothing here is to be believed: the proofs tie it to the
 -- definition of accepted theories.
-use Rattle.std.specs.Prelude.{ℕ, Bool, true, false, ◌&&◌, List, [], ◌∷◌, Option, Some, None, bytes_eq, codes}
+use Rattle.std.specs.Prelude.{Bool, true, false, ◌&&◌, List, [], ◌∷◌, Option, Some, None, bytes_eq, codes}
 use Rattle.model_shapes.specs.Sorts.{same_data_sort}
 use Rattle.model_formulas.specs.Formulas.{Named, formula_eq}
 use Rattle.model_formulas.specs.Nameless.{nameless}

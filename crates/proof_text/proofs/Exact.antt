@@ -1,12 +1,11 @@
 -- Reading a whole list of lexemes as a theory is exact.
-use Rattle.std.proofs.Common.{◌≡◌, ℕ, ◌<◌, ◌-◌, suc, List, length, Result, Ok, Err, refl, arith}
+use Rattle.std.proofs.Common.{◌≡◌, ℕ, ◌<◌, ◌-◌, suc, List, length, Ok, Err, refl, arith}
 use Rattle.model_programs.specs.Theories.{Theory}
 use Rattle.model_text.specs.Lexemes.{Lexeme}
 use Rattle.model_grammar.specs.Grammar.{SpellsTheory}
-use Rattle.token_readers.specs.Reading.{Stop, At, Deep, not_begun, the_terminal}
+use Rattle.token_readers.specs.Reading.{At, not_begun, the_terminal}
 use Rattle.token_readers.specs.Spelling.{whole, IsFaultToken}
 use Rattle.token_readers.proofs.Sound.{Sound}
-use Rattle.token_readers.proofs.Only.{Only}
 use Rattle.token_readers.proofs.Whole as whole_
 use Rattle.proof_text.specs.Readers.{theory_at}
 use Rattle.proof_text.proofs.TheoryReader.{theory_sound, theory_only}

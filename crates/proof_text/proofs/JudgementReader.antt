@@ -1,17 +1,17 @@
 -- The readers of premises and judgements read what the grammar spells, and only that.
 use Rattle.std.proofs.Common.{◌≡◌, ℕ, ◌≤◌, List, [], ◌∷◌, ◌++◌, refl, sym, subst, append-nil, append_assoc, codes}
-use Rattle.model_shapes.specs.Sorts.{DataSort, grove}
+use Rattle.model_shapes.specs.Sorts.{DataSort}
 use Rattle.model_formulas.specs.Formulas.{Named}
 use Rattle.model_programs.specs.Commands.{Command}
 use Rattle.model_programs.specs.Theories.{JudgementOf, triple}
-use Rattle.model_text.specs.Lexemes.{Lexeme, terminal, number_lexeme}
+use Rattle.model_text.specs.Lexemes.{Lexeme, terminal}
 use Rattle.model_grammar.specs.Grammar.{one, SpellsFormula, SpellsCommand, SpellsDataSort, SpellsNumber, small_number, SpellsNumbers, last_number, more_numbers, SpellsPremises, no_premise, some_premises, SpellsJudgement, triple_at}
-use Rattle.token_readers.specs.Reading.{Read, ret, then, when, expect, leaf, sep_list, not_next}
+use Rattle.token_readers.specs.Reading.{Read, ret, then, when, expect, leaf, sep_list}
 use Rattle.token_readers.proofs.Sound.{Sound, s_ret, s_then, s_case, s_expect, s_close}
 use Rattle.token_readers.proofs.Only.{Only, OrDeep, read, Prefix_free, o_last, o_then}
 use Rattle.token_readers.proofs.Lists.{SpellsList, last, more, s_list, list_only}
 use Rattle.token_readers.specs.Leaves.{leaf_number}
-use Rattle.proof_text.specs.Readers.{leaf_sort, formula_at, command_at, premises_at, judgement_at}
+use Rattle.proof_text.specs.Readers.{premises_at, judgement_at}
 use Rattle.proof_text.proofs.LeafReader.{number_sound, sort_sound, formula_sound, command_sound, number_only, sort_only, formula_only, command_only}
 
 -- a list of numbers with commas between them, read as the grammar has it

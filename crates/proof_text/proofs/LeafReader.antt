@@ -1,5 +1,5 @@
 -- The readers of one lexeme, of formulas and of commands read what the grammar spells, and only that.
-use Rattle.std.proofs.Common.{◌≡◌, ℕ, ◌≤◌, Bool, true, false, cond, List, [], ◌∷◌, ◌++◌, Option, Some, None, refl, sym, ap, subst, ◌∙◌, bytes_eq, codes, arith}
+use Rattle.std.proofs.Common.{◌≡◌, ℕ, Bool, true, false, cond, List, [], ◌∷◌, ◌++◌, Some, None, refl, sym, subst, bytes_eq, codes, arith}
 use Rattle.std.specs.Prelude.{nat_le}
 use Rattle.std.proofs.lemmas.Bool.{leb-true, le-leb}
 use Rattle.std.proofs.lemmas.Slice.Eq.{bytes_eq-Decides}
@@ -7,8 +7,8 @@ use Rattle.model_shapes.specs.Sorts.{DataSort, grove}
 use Rattle.model_formulas.specs.Formulas.{Named, truth, empty}
 use Rattle.model_programs.specs.Commands.{Command, skip}
 use Rattle.model_text.specs.Lexemes.{Lexeme, terminal, step_word, name_lexeme, number_lexeme, is_reserved}
-use Rattle.model_grammar.specs.Grammar.{one, SpellsFormula, true_word, empty_grove, SpellsCommand, skip_word, SpellsDataSort, grove_word, SpellsName, plain_name, SpellsWord, plain_word, reserved_word, step_itself, SpellsNumber, small_number}
-use Rattle.token_readers.specs.Reading.{Read, leaf, leaf_or, Answer, At}
+use Rattle.model_grammar.specs.Grammar.{SpellsFormula, true_word, empty_grove, SpellsCommand, skip_word, SpellsDataSort, grove_word, SpellsName, plain_name, SpellsWord, plain_word, reserved_word, step_itself, SpellsNumber, small_number}
+use Rattle.token_readers.specs.Reading.{leaf, leaf_or, Answer}
 use Rattle.token_readers.proofs.Sound.{Sound, s_ret, s_fail, s_case, s_leaf, s_close}
 use Rattle.token_readers.proofs.Only.{Only, OrDeep, read, Prefix_free}
 use Rattle.token_readers.specs.Leaves.{leaf_name, leaf_word, leaf_number}

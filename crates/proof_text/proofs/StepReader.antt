@@ -1,12 +1,12 @@
 -- The reader of steps reads what the grammar spells, and only that.
-use Rattle.std.proofs.Common.{◌≡◌, ℕ, ◌≤◌, List, [], ◌∷◌, ◌++◌, Option, Some, refl, sym, ap, subst, codes}
+use Rattle.std.proofs.Common.{◌≡◌, ℕ, ◌≤◌, List, ◌∷◌, ◌++◌, Some, refl, sym, ap, subst, codes}
 use Rattle.model_formulas.specs.Formulas.{Named}
 use Rattle.model_programs.specs.Theories.{StepOf}
-use Rattle.model_text.specs.Lexemes.{Lexeme, terminal, step_word}
+use Rattle.model_text.specs.Lexemes.{Lexeme, step_word}
 use Rattle.model_grammar.specs.Grammar.{SpellsStep, by_word, SpellsSteps, no_step, one_step}
-use Rattle.token_readers.specs.Reading.{Read, leaf, many, not_begun}
+use Rattle.token_readers.specs.Reading.{many, not_begun}
 use Rattle.token_readers.proofs.Sound.{Sound, After, s_then, s_expect, s_close}
-use Rattle.token_readers.proofs.Only.{Only, OrDeep, read, Prefix_free, o_last, o_then}
+use Rattle.token_readers.proofs.Only.{Only, OrDeep, read, Prefix_free, o_then}
 use Rattle.token_readers.proofs.Lists.{SpellsMany, none_left, one_more, s_many, many_only}
 use Rattle.token_readers.specs.Leaves.{leaf_step}
 use Rattle.proof_text.specs.Readers.{step_tail}

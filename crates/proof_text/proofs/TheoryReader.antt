@@ -1,17 +1,16 @@
 -- The reader of theories reads what the grammar spells, and only that: it is exact.
-use Rattle.std.proofs.Common.{◌≡◌, ℕ, ◌≤◌, Bool, true, List, [], ◌∷◌, ◌++◌, Option, Some, refl, sym, ap, subst, append_assoc, append-nil, codes}
+use Rattle.std.proofs.Common.{◌≡◌, ℕ, ◌≤◌, true, List, [], ◌∷◌, ◌++◌, refl, sym, subst, append_assoc, append-nil, codes}
 use Rattle.model_shapes.specs.Sorts.{DataSort}
 use Rattle.model_formulas.specs.Formulas.{Named}
 use Rattle.model_programs.specs.Commands.{Command}
 use Rattle.model_programs.specs.Theories.{StepOf, ProcedureOf, Theory}
 use Rattle.model_text.specs.Lexemes.{Lexeme, terminal}
-use Rattle.model_grammar.specs.Grammar.{one, SpellsFormula, SpellsCommand, SpellsDataSort, SpellsName, SpellsNumber, SpellsSteps, SpellsProcedure, procedure, SpellsProcedures, last_procedure, more_procedures, SpellsTheory, theory}
-use Rattle.token_readers.specs.Reading.{Read, ret, then, expect, leaf, many, the_terminal, not_begun}
+use Rattle.model_grammar.specs.Grammar.{one, SpellsFormula, SpellsCommand, SpellsDataSort, SpellsName, SpellsSteps, SpellsProcedure, procedure, SpellsProcedures, last_procedure, more_procedures, SpellsTheory, theory}
+use Rattle.token_readers.specs.Reading.{the_terminal, not_begun}
 use Rattle.token_readers.proofs.Sound.{Sound, After, s_ret, s_then, s_expect, s_close, the_terminal_is}
 use Rattle.token_readers.proofs.Only.{Only, OrDeep, read, Prefix_free, o_last, o_then}
 use Rattle.token_readers.proofs.Lists.{SpellsMany, none_left, one_more, s_many, many_only}
-use Rattle.token_readers.specs.Leaves.{leaf_step}
-use Rattle.proof_text.specs.Readers.{step_tail, header_at, procedure_tail, more_procedures_at, procedures_at, theory_at}
+use Rattle.proof_text.specs.Readers.{header_at, procedure_tail, more_procedures_at, procedures_at, theory_at}
 use Rattle.proof_text.proofs.LeafReader.{name_sound, number_sound, sort_sound, formula_sound, command_sound, name_only, number_only, sort_only, formula_only, command_only}
 use Rattle.proof_text.proofs.StepReader.{steps_sound, steps_only, steps_of, items_of}
 

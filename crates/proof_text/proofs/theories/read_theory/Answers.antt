@@ -1,9 +1,9 @@
-use Rattle.std.proofs.Common.{◌≡◌, ◌<◌, ◌∙◌, ℕ, sym, ap, subst, List, length, map, arith, Result, Ok, Err}
+use Rattle.std.proofs.Common.{◌≡◌, ◌<◌, ◌∙◌, ℕ, sym, List, length, arith, Err}
 use Rattle.std.proofs.lemmas.List.{length-map}
 use Rattle.model_programs.specs.Theories.{Theory}
 use Rattle.model_text.specs.Lexemes.{Lexeme}
 use Rattle.model_grammar.specs.Grammar.{SpellsTheory}
-use Rattle.token_readers.specs.Reading.{Stop, At}
+use Rattle.token_readers.specs.Reading.{At}
 use Rattle.token_readers.specs.Spelling.{whole}
 use Rattle.token_readers.specs.Leaves.{lexemes_in, seen}
 use Rattle.proof_text.specs.Readers.{theory_at}
