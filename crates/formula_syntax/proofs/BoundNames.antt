@@ -8,8 +8,8 @@ use Rattle.model_formulas.proofs.SameFormulas.{same_formula-Decides}
 use Rattle.model_formulas.specs.VariableTests.{false≢true, same_var-is, same_var-refl}
 use Rattle.dom_terms.specs.Sorts.{sort_of}
 use Rattle.dom_terms.specs.Terms.{logic_var_of}
-use Rattle.formula_syntax.specs.declared.same.Binders.{Binders}
-use Rattle.formula_syntax.specs.declared.same.Binders.TheVariants as b
+use Rattle.formula_syntax.specs.declared.binders.Binders.{Binders}
+use Rattle.formula_syntax.specs.declared.binders.Binders.TheVariants as b
 use Rattle.formula_syntax.specs.Binders.{bound_by}
 
 -- below a binder with this name the variable is the nearest bound one

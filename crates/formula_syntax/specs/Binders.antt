@@ -3,8 +3,8 @@
 use Rattle.std.specs.Prelude.{List, [], ◌∷◌}
 use Rattle.model_formulas.specs.Variables.{Var}
 use Rattle.dom_terms.specs.Terms.{logic_var_of}
-use Rattle.formula_syntax.specs.declared.same.Binders.{Binders}
-use Rattle.formula_syntax.specs.declared.same.Binders.TheVariants as b
+use Rattle.formula_syntax.specs.declared.binders.Binders.{Binders}
+use Rattle.formula_syntax.specs.declared.binders.Binders.TheVariants as b
 
 -- the variables that the binders bind, the nearest first
 abbrev pub bound_by : Binders → List Var

@@ -3,3 +3,4 @@ pub mod Entailments
 pub mod Binders
 pub mod Sorting
 pub mod Structural
+pub mod Substitution

@@ -4,9 +4,11 @@
 //! Stands on the values and terms of the program.
 #![tactic(auto)]
 
+mod binders;
 mod entailments;
 mod formulas;
 mod purity;
+mod replaced;
 mod same;
 mod sort_tests;
 mod sorting;
@@ -17,7 +19,7 @@ mod walk_tests;
 pub use entailments::Entailment;
 pub use formulas::{Formula, Side};
 pub use purity::is_pure;
-pub use same::same_formula;
+pub use same::{is_substitution, same_formula};
 pub use sorting::{IllSorted, sorted_as};
 pub use variables::{AnyVar, Pair};
 

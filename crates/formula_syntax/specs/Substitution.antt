@@ -1,0 +1,29 @@
+-- The simultaneous substitution of terms for variables that a list of pairs says, in the nameless
+-- formulas of the definitions, where nothing can be captured; and what it is below binders.
+use Rattle.std.specs.Prelude.{◌≡◌, List, [], ◌∷◌}
+use Rattle.model_formulas.specs.Variables.{Var}
+use Rattle.model_formulas.specs.Terms.{Term, variable, Substitution, under_binder, var_eq}
+use Rattle.dom_terms.specs.Terms.{var_of, logic_var_of}
+use Rattle.formula_syntax.specs.declared.replaced.Name.{Name}
+use Rattle.formula_syntax.specs.declared.replaced.Name.TheVariants as n
+
+-- the term for one variable, and what else takes its place for every other one
+abbrev pub replaced_or : {x y : Var} → Term → Term → Dec (y ≡ x) → Term
+replaced_or {x} {y} term other (yes e) = term
+replaced_or {x} {y} term other (no n) = other
+
+-- for each variable the term of the first pair that has it, or itself where none does
+abbrev pub replacing_each : List (Var × Term) → Substitution
+replacing_each [] y = variable y
+replacing_each (pair ∷ pairs) y =
+    replaced_or pair.1 (replacing_each pairs y) (var_eq y pair.0)
+
+-- the substitution below binders with these names
+abbrev pub below : List Var → Substitution → Substitution
+below [] substitution = substitution
+below (x ∷ xs) substitution = under_binder (below xs substitution)
+
+-- the variable, of the program or of the logic
+abbrev pub var_named : Name → Var
+var_named (n.Prog named) = var_of named.now
+var_named (n.Logic named) = logic_var_of named.now

@@ -1,0 +1,144 @@
+ghost use Rattle.std.specs.Prelude.{◌≡◌, ◌<◌, ◌^◌, MatchOption, MatchBool, length, map};
+ghost use Rattle.model_formulas.specs.Variables.{same_var};
+ghost use Rattle.model_formulas.specs.Terms.{term_with, variable, Substitution};
+ghost use Rattle.model_formulas.specs.Nameless.{names, naming};
+ghost use Rattle.model_formulas.specs.SameFormulas as tests;
+ghost use Rattle.dom_terms.specs.Terms.{logic_var_of, term_of};
+ghost use Rattle.formula_syntax.specs.Formulas.{any_var_of, pair_of};
+ghost use Rattle.formula_syntax.specs.Binders.{bound_by};
+ghost use Rattle.formula_syntax.specs.Substitution.{below, replacing_each, var_named};
+
+use crate::binders::{Binders, place_of, same_term, same_variable};
+use crate::variables::{AnyVar, Pair};
+use dom_terms::{LogicVar, ProgVar, Term, same_logic_var, same_prog_var};
+
+// a variable that stands in a formula
+#[derive(Drop)]
+enum Name<'a> {
+    Prog(&'a ProgVar),
+    Logic(&'a LogicVar),
+}
+
+// whether the terms are the same, the left one with its free variables replaced, each below its
+// binders
+#[tactic(auto, using(crate::proofs::Replacing::replaced_rules))]
+pub(crate) fn same_replaced_term(
+    left: &Term,
+    right: &Term,
+    pairs: &[Pair],
+    over: &Binders,
+    other: &Binders,
+) -> bool
+    requires left { length (bound_by over.now) < 2 ^ 32 }
+    requires right { length (bound_by other.now) < 2 ^ 32 }
+    ensures { result ≡ tests.same_term
+        (term_with (below (bound_by over.now) (replacing_each (map pair_of pairs.now)))
+        (term_with (naming (bound_by over.now)) (term_of left.now)))
+        (term_with (naming (bound_by other.now)) (term_of right.now)) }
+{
+    match (left, right) {
+        (Term::Prog(x), _) => match term_for(&Name::Prog(x), pairs, over) {
+            Some(term) => same_term(term, right, &Binders::Empty, other),
+            None => same_term(left, right, over, other),
+        },
+        (Term::Logic(x), _) => match term_for(&Name::Logic(x), pairs, over) {
+            Some(term) => same_term(term, right, &Binders::Empty, other),
+            None => same_term(left, right, over, other),
+        },
+        (Term::Add(a, b), Term::Add(c, d))
+        | (Term::Sub(a, b), Term::Sub(c, d))
+        | (Term::Cat(a, b), Term::Cat(c, d)) => {
+            same_replaced_term(a, c, pairs, over, other)
+                && same_replaced_term(b, d, pairs, over, other)
+        }
+        _ => same_term(left, right, over, other),
+    }
+}
+
+// whether the variables are the same, the left one replaced if it is free, each below its binders
+#[tactic(auto, using(crate::proofs::Replacing::replaced_rules))]
+pub(crate) fn same_replaced_variable(
+    left: &LogicVar,
+    right: &LogicVar,
+    pairs: &[Pair],
+    over: &Binders,
+    other: &Binders,
+) -> bool
+    requires left { length (bound_by over.now) < 2 ^ 32 }
+    requires right { length (bound_by other.now) < 2 ^ 32 }
+    ensures { result ≡ tests.same_term
+        (below (bound_by over.now) (replacing_each (map pair_of pairs.now))
+        (names (bound_by over.now) (logic_var_of left.now)))
+        (variable (names (bound_by other.now) (logic_var_of right.now))) }
+{
+    match term_for(&Name::Logic(left), pairs, over) {
+        Some(Term::Logic(name)) => same_variable(name, right, &Binders::Empty, other),
+        Some(_) => false,
+        None => same_variable(left, right, over, other),
+    }
+}
+
+// the term that takes the place of the variable, if one does: it is free and a pair has it
+#[tactic(auto, using(crate::proofs::Replacing::place_rules))]
+fn term_for<'a>(name: &Name, pairs: &'a [Pair], over: &Binders) -> Option<&'a Term>
+    requires { length (bound_by over.now) < 2 ^ 32 }
+    ensures { MatchOption result
+        (below (bound_by over.now) (replacing_each (map pair_of pairs.now))
+        (names (bound_by over.now) (var_named name.now))
+        ≡ variable (names (bound_by over.now) (var_named name.now)))
+        (λ term. below (bound_by over.now) (replacing_each (map pair_of pairs.now))
+        (names (bound_by over.now) (var_named name.now)) ≡ term_of term.now) }
+{
+    if is_bound(name, over) {
+        None
+    } else {
+        paired(name, pairs)
+    }
+}
+
+// whether one of the binders binds the variable: no replacement is made for it there
+#[tactic(auto, using(crate::proofs::Replacing::bound_rules, crate::proofs::BoundNames::prog_rules))]
+fn is_bound(name: &Name, over: &Binders) -> bool
+    requires { length (bound_by over.now) < 2 ^ 32 }
+    ensures { MatchBool result
+        ((replacing : Substitution) →
+        below (bound_by over.now) replacing (names (bound_by over.now) (var_named name.now))
+        ≡ variable (names (bound_by over.now) (var_named name.now)))
+        (names (bound_by over.now) (var_named name.now) ≡ var_named name.now) }
+{
+    match name {
+        Name::Prog(_) => false,
+        Name::Logic(variable) => place_of(variable, over).is_some(),
+    }
+}
+
+// the term of the first pair that has the variable
+#[tactic(auto, using(crate::proofs::Replacing::pair_rules))]
+fn paired<'a>(name: &Name, pairs: &'a [Pair]) -> Option<&'a Term>
+    ensures { MatchOption result
+        (replacing_each (map pair_of pairs.now) (var_named name.now)
+        ≡ variable (var_named name.now))
+        (λ term. replacing_each (map pair_of pairs.now) (var_named name.now) ≡ term_of term.now) }
+{
+    match pairs {
+        [] => None,
+        [pair, rest @ ..] => {
+            if is_named(name, &pair.var) {
+                Some(&pair.term)
+            } else {
+                paired(name, rest)
+            }
+        }
+    }
+}
+
+// whether the two are one variable
+fn is_named(name: &Name, variable: &AnyVar) -> bool
+    ensures { result ≡ same_var (var_named name.now) (any_var_of variable.now) }
+{
+    match (name, variable) {
+        (Name::Prog(x), AnyVar::Prog(y)) => same_prog_var(x, y),
+        (Name::Logic(x), AnyVar::Logic(y)) => same_logic_var(x, y),
+        _ => false,
+    }
+}
