@@ -2,10 +2,13 @@
 ghost use Rattle.std.specs.Prelude.{◌≡◌, ◌≤◌, ℕ, List, true, None, Some, map, string_bytes, length, IfOk, IsErrOf, IsTrue, codes};
 ghost use Rattle.outside_io.specs.Causes.{Rose, Told};
 ghost use Rattle.model_grammar.specs.Words.{reading_of, check};
-ghost use Rattle.model_grammar.specs.Files.{most_bytes};
-ghost use Rattle.model_grammar.specs.Output.{line};
+ghost use Rattle.model_grammar.specs.Files.{most_bytes, IsOfForm};
+ghost use Rattle.model_grammar.specs.Output.{line, accepted_text, accepted_line};
 ghost use Rattle.domcheck_core.specs.Answers.{CheckAnswer, IsAnswer, IsTold};
 ghost use Rattle.domcheck_core.specs.Clauses.{may_answer, ReadRose, speaks};
+ghost use Rattle.domcheck_core.specs.declared.answers.Refusal.TheVariants.{OutOfMemory};
+ghost use Rattle.dom_syntax.specs.Theories.{theory_of};
+ghost use Rattle.std.specs.Option.{option_map};
 
 use crate::file::read_file;
 use crate::form::count_steps;
@@ -40,8 +43,6 @@ impl From<OutOfMemory> for Refusal {
     }
 }
 
-ghost use Rattle.domcheck_core.specs.declared.answers.Refusal.TheVariants.{OutOfMemory};
-
 fn line_reply(alloc: Global, status: Status, text: &str) -> Result<Reply, OutOfMemory>
     ensures status { IfOk result (λ r. r.status ≡ status) }
     ensures line { IfOk result (λ r. r.line.items ≡ line text.now) }
@@ -58,8 +59,6 @@ fn accepted_text(alloc: Global, procedures: usize, steps: usize) -> Result<Strin
     format!(in alloc; "accepted: {procedures} procedures, {steps} steps")
 }
 
-ghost use Rattle.model_grammar.specs.Output.{accepted_text, accepted_line};
-
 // The answer for an accepted theory of the form that is read.
 fn yes(alloc: Global, theory: &Theory) -> Result<Reply, OutOfMemory>
     requires { IsOfForm (theory_of theory.now) }
@@ -73,9 +72,6 @@ fn yes(alloc: Global, theory: &Theory) -> Result<Reply, OutOfMemory>
     let text = accepted_text(alloc, procedures.len(), steps)?;
     line_reply(alloc, Status::Done, text.as_str())
 }
-
-ghost use Rattle.model_grammar.specs.Files.{IsOfForm};
-ghost use Rattle.dom_syntax.specs.Theories.{theory_of};
 
 // The answer on the bytes of a file.
 fn judge(alloc: Global, bytes: &[u8]) -> Result<Reply, OutOfMemory>
@@ -117,8 +113,6 @@ fn file_of(words: &[String]) -> Option<&str>
         _ => None,
     }
 }
-
-ghost use Rattle.std.specs.Option.{option_map};
 
 /// The answer to the words after the program's name.
 pub fn answer_words<L: Library>(

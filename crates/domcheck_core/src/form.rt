@@ -1,8 +1,9 @@
 // Which theories are of the form that is read today.
-ghost use Rattle.std.specs.Prelude.{◌≡◌, ◌↔◌, ◌≤◌, ◌+◌, ◌*◌, ◌^◌, ℕ, IsTrue, IfOk, MatchOption, map, [], true};
+ghost use Rattle.std.specs.Prelude.{◌≡◌, ◌↔◌, ◌≤◌, ◌+◌, ◌*◌, ◌^◌, ℕ, IsTrue, IfOk, MatchOption, map, [], true, ◌<◌};
 ghost use Rattle.dom_syntax.specs.Judgements.{reason_of, step_of};
 ghost use Rattle.dom_syntax.specs.Theories.{procedure_of, theory_of};
 ghost use Rattle.model_grammar.specs.Files as files;
+ghost use Rattle.dom_terms.specs.Terms.{term_of};
 
 use dom_syntax::{Procedure, Reason, Step, Theory};
 use dom_terms::{OutOfMemory, Terms};
@@ -33,8 +34,6 @@ fn are_none(arguments: &Terms) -> bool
 {
     matches!(arguments.as_slice(), [])
 }
-
-ghost use Rattle.dom_terms.specs.Terms.{term_of};
 
 fn is_by_skip(reason: &Reason) -> bool
     ensures { result ≡ files.is_by_skip (reason_of reason.now) }
@@ -96,8 +95,6 @@ pub fn count_steps(procedures: &[Procedure]) -> Option<usize>
     }
     Some(count)
 }
-
-ghost use Rattle.std.specs.Prelude.{◌<◌};
 
 // Whether no procedure has the name of an earlier one.
 fn do_names_differ(alloc: Global, procedures: &[Procedure]) -> Result<bool, OutOfMemory>

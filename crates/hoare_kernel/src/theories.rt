@@ -1,14 +1,15 @@
 // Which theories are accepted.
-ghost use Rattle.std.specs.Prelude.{◌≡◌, ◌↔◌, IfOk, IsTrue, map};
+ghost use Rattle.std.specs.Prelude.{◌≡◌, ◌↔◌, IfOk, IsTrue, map, ◌&&◌};
 ghost use Rattle.model_rules.specs.Accepted.{IsAccepted};
-ghost use Rattle.dom_syntax.specs.Judgements.{judgement_of, step_of};
+ghost use Rattle.dom_syntax.specs.Judgements.{judgement_of, step_of, triple_of};
 ghost use Rattle.dom_syntax.specs.Theories.{procedure_of, theory_of};
-ghost use Rattle.hoare_kernel.specs.Sizes.{JudgementIsSmall, ProcedureIsSmall, ProceduresAreSmall, TheoryIsSmall};
+ghost use Rattle.hoare_kernel.specs.Sizes.{JudgementIsSmall, ProcedureIsSmall, ProceduresAreSmall, TheoryIsSmall, StepsAreSmall};
 ghost use Rattle.hoare_kernel.specs.Tests as test;
+ghost use Rattle.formula_syntax.specs.Formulas.{formula_of};
 
 use crate::instances::{are_instances, is_skip, same};
 use dom_syntax::{Judgement, Procedure, Step, Theory, Triple};
-use dom_terms::OutOfMemory;
+use dom_terms::{OutOfMemory, same_data_sort};
 use std::alloc::Global;
 
 // Whether the formulas of the triple are the procedure's requires and ensures.
@@ -28,10 +29,6 @@ fn has_own_formulas(
         Ok(false)
     }
 }
-
-ghost use Rattle.std.specs.Prelude.{◌&&◌};
-ghost use Rattle.formula_syntax.specs.Formulas.{formula_of};
-ghost use Rattle.dom_syntax.specs.Judgements.{triple_of};
 
 // Whether the judgement is the procedure's own triple, where both commands are `skip`.
 fn is_own_triple(
@@ -58,8 +55,6 @@ fn is_own_triple(
     }
 }
 
-use dom_terms::same_data_sort;
-
 // Whether the last of the steps is the procedure's own triple.
 fn ends_in_own_triple(
     alloc: Global,
@@ -75,8 +70,6 @@ fn ends_in_own_triple(
         [] => Ok(false),
     }
 }
-
-ghost use Rattle.hoare_kernel.specs.Sizes.{StepsAreSmall};
 
 fn is_proved(alloc: Global, procedure: &Procedure) -> Result<bool, OutOfMemory>
     requires { ProcedureIsSmall (procedure_of procedure.now) }

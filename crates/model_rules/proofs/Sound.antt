@@ -1,10 +1,10 @@
 -- Instances of the rows hold, and so accepted theories do.
-use Rattle.std.proofs.Common.{◌≡◌, List, [], ◌∷◌, ◌++◌, Option, Some, None, refl, sym, subst}
-use Rattle.model_shapes.specs.Sorts.{DataSort, Sort, grove}
+use Rattle.std.proofs.Common.{◌≡◌, List, [], ◌∷◌, ◌++◌, Some, refl, subst}
+use Rattle.model_shapes.specs.Sorts.{DataSort, grove}
 use Rattle.model_formulas.specs.Formulas.{Formula}
 use Rattle.model_formulas.specs.Satisfaction.{Entails}
 use Rattle.model_programs.specs.Commands.{skip}
-use Rattle.model_programs.specs.Theories.{JudgementOf, Judgement, entails, triple, Reason, auto, by_rule, Step, Procedure, Procedures, Theory, procedures_of}
+use Rattle.model_programs.specs.Theories.{Judgement, entails, triple, Reason, auto, by_rule, Step, Procedures, Theory, procedures_of}
 use Rattle.model_programs.specs.LocalTriples.{HoldsLocally, MeetsItsSpecification}
 use Rattle.model_shapes.proofs.Shapes.{SameAt-eq}
 use Rattle.model_rules.specs.Rows.{Row, skip_row}

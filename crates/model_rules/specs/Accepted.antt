@@ -1,6 +1,5 @@
 -- Instances of rules, and accepted theories.
 use Rattle.std.specs.Prelude.{◌≡◌, ℕ, ◌==◌, cond, List, [], ◌∷◌, ◌++◌, Option, Some, None}
-use Rattle.model_formulas.specs.Terms.{Term}
 use Rattle.model_programs.specs.Theories.{Judgement, triple, Reason, auto, by_rule, Step, Procedure, Procedures, Theory, procedures_of}
 use Rattle.model_rules.specs.Rows.{Row}
 

@@ -8,6 +8,7 @@ ghost use Rattle.token_readers.specs.Reading.{leaf};
 ghost use Rattle.token_readers.specs.Giving.{Gives};
 ghost use Rattle.token_readers.specs.Leaves.{seen, lexemes_in};
 ghost use Rattle.proof_text.specs.Readers.{leaf_sort, formula_at, command_at, judgement_at};
+ghost use Rattle.std.specs.Option.{option_map};
 
 use dom_syntax::{Command, Judgement, Triple};
 use dom_terms::DataSort;
@@ -46,8 +47,6 @@ fn sort_of(token: &Token) -> Option<DataSort>
         _ => None,
     }
 }
-
-ghost use Rattle.std.specs.Option.{option_map};
 
 /// A sort of data: `g`.
 pub fn data_sort(tokens: &[Token]) -> Result<(DataSort, &[Token]), ReadFault>

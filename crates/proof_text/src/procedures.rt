@@ -1,9 +1,10 @@
 // Procedures.
-ghost use Rattle.std.specs.Prelude.{◌≡◌, map};
+ghost use Rattle.std.specs.Prelude.{◌≡◌, map, [], ◌∷◌};
 ghost use Rattle.dom_syntax.specs.Theories.{procedure_of};
 ghost use Rattle.token_readers.specs.Giving.{Gives};
 ghost use Rattle.token_readers.specs.Leaves.{lexemes_in};
 ghost use Rattle.proof_text.specs.Readers.{header_at, procedure_tail, more_procedures_at, procedures_at};
+ghost use Rattle.token_readers.proofs.Lists.{with_front};
 
 use crate::judgements::{command, data_sort, formula};
 use crate::steps::steps;
@@ -81,9 +82,6 @@ fn more_procedures<'a>(
     }
     Err(ReadFault::Memory)
 }
-
-ghost use Rattle.std.specs.Prelude.{[], ◌∷◌};
-ghost use Rattle.token_readers.proofs.Lists.{with_front};
 
 /// One procedure or more.
 #[tactic(auto, unfolding(crate::specs::Readers::procedures_at))]
