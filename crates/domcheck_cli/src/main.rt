@@ -5,9 +5,8 @@
 
 use domcheck_core::{Status, domcheck};
 use outside_io::{Folder, Screen};
-use std::env;
-use std::io;
 use std::process::ExitCode;
+use std::{env, io};
 
 // The words after the program's name. Words that are no UTF-8 text have no reading, and so they are
 // handed on as no words at all.
