@@ -5,7 +5,7 @@ use Rattle.model_shapes.specs.Sorts.{ValueSort, Sort}
 use Rattle.model_formulas.specs.Variables.{Var, bound, logic, prog, same_var}
 use Rattle.model_formulas.specs.Terms.{Term, literal, variable, sum, difference, appended, raised, term_with, var_eq, Substitution}
 use Rattle.model_formulas.specs.Formulas.{Named, Formula}
-use Rattle.model_formulas.specs.Substitution.{formula_with}
+use Rattle.model_formulas.specs.Substitution.{formula_with, replacing_at}
 use Rattle.model_formulas.specs.Nameless.{names, naming, nameless, walked}
 use Rattle.model_formulas.specs.SameFormulas.{same_formula}
 use Rattle.model_formulas.specs.VariableTests.{false≢true, same_var-is, same_var-refl}
@@ -88,6 +88,22 @@ replaced-there x y a b e = go (var_eq y x)
     go (yes q) = false≢true (sym e ∙ ap (same_var y) (sym q) ∙ same_var-refl y)
     go (no n) = refl
 
+pub one-here : (x y : Var) (a : Term) → same_var y x ≡ true
+    → replacing_at {x = x} {y = y} a (var_eq y x) ≡ a
+one-here x y a e = go (var_eq y x)
+  where
+    go : (d : Dec (y ≡ x)) → replacing_at {x = x} {y = y} a d ≡ a
+    go (yes q) = refl
+    go (no n) = absurd (n (same_var-is y x e))
+
+pub one-there : (x y : Var) (a : Term) → same_var y x ≡ false
+    → replacing_at {x = x} {y = y} a (var_eq y x) ≡ variable y
+one-there x y a e = go (var_eq y x)
+  where
+    go : (d : Dec (y ≡ x)) → replacing_at {x = x} {y = y} a d ≡ variable y
+    go (yes q) = false≢true (sym e ∙ ap (same_var y) (sym q) ∙ same_var-refl y)
+    go (no n) = refl
+
 -- below no binder a term is as it is written
 pub term-plain : (a : Term) → term_with (naming []) a ≡ a
 term-plain (literal v) = refl
@@ -122,6 +138,8 @@ pub ruleset bound_rules = (below-bound-name)
 pub ruleset place_rules = (below-replaced, below-kept)
 
 pub ruleset pair_rules = (replaced-here, replaced-there)
+
+pub ruleset one_rules = (one-here, one-there)
 
 pub ruleset replaced_rules = (term-plain, prog-names)
 

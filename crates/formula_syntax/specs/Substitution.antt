@@ -1,11 +1,15 @@
 -- The simultaneous substitution of terms for variables that a list of pairs says, in the nameless
 -- formulas of the definitions, where nothing can be captured; and what it is below binders.
-use Rattle.std.specs.Prelude.{◌≡◌, List, [], ◌∷◌}
+use Rattle.std.specs.Prelude.{◌≡◌, List, [], ◌∷◌, map}
 use Rattle.model_formulas.specs.Variables.{Var}
 use Rattle.model_formulas.specs.Terms.{Term, variable, Substitution, under_binder, var_eq}
-use Rattle.dom_terms.specs.Terms.{var_of, logic_var_of}
+use Rattle.dom_terms.specs.Terms.{var_of, logic_var_of, term_of}
+use Rattle.model_formulas.specs.Substitution.{replacing}
+use Rattle.formula_syntax.specs.Formulas.{pair_of}
 use Rattle.formula_syntax.specs.declared.replaced.Name.{Name}
 use Rattle.formula_syntax.specs.declared.replaced.Name.TheVariants as n
+use Rattle.formula_syntax.specs.declared.replaced.Replacing.{Replacing}
+use Rattle.formula_syntax.specs.declared.replaced.Replacing.TheVariants as r
 
 -- the term for one variable, and what else takes its place for every other one
 abbrev pub replaced_or : {x y : Var} → Term → Term → Dec (y ≡ x) → Term
@@ -27,3 +31,8 @@ below (x ∷ xs) substitution = under_binder (below xs substitution)
 abbrev pub var_named : Name → Var
 var_named (n.Prog named) = var_of named.now
 var_named (n.Logic named) = logic_var_of named.now
+
+-- what takes the place of each variable
+abbrev pub replacing_of : Replacing → Substitution
+replacing_of (r.Pairs pairs) = replacing_each (map pair_of pairs.now)
+replacing_of (r.One named term) = replacing (var_of named.now) (term_of term.now)

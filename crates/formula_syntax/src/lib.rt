@@ -19,7 +19,7 @@ mod walk_tests;
 pub use entailments::Entailment;
 pub use formulas::{Formula, Side};
 pub use purity::is_pure;
-pub use same::{is_substitution, same_formula};
+pub use same::{is_replacement, is_substitution, same_formula};
 pub use sorting::{IllSorted, sorted_as};
 pub use variables::{AnyVar, Pair};
 

@@ -6,7 +6,7 @@ ghost use Rattle.model_formulas.specs.SameFormulas as tests;
 ghost use Rattle.dom_terms.specs.Terms.{logic_var_of, term_of};
 ghost use Rattle.formula_syntax.specs.Formulas.{any_var_of, pair_of};
 ghost use Rattle.formula_syntax.specs.Binders.{bound_by};
-ghost use Rattle.formula_syntax.specs.Substitution.{below, replacing_each, var_named};
+ghost use Rattle.formula_syntax.specs.Substitution.{below, replacing_each, replacing_of, var_named};
 
 use crate::binders::{Binders, place_of, same_term, same_variable};
 use crate::variables::{AnyVar, Pair};
@@ -19,37 +19,46 @@ enum Name<'a> {
     Logic(&'a LogicVar),
 }
 
+// what takes the place of the free variables of a formula
+#[derive(Drop)]
+pub(crate) enum Replacing<'a> {
+    // the term of the first pair that has the variable
+    Pairs(&'a [Pair]),
+    // the term, for one variable
+    One(&'a ProgVar, &'a Term),
+}
+
 // whether the terms are the same, the left one with its free variables replaced, each below its
 // binders
 #[tactic(auto, using(crate::proofs::Replacing::replaced_rules))]
 pub(crate) fn same_replaced_term(
     left: &Term,
     right: &Term,
-    pairs: &[Pair],
+    replacing: &Replacing,
     over: &Binders,
     other: &Binders,
 ) -> bool
     requires left { length (bound_by over.now) < 2 ^ 32 }
     requires right { length (bound_by other.now) < 2 ^ 32 }
     ensures { result ≡ tests.same_term
-        (term_with (below (bound_by over.now) (replacing_each (map pair_of pairs.now)))
+        (term_with (below (bound_by over.now) (replacing_of replacing.now))
         (term_with (naming (bound_by over.now)) (term_of left.now)))
         (term_with (naming (bound_by other.now)) (term_of right.now)) }
 {
     match (left, right) {
-        (Term::Prog(x), _) => match term_for(&Name::Prog(x), pairs, over) {
+        (Term::Prog(x), _) => match term_for(&Name::Prog(x), replacing, over) {
             Some(term) => same_term(term, right, &Binders::Empty, other),
             None => same_term(left, right, over, other),
         },
-        (Term::Logic(x), _) => match term_for(&Name::Logic(x), pairs, over) {
+        (Term::Logic(x), _) => match term_for(&Name::Logic(x), replacing, over) {
             Some(term) => same_term(term, right, &Binders::Empty, other),
             None => same_term(left, right, over, other),
         },
         (Term::Add(a, b), Term::Add(c, d))
         | (Term::Sub(a, b), Term::Sub(c, d))
         | (Term::Cat(a, b), Term::Cat(c, d)) => {
-            same_replaced_term(a, c, pairs, over, other)
-                && same_replaced_term(b, d, pairs, over, other)
+            same_replaced_term(a, c, replacing, over, other)
+                && same_replaced_term(b, d, replacing, over, other)
         }
         _ => same_term(left, right, over, other),
     }
@@ -60,18 +69,18 @@ pub(crate) fn same_replaced_term(
 pub(crate) fn same_replaced_variable(
     left: &LogicVar,
     right: &LogicVar,
-    pairs: &[Pair],
+    replacing: &Replacing,
     over: &Binders,
     other: &Binders,
 ) -> bool
     requires left { length (bound_by over.now) < 2 ^ 32 }
     requires right { length (bound_by other.now) < 2 ^ 32 }
     ensures { result ≡ tests.same_term
-        (below (bound_by over.now) (replacing_each (map pair_of pairs.now))
+        (below (bound_by over.now) (replacing_of replacing.now)
         (names (bound_by over.now) (logic_var_of left.now)))
         (variable (names (bound_by other.now) (logic_var_of right.now))) }
 {
-    match term_for(&Name::Logic(left), pairs, over) {
+    match term_for(&Name::Logic(left), replacing, over) {
         Some(Term::Logic(name)) => same_variable(name, right, &Binders::Empty, other),
         Some(_) => false,
         None => same_variable(left, right, over, other),
@@ -80,19 +89,19 @@ pub(crate) fn same_replaced_variable(
 
 // the term that takes the place of the variable, if one does: it is free and a pair has it
 #[tactic(auto, using(crate::proofs::Replacing::place_rules))]
-fn term_for<'a>(name: &Name, pairs: &'a [Pair], over: &Binders) -> Option<&'a Term>
+fn term_for<'a>(name: &Name, replacing: &Replacing<'a>, over: &Binders) -> Option<&'a Term>
     requires { length (bound_by over.now) < 2 ^ 32 }
     ensures { MatchOption result
-        (below (bound_by over.now) (replacing_each (map pair_of pairs.now))
+        (below (bound_by over.now) (replacing_of replacing.now)
         (names (bound_by over.now) (var_named name.now))
         ≡ variable (names (bound_by over.now) (var_named name.now)))
-        (λ term. below (bound_by over.now) (replacing_each (map pair_of pairs.now))
+        (λ term. below (bound_by over.now) (replacing_of replacing.now)
         (names (bound_by over.now) (var_named name.now)) ≡ term_of term.now) }
 {
     if is_bound(name, over) {
         None
     } else {
-        paired(name, pairs)
+        replacement(name, replacing)
     }
 }
 
@@ -101,14 +110,28 @@ fn term_for<'a>(name: &Name, pairs: &'a [Pair], over: &Binders) -> Option<&'a Te
 fn is_bound(name: &Name, over: &Binders) -> bool
     requires { length (bound_by over.now) < 2 ^ 32 }
     ensures { MatchBool result
-        ((replacing : Substitution) →
-        below (bound_by over.now) replacing (names (bound_by over.now) (var_named name.now))
+        ((substitution : Substitution) →
+        below (bound_by over.now) substitution (names (bound_by over.now) (var_named name.now))
         ≡ variable (names (bound_by over.now) (var_named name.now)))
         (names (bound_by over.now) (var_named name.now) ≡ var_named name.now) }
 {
     match name {
         Name::Prog(_) => false,
         Name::Logic(variable) => place_of(variable, over).is_some(),
+    }
+}
+
+// the term that takes the place of the variable where it is free
+#[tactic(auto, using(crate::proofs::Replacing::one_rules))]
+fn replacement<'a>(name: &Name, replacing: &Replacing<'a>) -> Option<&'a Term>
+    ensures { MatchOption result
+        (replacing_of replacing.now (var_named name.now) ≡ variable (var_named name.now))
+        (λ term. replacing_of replacing.now (var_named name.now) ≡ term_of term.now) }
+{
+    match (replacing, name) {
+        (Replacing::Pairs(pairs), _) => paired(name, *pairs),
+        (Replacing::One(x, term), Name::Prog(y)) if same_prog_var(y, x) => Some(*term),
+        _ => None,
     }
 }
 
