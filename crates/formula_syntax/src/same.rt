@@ -25,7 +25,13 @@ pub fn same_formula(_alloc: Global, left: &Formula, right: &Formula) -> Result<b
         (λ same. IsTrue same ↔ SameFormula (formula_of left.now) (formula_of right.now)) }
     ensures always { IsOk result }
 {
-    Ok(same_below(left, right, &Replacing::Pairs(&[]), &Binders::Empty, &Binders::Empty))
+    Ok(same_below(
+        left,
+        right,
+        &Replacing::Pairs(&[]),
+        &Binders::Empty,
+        &Binders::Empty,
+    ))
 }
 
 /// Whether the second formula is the first with the term of a pair for each of its free variables
@@ -45,7 +51,13 @@ pub fn is_substitution(
         ≡ nameless (formula_of to.now))) }
     ensures always { IsOk result }
 {
-    Ok(same_below(from, to, &Replacing::Pairs(pairs), &Binders::Empty, &Binders::Empty))
+    Ok(same_below(
+        from,
+        to,
+        &Replacing::Pairs(pairs),
+        &Binders::Empty,
+        &Binders::Empty,
+    ))
 }
 
 /// Whether the second formula is the first with the term for each free occurrence of the program
