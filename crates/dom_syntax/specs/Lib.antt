@@ -1,3 +1,4 @@
 pub mod Commands
 pub mod Judgements
 pub mod Theories
+pub mod SameCommands

@@ -7,12 +7,14 @@
 mod commands;
 mod files;
 mod judgements;
+mod same;
 mod steps;
 mod theories;
 
 pub use commands::{Block, Command};
 pub use files::FileKind;
 pub use judgements::{Judgement, Triple};
+pub use same::same_command;
 pub use steps::{Reason, Step, Steps};
 pub use theories::{Procedure, Procedures, Theory};
 

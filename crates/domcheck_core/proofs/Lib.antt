@@ -2,4 +2,3 @@ pub mod Judged
 pub mod Small
 pub mod Counts
 pub mod Spelling
-pub mod Names

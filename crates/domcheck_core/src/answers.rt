@@ -11,7 +11,7 @@ ghost use Rattle.dom_syntax.specs.Theories.{theory_of};
 ghost use Rattle.std.specs.Option.{option_map};
 
 use crate::file::read_file;
-use crate::form::count_steps;
+use crate::limits::count_steps;
 use crate::status::Status;
 use dom_syntax::Theory;
 use dom_terms::OutOfMemory;

@@ -5,6 +5,7 @@ ghost use Rattle.model_grammar.specs.Files.{SpellsFile, most_bytes};
 ghost use Rattle.domcheck_core.specs.Answers.{Unreadable};
 
 use crate::form::is_of_form;
+use crate::limits::are_within;
 use dom_syntax::Theory;
 use dom_terms::OutOfMemory;
 use proof_text::read_theory;
@@ -18,6 +19,9 @@ pub fn read_file(alloc: Global, bytes: &[u8]) -> Result<Option<Theory>, OutOfMem
     ensures { IfOk result (λ found. MatchOption found (Unreadable bytes.now) (λ t. SpellsFile bytes.now (theory_of t))) }
 {
     let tokens = token_list(alloc, bytes)?;
+    if !are_within(tokens.as_slice()) {
+        return Ok(None);
+    }
     match read_theory(alloc, &tokens) {
         Ok(theory) => {
             if is_of_form(alloc, &theory)? {

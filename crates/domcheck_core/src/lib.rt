@@ -12,6 +12,7 @@ ghost use Rattle.domcheck_core.specs.Clauses.{OfFile, IsProved, ExactlyWhere, ma
 mod answers;
 mod file;
 mod form;
+mod limits;
 mod status;
 #[cfg(test)]
 mod tests;

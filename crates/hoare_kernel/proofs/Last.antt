@@ -1,5 +1,5 @@
 -- The last step of a slice.
-use Rattle.std.proofs.Common.{◌≡◌, ℕ, zero, suc, ◌<◌, List, [], ◌∷◌, map, length, get_or, Some, refl, arith}
+use Rattle.std.proofs.Common.{◌≡◌, ℕ, zero, suc, ◌-◌, ◌<◌, List, [], ◌∷◌, map, length, get_or, take, Some, refl, arith}
 use Rattle.dom_syntax.specs.declared.steps.Step.{Step}
 use Rattle.dom_syntax.specs.Judgements.{step_of, judgement_of}
 use Rattle.hoare_kernel.specs.Sizes.{StepsAreSmall, JudgementIsSmall}
@@ -17,3 +17,10 @@ pub small_at : (steps : List Step) (d : Step) (k : ℕ) → k < length steps →
 small_at [] d k lt h = absurd (omega arith)
 small_at (s ∷ steps) d zero lt h = h.0
 small_at (s ∷ steps) d (suc k) lt h = small_at steps d k (omega arith) h.1
+
+-- the steps before a place are small
+pub small_before : (steps : List Step) (k : ℕ) → StepsAreSmall (map step_of steps) → StepsAreSmall (map step_of (take k steps))
+small_before [] zero h = tt
+small_before [] (suc k) h = tt
+small_before (s ∷ steps) zero h = tt
+small_before (s ∷ steps) (suc k) h = (h.0, small_before steps k h.1)

@@ -1,16 +1,24 @@
 -- Acceptance as a test that computes. Nothing here is to be believed: the proofs tie it to the
 -- definition of accepted theories.
-use Rattle.std.specs.Prelude.{Bool, true, false, ◌&&◌, List, [], ◌∷◌, Option, Some, None, bytes_eq, codes}
-use Rattle.model_shapes.specs.Sorts.{same_data_sort}
+use Rattle.std.specs.Prelude.{ℕ, Bool, true, false, ◌&&◌, ◌||◌, ◌==◌, cond, List, [], ◌∷◌, ◌++◌, Option, Some, None, bytes_eq, codes}
+use Rattle.model_shapes.specs.Sorts.{DataSort, same_data_sort}
+use Rattle.model_formulas.specs.Terms.{Term}
 use Rattle.model_formulas.specs.Formulas.{Named, formula_eq}
 use Rattle.model_formulas.specs.Nameless.{nameless}
-use Rattle.model_programs.specs.Stores.{is_yes}
-use Rattle.model_programs.specs.Commands.{Command, skip}
+use Rattle.model_formulas.specs.Substitution.{formula_with, replacing}
+use Rattle.model_programs.specs.Stores.{ProgVar, as_var, sort_of, is_yes}
+use Rattle.model_programs.specs.Commands.{Command, skip, assign, block, Block, stop, ◌then◌}
 use Rattle.model_programs.specs.Theories.{JudgementOf, entails, triple, Reason, auto, by_rule, StepOf, ProcedureOf}
+use Rattle.model_programs.specs.FileFaults.{evaluates, has_command}
+use Rattle.dom_syntax.specs.SameCommands.{same_command}
 
 -- the formulas are the same
 abbrev pub same_test : Named → Named → Bool
 same_test p q = is_yes (formula_eq (nameless p) (nameless q))
+
+-- the second formula is the first with the term for the variable
+abbrev pub replaced_test : ProgVar → Term → Named → Named → Bool
+replaced_test x t q p = is_yes (formula_eq (formula_with (replacing (as_var x) t) (nameless q)) (nameless p))
 
 abbrev pub is_skip : Command → Bool
 is_skip skip = true
@@ -20,43 +28,90 @@ abbrev pub no_items : {A : Type 0} → List A → Bool
 no_items [] = true
 no_items (x ∷ xs) = false
 
--- the reason is the rule skip with no premises and no arguments
-abbrev pub skip_reason : Reason → Bool
-skip_reason auto = false
-skip_reason (by_rule name citations arguments) =
-    bytes_eq name (codes "skip") && (no_items citations && no_items arguments)
+-- the triple is {P} skip {P}
+abbrev pub skip_test : Command → Named → Named → Bool
+skip_test c p q = is_skip c && same_test p q
 
--- the judgement is {P} skip {P}
-abbrev pub skip_triple : JudgementOf Named → Bool
-skip_triple (entails p q s) = false
-skip_triple (triple p c q d) = is_skip c && same_test p q
+-- the triple is {Q with E for x} x := E {Q}
+abbrev pub assign_test : Named → Command → Named → Bool
+assign_test p (assign x t) q = evaluates (sort_of x) t && replaced_test x t q p
+assign_test p c q = false
 
-abbrev pub instance_test : StepOf Named → Bool
-instance_test step = skip_reason step.reason && skip_triple step.judgement
+-- what the first step of the number says
+abbrev pub cited : ℕ → List (StepOf Named) → Option (JudgementOf Named)
+cited n [] = None
+cited n (step ∷ steps) = cond (step.number == n) (Some step.judgement) (cited n steps)
 
--- each step is an instance
-abbrev pub instances_test : List (StepOf Named) → Bool
-instances_test [] = true
-instances_test (step ∷ steps) = instance_test step && instances_test steps
+-- the formula after a command, where what is cited is its triple from the formula before
+abbrev pub after : Option (JudgementOf Named) → Named → Command → DataSort → Option Named
+after None m c d = None
+after (Some (entails p q s)) m c d = None
+after (Some (triple p c' q d')) m c d =
+    cond (same_test p m && (same_command c' c && same_data_sort d' d)) (Some q) None
 
--- a triple of `skip` is the procedure's own
+abbrev pub next : Option Named → (Named → Option Named) → Option Named
+next None f = None
+next (Some m) f = f m
+
+-- the formula after the commands of a block
+abbrev pub reached : List (StepOf Named) → List ℕ → Named → Block → DataSort → Option Named
+reached earlier [] m stop d = Some m
+reached earlier (n ∷ ns) m (c then b) d =
+    next (after (cited n earlier) m c d) (λ q. reached earlier ns q b d)
+reached earlier ns m b d = None
+
+abbrev pub ends : Option Named → Named → Bool
+ends None q = false
+ends (Some m) q = same_test m q
+
+-- the citations are the triples of the commands of a block
+abbrev pub seq_test : List (StepOf Named) → List ℕ → Named → Command → Named → DataSort → Bool
+seq_test earlier ns p (block b) q d = has_command b && ends (reached earlier ns p b d) q
+seq_test earlier ns p c q d = false
+
+-- a triple is an instance of the rule of this name
+abbrev pub triple_test : List (StepOf Named) → List ℕ → List ℕ → Named → Command → Named → DataSort → Bool
+triple_test earlier name ns p c q d =
+    cond (bytes_eq name (codes "seq")) (seq_test earlier ns p c q d)
+    (no_items ns && cond (bytes_eq name (codes "skip")) (skip_test c p q)
+    (bytes_eq name (codes "assign") && assign_test p c q))
+
+abbrev pub judged_test : List (StepOf Named) → List ℕ → List ℕ → JudgementOf Named → Bool
+judged_test earlier name ns (entails p q s) = false
+judged_test earlier name ns (triple p c q d) = triple_test earlier name ns p c q d
+
+abbrev pub rule_test : List (StepOf Named) → Reason → JudgementOf Named → Bool
+rule_test earlier auto j = false
+rule_test earlier (by_rule name ns arguments) j = no_items arguments && judged_test earlier name ns j
+
+-- a step is an instance of its rule over earlier steps
+abbrev pub instance_test : List (StepOf Named) → StepOf Named → Bool
+instance_test earlier step = rule_test earlier step.reason step.judgement
+
+-- each step is an instance; `earlier` are those passed
+abbrev pub instances_test : List (StepOf Named) → List (StepOf Named) → Bool
+instances_test earlier [] = true
+instances_test earlier (step ∷ steps) =
+    instance_test earlier step && instances_test (earlier ++ step ∷ []) steps
+
+-- a triple is the procedure's own
 abbrev pub own_test : ProcedureOf Named → JudgementOf Named → Bool
 own_test f (entails p q s) = false
 own_test f (triple p c q d) =
-    (is_skip c && is_skip f.body) && (same_data_sort d f.sort && (same_test p f.pre && same_test q f.post))
+    same_command c f.body && (same_data_sort d f.sort && (same_test p f.pre && same_test q f.post))
 
 -- the last judgement of the steps
 abbrev pub last_step : List (StepOf Named) → Option (JudgementOf Named)
 last_step [] = None
 last_step (step ∷ []) = Some step.judgement
-last_step (step ∷ next ∷ steps) = last_step (next ∷ steps)
+last_step (step ∷ next_step ∷ steps) = last_step (next_step ∷ steps)
 
 abbrev pub own_last : ProcedureOf Named → Option (JudgementOf Named) → Bool
 own_last f None = false
 own_last f (Some j) = own_test f j
 
 abbrev pub proved_test : ProcedureOf Named → Bool
-proved_test f = instances_test f.proof && own_last f (last_step f.proof)
+proved_test f = instances_test [] f.proof && own_last f (last_step f.proof)
 
 abbrev pub accepted_test : List (ProcedureOf Named) → Bool
 accepted_test [] = true

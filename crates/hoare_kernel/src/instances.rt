@@ -1,28 +1,26 @@
 // Which steps are instances of the rule that they name.
-ghost use Rattle.std.specs.Prelude.{◌≡◌, IfOk, map};
+ghost use Rattle.std.specs.Prelude.{◌≡◌, IfOk, map, []};
+ghost use Rattle.dom_terms.specs.Sorts.{data_sort_of};
 ghost use Rattle.formula_syntax.specs.Formulas.{formula_of};
 ghost use Rattle.dom_syntax.specs.Commands.{command_of};
-ghost use Rattle.dom_syntax.specs.Judgements.{reason_of, judgement_of, step_of};
-ghost use Rattle.hoare_kernel.specs.Sizes.{IsSmall, JudgementIsSmall, StepsAreSmall};
+ghost use Rattle.dom_syntax.specs.Judgements.{judgement_of, step_of, triple_of};
+ghost use Rattle.hoare_kernel.specs.Sizes.{JudgementIsSmall, StepsAreSmall};
 ghost use Rattle.hoare_kernel.specs.Tests as test;
 
-use dom_syntax::{Command, Judgement, Reason, Step};
-use dom_terms::{List, OutOfMemory};
-use formula_syntax::{Formula, same_formula};
+use crate::chains::is_chain;
+use crate::same::{is_replaced, same};
+use crate::terms::evaluates;
+use dom_syntax::{Command, Judgement, Reason, Step, Triple};
+use dom_terms::{List, Numbers, OutOfMemory, Text};
 use std::alloc::Global;
 
-/// Whether the formulas are the same up to the names of bound variables.
-pub fn same(alloc: Global, left: &Formula, right: &Formula) -> Result<bool, OutOfMemory>
-    requires left { IsSmall (formula_of left.now) }
-    requires right { IsSmall (formula_of right.now) }
-    ensures { IfOk result (λ b. b ≡ test.same_test (formula_of left.now) (formula_of right.now)) }
+fn is_nothing<T>(items: &List<T>) -> bool
+    ensures { result ≡ test.no_items items.now }
 {
-    let same = same_formula(alloc, left, right)?;
-    Ok(same)
+    items.is_empty()
 }
 
-/// Whether the command is `skip`.
-pub fn is_skip(command: &Command) -> bool
+fn is_skip(command: &Command) -> bool
     ensures { result ≡ test.is_skip (command_of command.now) }
 {
     match command {
@@ -31,65 +29,122 @@ pub fn is_skip(command: &Command) -> bool
     }
 }
 
-fn is_nothing<T>(items: &List<T>) -> bool
-    ensures { result ≡ test.no_items items.now }
+// The rule skip.
+fn is_skip_triple(alloc: Global, triple: &Triple) -> Result<bool, OutOfMemory>
+    requires { JudgementIsSmall (triple_of triple.now) }
+    ensures { IfOk result (λ b. b ≡ test.skip_test (command_of triple.now.command)
+        (formula_of triple.now.pre) (formula_of triple.now.post)) }
 {
-    items.is_empty()
-}
-
-// The rule skip, which has no premises and no arguments.
-fn is_skip_reason(reason: &Reason) -> bool
-    ensures { result ≡ test.skip_reason (reason_of reason.now) }
-{
-    match reason {
-        Reason::Auto => false,
-        Reason::Rule {
-            name,
-            premises,
-            arguments,
-        } => name.as_str() == "skip" && is_nothing(premises) && is_nothing(arguments),
-    }
-}
-
-// The triple of `skip` from a formula to itself.
-fn is_skip_triple(alloc: Global, judgement: &Judgement) -> Result<bool, OutOfMemory>
-    requires { JudgementIsSmall (judgement_of judgement.now) }
-    ensures { IfOk result (λ b. b ≡ test.skip_triple (judgement_of judgement.now)) }
-{
-    match judgement {
-        Judgement::Entails(_) => Ok(false),
-        Judgement::Triple(triple) => {
-            if is_skip(&triple.command) {
-                same(alloc, &triple.pre, &triple.post)
-            } else {
-                Ok(false)
-            }
-        }
-    }
-}
-
-fn is_instance(alloc: Global, step: &Step) -> Result<bool, OutOfMemory>
-    requires { JudgementIsSmall (judgement_of step.now.judgement) }
-    ensures { IfOk result (λ b. b ≡ test.instance_test (step_of step.now)) }
-{
-    if is_skip_reason(&step.reason) {
-        is_skip_triple(alloc, &step.judgement)
+    if is_skip(&triple.command) {
+        same(alloc, &triple.pre, &triple.post)
     } else {
         Ok(false)
     }
 }
 
-/// Whether each step is an instance of the rule that it names.
+// The rule assign.
+fn is_assign_triple(alloc: Global, triple: &Triple) -> Result<bool, OutOfMemory>
+    requires { JudgementIsSmall (triple_of triple.now) }
+    ensures { IfOk result (λ b. b ≡ test.assign_test (formula_of triple.now.pre)
+        (command_of triple.now.command) (formula_of triple.now.post)) }
+{
+    match &triple.command {
+        Command::Assign(variable, term) => {
+            if evaluates(term, variable.sort) {
+                is_replaced(alloc, &triple.post, variable, term, &triple.pre)
+            } else {
+                Ok(false)
+            }
+        }
+        _ => Ok(false),
+    }
+}
+
+// The rule seq.
+fn is_seq_triple(
+    alloc: Global,
+    earlier: &[Step],
+    citations: &[u32],
+    triple: &Triple,
+) -> Result<bool, OutOfMemory>
+    requires earlier { StepsAreSmall (map step_of earlier.now) }
+    requires triple { JudgementIsSmall (triple_of triple.now) }
+    ensures { IfOk result (λ b. b ≡ test.seq_test (map step_of earlier.now) citations.now
+        (formula_of triple.now.pre) (command_of triple.now.command) (formula_of triple.now.post)
+        (data_sort_of triple.now.sort)) }
+{
+    match &triple.command {
+        Command::Block(block) => {
+            if is_nothing(block) {
+                Ok(false)
+            } else {
+                is_chain(alloc, earlier, citations, triple, block.as_slice())
+            }
+        }
+        _ => Ok(false),
+    }
+}
+
+// Whether the triple is an instance of the rule of this name.
+fn is_triple_by(
+    alloc: Global,
+    earlier: &[Step],
+    name: &Text,
+    citations: &Numbers,
+    triple: &Triple,
+) -> Result<bool, OutOfMemory>
+    requires earlier { StepsAreSmall (map step_of earlier.now) }
+    requires triple { JudgementIsSmall (triple_of triple.now) }
+    ensures { IfOk result (λ b. b ≡ test.triple_test (map step_of earlier.now) name.now citations.now
+        (formula_of triple.now.pre) (command_of triple.now.command) (formula_of triple.now.post)
+        (data_sort_of triple.now.sort)) }
+{
+    if name.as_str() == "seq" {
+        is_seq_triple(alloc, earlier, citations.as_slice(), triple)
+    } else if !is_nothing(citations) {
+        Ok(false)
+    } else if name.as_str() == "skip" {
+        is_skip_triple(alloc, triple)
+    } else if name.as_str() == "assign" {
+        is_assign_triple(alloc, triple)
+    } else {
+        Ok(false)
+    }
+}
+
+fn is_instance(alloc: Global, earlier: &[Step], step: &Step) -> Result<bool, OutOfMemory>
+    requires earlier { StepsAreSmall (map step_of earlier.now) }
+    requires step { JudgementIsSmall (judgement_of step.now.judgement) }
+    ensures { IfOk result (λ b. b ≡ test.instance_test (map step_of earlier.now) (step_of step.now)) }
+{
+    match (&step.reason, &step.judgement) {
+        (
+            Reason::Rule {
+                name,
+                premises,
+                arguments,
+            },
+            Judgement::Triple(triple),
+        ) => {
+            if is_nothing(arguments) {
+                is_triple_by(alloc, earlier, name, premises, triple)
+            } else {
+                Ok(false)
+            }
+        }
+        _ => Ok(false),
+    }
+}
+
+/// Whether each step is an instance of the rule that it names over the steps before it.
 pub fn are_instances(alloc: Global, steps: &[Step]) -> Result<bool, OutOfMemory>
     requires { StepsAreSmall (map step_of steps.now) }
-    ensures { IfOk result (λ b. b ≡ test.instances_test (map step_of steps.now)) }
+    ensures { IfOk result (λ b. b ≡ test.instances_test [] (map step_of steps.now)) }
 {
-    let mut rest = steps;
-    'steps: while let [first, others @ ..] = rest {
-        if !is_instance(alloc, first)? {
+    for place in 0..steps.len() {
+        if !is_instance(alloc, &steps[..place], &steps[place])? {
             return Ok(false);
         }
-        rest = others;
     }
     Ok(true)
 }

@@ -3,7 +3,10 @@
 //! Stands on the types of theories and on the definition of accepted theories.
 #![tactic(auto)]
 
+mod chains;
 mod instances;
+mod same;
+mod terms;
 mod theories;
 
 pub use theories::is_accepted;

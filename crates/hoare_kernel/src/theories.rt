@@ -1,13 +1,14 @@
 // Which theories are accepted.
-ghost use Rattle.std.specs.Prelude.{◌≡◌, ◌↔◌, IfOk, IsTrue, map, ◌&&◌};
+ghost use Rattle.std.specs.Prelude.{◌≡◌, ◌↔◌, ◌&&◌, IfOk, IsTrue, map};
 ghost use Rattle.model_rules.specs.Accepted.{IsAccepted};
+ghost use Rattle.formula_syntax.specs.Formulas.{formula_of};
 ghost use Rattle.dom_syntax.specs.Judgements.{judgement_of, step_of, triple_of};
 ghost use Rattle.dom_syntax.specs.Theories.{procedure_of, theory_of};
-ghost use Rattle.hoare_kernel.specs.Sizes.{JudgementIsSmall, ProcedureIsSmall, ProceduresAreSmall, TheoryIsSmall, StepsAreSmall};
+ghost use Rattle.hoare_kernel.specs.Sizes.{JudgementIsSmall, ProcedureIsSmall, ProceduresAreSmall, StepsAreSmall, TheoryIsSmall};
 ghost use Rattle.hoare_kernel.specs.Tests as test;
-ghost use Rattle.formula_syntax.specs.Formulas.{formula_of};
 
-use crate::instances::{are_instances, is_skip, same};
+use crate::instances::are_instances;
+use crate::same::{are_equal, same};
 use dom_syntax::{Judgement, Procedure, Step, Theory, Triple};
 use dom_terms::{OutOfMemory, same_data_sort};
 use std::alloc::Global;
@@ -30,7 +31,7 @@ fn has_own_formulas(
     }
 }
 
-// Whether the judgement is the procedure's own triple, where both commands are `skip`.
+// Whether the judgement is the procedure's own triple.
 fn is_own_triple(
     alloc: Global,
     procedure: &Procedure,
@@ -43,8 +44,7 @@ fn is_own_triple(
     match judgement {
         Judgement::Entails(_) => Ok(false),
         Judgement::Triple(triple) => {
-            if is_skip(&triple.command)
-                && is_skip(&procedure.body)
+            if are_equal(&triple.command, &procedure.body)
                 && same_data_sort(triple.sort, procedure.sort)
             {
                 has_own_formulas(alloc, procedure, triple)

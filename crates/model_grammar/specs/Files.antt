@@ -1,63 +1,80 @@
 -- The files that are read today: their bytes, their lexemes, and what is asked of their theory.
-use Rattle.std.specs.Prelude.{◌≡◌, ℕ, ◌+◌, ◌≤◌, ◌==◌, Bool, true, false, not, ◌&&◌, ◌||◌, List, [], ◌∷◌, length, map, bytes_eq, codes, IsTrue}
+use Rattle.std.specs.Prelude.{◌≡◌, ℕ, ◌+◌, ◌-◌, ◌≤◌, nat_le, Bool, true, false, ◌&&◌, ◌||◌, cond, List, [], ◌∷◌, length, map, bytes_eq, codes, IsTrue}
 use Rattle.model_formulas.specs.Formulas.{Named}
-use Rattle.model_formulas.specs.Terms.{Term}
-use Rattle.model_programs.specs.Theories.{Reason, auto, by_rule, StepOf, ProcedureOf, Theory}
+use Rattle.model_programs.specs.Theories.{ProcedureOf, Theory}
+use Rattle.model_programs.specs.FileFaults.{IsWellFormedTheory}
 use Rattle.model_text.specs.Tokens.{tokens_of}
-use Rattle.model_text.specs.Lexemes.{Lexeme, lexeme_of}
+use Rattle.model_text.specs.Lexemes.{Lexeme, terminal, literal_lexeme, lexeme_of}
 use Rattle.model_grammar.specs.Grammar.{SpellsTheory}
+use Rattle.model_grammar.specs.FirstForm.{is_first_form}
 
--- the steps are numbered from this number on
-abbrev pub numbered_from : ℕ → List (StepOf Named) → Bool
-numbered_from n [] = true
-numbered_from n (step ∷ steps) = (step.number == n) && numbered_from (n + 1) steps
+-- LIMITS: the most bytes of a file, open brackets at one token, bytes of a text, variables of a
+-- procedure, and steps of a file
+abbrev pub most_bytes : ℕ
+most_bytes = 4194304
 
--- the step names the rule skip and gives no arguments
-abbrev pub no_terms : List Term → Bool
-no_terms [] = true
-no_terms (t ∷ ts) = false
+abbrev pub most_open : ℕ
+most_open = 100
 
-abbrev pub is_by_skip : Reason → Bool
-is_by_skip auto = false
-is_by_skip (by_rule name citations arguments) = bytes_eq name (codes "skip") && no_terms arguments
+abbrev pub most_text : ℕ
+most_text = 4096
 
-abbrev pub all_by_skip : List (StepOf Named) → Bool
-all_by_skip [] = true
-all_by_skip (step ∷ steps) = is_by_skip step.reason && all_by_skip steps
+abbrev pub most_variables : ℕ
+most_variables = 64
 
--- one of the names
-abbrev pub is_among : List ℕ → List (List ℕ) → Bool
-is_among name [] = false
-is_among name (other ∷ others) = bytes_eq name other || is_among name others
+abbrev pub most_steps : ℕ
+most_steps = 65535
 
--- no procedure has the name of an earlier one; `earlier` are the names of those passed
-abbrev pub names_differ : List (List ℕ) → List (ProcedureOf Named) → Bool
-names_differ earlier [] = true
-names_differ earlier (f ∷ fs) = not (is_among f.name earlier) && names_differ (f.name ∷ earlier) fs
+-- the lexeme is this terminal
+abbrev pub is_the : List ℕ → Lexeme → Bool
+is_the text (terminal other) = bytes_eq other text
+is_the text lexeme = false
 
--- each proof is numbered from 1 and by the rule skip alone
-abbrev pub proofs_fit : List (ProcedureOf Named) → Bool
-proofs_fit [] = true
-proofs_fit (f ∷ fs) = (numbered_from 1 f.proof && all_by_skip f.proof) && proofs_fit fs
+-- opening and closing brackets
+abbrev pub opens : Lexeme → Bool
+opens lexeme = is_the (codes "(") lexeme || (is_the (codes "[") lexeme
+    || (is_the (codes "{") lexeme || is_the (codes "<") lexeme))
+
+abbrev pub closes : Lexeme → Bool
+closes lexeme = is_the (codes ")") lexeme || (is_the (codes "]") lexeme
+    || (is_the (codes "}") lexeme || is_the (codes ">") lexeme))
+
+-- how many brackets are open behind a lexeme, where so many are open before it
+abbrev pub open_behind : ℕ → Lexeme → ℕ
+open_behind before lexeme = cond (opens lexeme) (before + 1) (cond (closes lexeme) (before - 1) before)
+
+-- never are more brackets open than the most
+abbrev pub nests_within : ℕ → List Lexeme → Bool
+nests_within before [] = true
+nests_within before (lexeme ∷ rest) =
+    nat_le (open_behind before lexeme) most_open && nests_within (open_behind before lexeme) rest
+
+-- no literal stands for a longer text than the most
+abbrev pub text_within : Lexeme → Bool
+text_within (literal_lexeme text) = nat_le (length text) most_text
+text_within lexeme = true
+
+abbrev pub texts_within : List Lexeme → Bool
+texts_within [] = true
+texts_within (lexeme ∷ rest) = text_within lexeme && texts_within rest
+
+-- no procedure declares more variables than the most
+abbrev pub variables_within : List (ProcedureOf Named) → Bool
+variables_within [] = true
+variables_within (f ∷ fs) =
+    nat_le (length f.params + length f.results) most_variables && variables_within fs
 
 -- the steps of all proofs
 abbrev pub step_count : List (ProcedureOf Named) → ℕ
 step_count [] = 0
 step_count (f ∷ fs) = length f.proof + step_count fs
 
--- the most bytes of a file, and the most steps
-abbrev pub most_bytes : ℕ
-most_bytes = 4194304
-
-abbrev pub most_steps : ℕ
-most_steps = 65535
-
--- What is asked of the theory beside the grammar: that it is well formed, within the limits, and
--- uses the rule skip alone.
+-- What is asked of the theory beside the grammar: that it is well formed, uses no other parts than
+-- those of the first form, and is within the limits.
 pub record IsOfForm (theory : Theory) : Type 0 where
-  pub version : theory.version ≡ 1
-  pub names : IsTrue (names_differ [] theory.procedures)
-  pub proofs : IsTrue (proofs_fit theory.procedures)
+  pub well_formed : IsWellFormedTheory theory
+  pub first_form : IsTrue (is_first_form theory)
+  pub variables : IsTrue (variables_within theory.procedures)
   pub steps : step_count theory.procedures ≤ most_steps
 
 -- what the grammar sees of the bytes
@@ -67,5 +84,7 @@ lexemes_of bytes = map lexeme_of (tokens_of bytes)
 -- A FILE: these bytes spell this theory.
 pub record SpellsFile (bytes : List ℕ) (theory : Theory) : Type 0 where
   pub small : length bytes ≤ most_bytes
+  pub nesting : IsTrue (nests_within 0 (lexemes_of bytes))
+  pub texts : IsTrue (texts_within (lexemes_of bytes))
   pub spelled : SpellsTheory theory (lexemes_of bytes)
   pub of_form : IsOfForm theory

@@ -1,28 +1,38 @@
 -- The grammar of theory files, one case for each production that is read today: no logic variables,
--- no parameters and results, the formulas `true` and `0g`, the command `skip`, triples at sort g.
+-- no entailments and no gaps, data sort g. Terms, formulas and commands stand in Expressions.antt.
 use Rattle.std.specs.Prelude.{◌≡◌, ℕ, ◌≤◌, true, List, [], ◌∷◌, ◌++◌, codes}
-use Rattle.model_shapes.specs.Sorts.{DataSort, grove}
-use Rattle.model_formulas.specs.Formulas.{Named, truth, empty}
-use Rattle.model_programs.specs.Commands.{Command, skip}
+use Rattle.model_shapes.specs.Sorts.{ValueSort, node_sort, list_sort, int_sort, str_sort, bool_sort, DataSort, grove}
+use Rattle.model_formulas.specs.Terms.{Term}
+use Rattle.model_formulas.specs.Formulas.{Named}
+use Rattle.model_programs.specs.Stores.{ProgVar, named}
+use Rattle.model_programs.specs.Commands.{Command}
 use Rattle.model_programs.specs.Theories.{JudgementOf, triple, by_rule, StepOf, ProcedureOf, Theory}
 use Rattle.model_text.specs.Lexemes.{Lexeme, terminal, step_word, name_lexeme, number_lexeme, is_reserved}
+use Rattle.model_grammar.specs.Expressions.{one, SpellsTerm, SpellsFormula, SpellsCommand}
 
--- a reserved word or symbol by itself
-abbrev pub one : List ℕ → List Lexeme
-one text = terminal text ∷ []
+-- A ("," A)*, where A spells one item
+pub data Listed {A : Type 0} (Spells : A → List Lexeme → Type 0) : List A → List Lexeme → Type 0 where
+  last_item : {x : A} {s : List Lexeme} → Spells x s → Listed Spells (x ∷ []) s
+  more_items : {x : A} {xs : List A} {s t : List Lexeme} → Spells x s → Listed Spells xs t
+      → Listed Spells (x ∷ xs) (s ++ (terminal (codes ",") ∷ t))
 
--- F = "true" | "0g"
-pub data SpellsFormula : Named → List Lexeme → Type 0 where
-  true_word : SpellsFormula truth (one (codes "true"))
-  empty_grove : SpellsFormula (empty grove) (one (codes "0g"))
-
--- C = "skip"
-pub data SpellsCommand : Command → List Lexeme → Type 0 where
-  skip_word : SpellsCommand skip (one (codes "skip"))
+-- "(" (A ("," A)*)? ")"
+pub data Bracketed {A : Type 0} (Spells : A → List Lexeme → Type 0) : List A → List Lexeme → Type 0 where
+  no_item : Bracketed Spells [] (terminal (codes "(") ∷ one (codes ")"))
+  some_items : {xs : List A} {s : List Lexeme} → Listed Spells xs s
+      → Bracketed Spells xs (terminal (codes "(") ∷ (s ++ one (codes ")")))
 
 -- DATASORT = "g"
 pub data SpellsDataSort : DataSort → List Lexeme → Type 0 where
   grove_word : SpellsDataSort grove (name_lexeme (codes "g") ∷ [])
+
+-- VSORT = "node" | "list" | "int" | "str" | "bool"
+pub data SpellsValueSort : ValueSort → List Lexeme → Type 0 where
+  node_word : SpellsValueSort node_sort (name_lexeme (codes "node") ∷ [])
+  list_word : SpellsValueSort list_sort (name_lexeme (codes "list") ∷ [])
+  int_word : SpellsValueSort int_sort (name_lexeme (codes "int") ∷ [])
+  str_word : SpellsValueSort str_sort (name_lexeme (codes "str") ∷ [])
+  bool_word : SpellsValueSort bool_sort (name_lexeme (codes "bool") ∷ [])
 
 -- NAME: a word that isn't reserved
 pub data SpellsName : List ℕ → List Lexeme → Type 0 where
@@ -38,61 +48,65 @@ pub data SpellsWord : List ℕ → List Lexeme → Type 0 where
 pub data SpellsNumber : ℕ → List Lexeme → Type 0 where
   small_number : (n : ℕ) → n ≤ 4294967295 → SpellsNumber n (number_lexeme n ∷ [])
 
--- NUM ("," NUM)*
-pub data SpellsNumbers : List ℕ → List Lexeme → Type 0 where
-  last_number : {n : ℕ} {s : List Lexeme} → SpellsNumber n s → SpellsNumbers (n ∷ []) s
-  more_numbers : {n : ℕ} {ns : List ℕ} {s t : List Lexeme} → SpellsNumber n s
-      → SpellsNumbers ns t → SpellsNumbers (n ∷ ns) (s ++ (terminal (codes ",") ∷ t))
+-- NAME ":" VSORT
+pub data SpellsDeclaration : ProgVar → List Lexeme → Type 0 where
+  declaration : {w : List ℕ} {v : ValueSort} {s t : List Lexeme}
+      → SpellsName w s → SpellsValueSort v t
+      → SpellsDeclaration (named w v) (s ++ (terminal (codes ":") ∷ t))
 
--- "(" (NUM ("," NUM)*)? ")"
-pub data SpellsPremises : List ℕ → List Lexeme → Type 0 where
-  no_premise : SpellsPremises [] (terminal (codes "(") ∷ one (codes ")"))
-  some_premises : {ns : List ℕ} {s : List Lexeme} → SpellsNumbers ns s
-      → SpellsPremises ns (terminal (codes "(") ∷ (s ++ one (codes ")")))
+-- ("with" "(" E ("," E)* ")")?
+pub data SpellsArguments (declared : List ProgVar) : List Term → List Lexeme → Type 0 where
+  no_argument : SpellsArguments declared [] []
+  some_arguments : {es : List Term} {s : List Lexeme} → Listed (SpellsTerm declared) es s
+      → SpellsArguments declared es
+      (terminal (codes "with") ∷ (terminal (codes "(") ∷ (s ++ one (codes ")"))))
 
 -- J = "pre" F "do" C "post" F "at" DATASORT
-pub data SpellsJudgement : JudgementOf Named → List Lexeme → Type 0 where
+pub data SpellsJudgement (declared : List ProgVar) : JudgementOf Named → List Lexeme → Type 0 where
   triple_at : {p q : Named} {c : Command} {d : DataSort} {s t u v : List Lexeme}
-      → SpellsFormula p s → SpellsCommand c t → SpellsFormula q u → SpellsDataSort d v
-      → SpellsJudgement (triple p c q d)
+      → SpellsFormula declared p s → SpellsCommand declared c t → SpellsFormula declared q u
+      → SpellsDataSort d v → SpellsJudgement declared (triple p c q d)
       (terminal (codes "pre") ∷ (s ++ (terminal (codes "do") ∷ (t ++ (terminal (codes "post")
       ∷ (u ++ (terminal (codes "at") ∷ v)))))))
 
--- step = "step" NUM "by" WORD premises ":" J ";"
-pub data SpellsStep : StepOf Named → List Lexeme → Type 0 where
-  by_word : (line : ℕ) {n : ℕ} {w ns : List ℕ} {j : JudgementOf Named} {s t u v : List Lexeme}
-      → SpellsNumber n s → SpellsWord w t → SpellsPremises ns u → SpellsJudgement j v
-      → SpellsStep (record { number = n; line = line; reason = by_rule w ns []; judgement = j })
-      (step_word line ∷ (s ++ (terminal (codes "by") ∷ (t ++ (u ++ (terminal (codes ":")
-      ∷ (v ++ one (codes ";"))))))))
+-- step = "step" NUM "by" WORD premises arguments ":" J ";"
+pub data SpellsStep (declared : List ProgVar) : StepOf Named → List Lexeme → Type 0 where
+  by_word : (line : ℕ) {n : ℕ} {w ns : List ℕ} {es : List Term} {j : JudgementOf Named}
+      {s t u v r : List Lexeme} → SpellsNumber n s → SpellsWord w t → Bracketed SpellsNumber ns u
+      → SpellsArguments declared es v → SpellsJudgement declared j r → SpellsStep declared
+      (record { number = n; line = line; reason = by_rule w ns es; judgement = j })
+      (step_word line ∷ (s ++ (terminal (codes "by") ∷ (t ++ (u ++ (v ++ (terminal (codes ":")
+      ∷ (r ++ one (codes ";")))))))))
 
 -- step*
-pub data SpellsSteps : List (StepOf Named) → List Lexeme → Type 0 where
-  no_step : SpellsSteps [] []
+pub data SpellsSteps (declared : List ProgVar) : List (StepOf Named) → List Lexeme → Type 0 where
+  no_step : SpellsSteps declared [] []
   one_step : {x : StepOf Named} {xs : List (StepOf Named)} {s t : List Lexeme}
-      → SpellsStep x s → SpellsSteps xs t → SpellsSteps (x ∷ xs) (s ++ t)
+      → SpellsStep declared x s → SpellsSteps declared xs t → SpellsSteps declared (x ∷ xs) (s ++ t)
 
--- proc = "proc" NAME "(" ")" "returns" "(" ")" "sort" DATASORT "requires" F "ensures" F "body" C
---        "proof" step* "end"
+-- proc = "proc" NAME "(" decls? ")" "returns" "(" decls? ")" "sort" DATASORT "requires" F
+--        "ensures" F "body" C "proof" step* "end"
+-- The names of a procedure are declared by its parameters and results.
 pub data SpellsProcedure : ProcedureOf Named → List Lexeme → Type 0 where
-  procedure : {f : List ℕ} {d : DataSort} {p q : Named} {c : Command} {xs : List (StepOf Named)}
-      {r s t u v w : List Lexeme} → SpellsName f r → SpellsDataSort d s
-      → SpellsFormula p t → SpellsFormula q u → SpellsCommand c v → SpellsSteps xs w
+  procedure : {f : List ℕ} {ps rs : List ProgVar} {d : DataSort} {p q : Named} {c : Command}
+      {xs : List (StepOf Named)} {l m n s t u v w : List Lexeme} → SpellsName f l
+      → Bracketed SpellsDeclaration ps m → Bracketed SpellsDeclaration rs n → SpellsDataSort d s
+      → SpellsFormula (ps ++ rs) p t → SpellsFormula (ps ++ rs) q u → SpellsCommand (ps ++ rs) c v
+      → SpellsSteps (ps ++ rs) xs w
       → SpellsProcedure (record {
         name = f;
-        params = [];
-        results = [];
+        params = ps;
+        results = rs;
         sort = d;
         pre = p;
         post = q;
         body = c;
         proof = xs;
       })
-      (terminal (codes "proc") ∷ (r ++ (terminal (codes "(") ∷ (terminal (codes ")")
-      ∷ (terminal (codes "returns") ∷ (terminal (codes "(") ∷ (terminal (codes ")")
-      ∷ (terminal (codes "sort") ∷ (s ++ (terminal (codes "requires") ∷ (t
+      (terminal (codes "proc") ∷ (l ++ (m ++ (terminal (codes "returns") ∷ (n
+      ++ (terminal (codes "sort") ∷ (s ++ (terminal (codes "requires") ∷ (t
       ++ (terminal (codes "ensures") ∷ (u ++ (terminal (codes "body") ∷ (v
-      ++ (terminal (codes "proof") ∷ (w ++ one (codes "end"))))))))))))))))))
+      ++ (terminal (codes "proof") ∷ (w ++ one (codes "end"))))))))))))))))
 
 -- proc proc*
 pub data SpellsProcedures : List (ProcedureOf Named) → List Lexeme → Type 0 where

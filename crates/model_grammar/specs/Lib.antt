@@ -1,4 +1,6 @@
+pub mod Expressions
 pub mod Grammar
+pub mod FirstForm
 pub mod Files
 pub mod Words
 pub mod Output

@@ -1,21 +1,19 @@
--- The readers of one lexeme, of formulas and of commands read what the grammar spells, and only that.
-use Rattle.std.proofs.Common.{◌≡◌, ℕ, Bool, true, false, cond, List, [], ◌∷◌, ◌++◌, Some, None, refl, sym, subst, bytes_eq, codes, arith}
+-- The readers of one lexeme read what the grammar spells, and only that.
+use Rattle.std.proofs.Common.{◌≡◌, ℕ, ◌≤◌, Bool, true, false, cond, List, [], ◌∷◌, ◌++◌, Option, Some, None, refl, sym, ap, subst, ◌∙◌, bytes_eq, codes, arith}
 use Rattle.std.specs.Prelude.{nat_le}
 use Rattle.std.proofs.lemmas.Bool.{leb-true, le-leb}
 use Rattle.std.proofs.lemmas.Slice.Eq.{bytes_eq-Decides}
-use Rattle.model_shapes.specs.Sorts.{DataSort, grove}
-use Rattle.model_formulas.specs.Formulas.{Named, truth, empty}
-use Rattle.model_programs.specs.Commands.{Command, skip}
+use Rattle.model_shapes.specs.Sorts.{ValueSort, node_sort, list_sort, int_sort, str_sort, bool_sort, DataSort, grove}
 use Rattle.model_text.specs.Lexemes.{Lexeme, terminal, step_word, name_lexeme, number_lexeme, is_reserved}
-use Rattle.model_grammar.specs.Grammar.{SpellsFormula, true_word, empty_grove, SpellsCommand, skip_word, SpellsDataSort, grove_word, SpellsName, plain_name, SpellsWord, plain_word, reserved_word, step_itself, SpellsNumber, small_number}
-use Rattle.token_readers.specs.Reading.{leaf, leaf_or, Answer}
+use Rattle.model_grammar.specs.Grammar.{SpellsValueSort, node_word, list_word, int_word, str_word, bool_word, SpellsDataSort, grove_word, SpellsName, plain_name, SpellsWord, plain_word, reserved_word, step_itself, SpellsNumber, small_number}
+use Rattle.token_readers.specs.Reading.{Read, leaf, leaf_or, Answer, At}
 use Rattle.token_readers.proofs.Sound.{Sound, s_ret, s_fail, s_case, s_leaf, s_close}
 use Rattle.token_readers.proofs.Only.{Only, OrDeep, read, Prefix_free}
 use Rattle.token_readers.specs.Leaves.{leaf_name, leaf_word, leaf_number}
-use Rattle.proof_text.specs.Readers.{leaf_sort, formula_at, command_at}
+use Rattle.proof_text.specs.Readers.{leaf_sort, sort_called, leaf_value_sort}
 
 -- a choice that gave a value was taken
-chosen : {A : Type 0} (b : Bool) (x a : A) → cond b (Some x) None ≡ Some a → (b ≡ true) × (x ≡ a)
+pub chosen : {A : Type 0} (b : Bool) (x a : A) → cond b (Some x) None ≡ Some a → (b ≡ true) × (x ≡ a)
 chosen true x a e = (refl, cc)
 chosen false x a e = absurd cc
 
@@ -56,20 +54,32 @@ number_sound n = s_leaf n leaf_number SpellsNumber (0, number_lexeme 0 ∷ [], s
 pub sort_sound : (n : ℕ) → Sound n (leaf leaf_sort) SpellsDataSort
 sort_sound n = s_leaf n leaf_sort SpellsDataSort (grove, name_lexeme (codes "g") ∷ [], grove_word) sort_is
 
-pub formula_sound : (n : ℕ) → Sound n formula_at SpellsFormula
-unfolding formula_at
-formula_sound n =
-    s_case (codes "true") (s_ret n truth _ true_word)
-    (s_case (codes "0g") (s_ret n (empty grove) _ empty_grove) (s_fail n truth _ _ true_word))
+-- the first test that holds gives the sort, of the name that it asks for
+named_sort : {v : ValueSort} (w name : List ℕ) (s : ValueSort) (others : Option ValueSort) → SpellsValueSort s (name_lexeme name ∷ [])
+    → (others ≡ Some v → SpellsValueSort v (name_lexeme w ∷ [])) → cond (bytes_eq w name) (Some s) others ≡ Some v → SpellsValueSort v (name_lexeme w ∷ [])
+named_sort {v} w name s others l h e = go (bytes_eq w name) refl e
+  where
+    go : (b : Bool) → bytes_eq w name ≡ b → cond b (Some s) others ≡ Some v → SpellsValueSort v (name_lexeme w ∷ [])
+    go true t e =
+        let same : name ≡ w = sym ((bytes_eq-Decides w name).0 t) in
+        let sv : s ≡ v = cc in
+        subst (λ (z : ValueSort). SpellsValueSort z (name_lexeme w ∷ [])) sv (subst (λ (z : List ℕ). SpellsValueSort s (name_lexeme z ∷ [])) same l)
+    go false t e = h e
 
-pub command_sound : (n : ℕ) → Sound n command_at SpellsCommand
-unfolding command_at
-command_sound n = s_close n (codes "skip") skip _ skip_word
+value_sort_is : (t : Lexeme) (v : ValueSort) → leaf_value_sort t ≡ Some v → SpellsValueSort v (t ∷ [])
+value_sort_is (name_lexeme w) v e =
+    named_sort w (codes "node") node_sort _ node_word (named_sort w (codes "list") list_sort _ list_word
+    (named_sort w (codes "int") int_sort _ int_word (named_sort w (codes "str") str_sort _ str_word
+    (named_sort w (codes "bool") bool_sort _ bool_word (λ h. absurd cc))))) e
+value_sort_is _ v e = absurd cc
+
+pub value_sort_sound : (n : ℕ) → Sound n (leaf leaf_value_sort) SpellsValueSort
+value_sort_sound n = s_leaf n leaf_value_sort SpellsValueSort (node_sort, name_lexeme (codes "node") ∷ [], node_word) value_sort_is
 
 -- what is spelled is read
 
 -- a choice whose test holds
-taken : {A : Type 0} (b : Bool) (x : A) (rest : List Lexeme) (other : Answer A) → b ≡ true → OrDeep (leaf_or (cond b (Some x) None) rest other) x rest
+pub taken : {A : Type 0} (b : Bool) (x : A) (rest : List Lexeme) (other : Answer A) → b ≡ true → OrDeep (leaf_or (cond b (Some x) None) rest other) x rest
 taken true x rest other e = read
 taken false x rest other e = absurd cc
 
@@ -99,17 +109,12 @@ sort_only = record { only = λ a s rest l st. reads a s rest l }
     reads : (a : DataSort) (s rest : List Lexeme) → SpellsDataSort a s → OrDeep (leaf leaf_sort (s ++ rest)) a rest
     reads a s rest grove_word = read
 
-pub formula_only : Only formula_at SpellsFormula Prefix_free
-unfolding formula_at
-formula_only = record { only = λ a s rest l st. reads a s rest l }
+pub value_sort_only : Only (leaf leaf_value_sort) SpellsValueSort Prefix_free
+value_sort_only = record { only = λ a s rest l st. reads a s rest l }
   where
-    reads : (a : Named) (s rest : List Lexeme) → SpellsFormula a s → OrDeep (formula_at (s ++ rest)) a rest
-    reads a s rest true_word = read
-    reads a s rest empty_grove = read
-
-pub command_only : Only command_at SpellsCommand Prefix_free
-unfolding command_at
-command_only = record { only = λ a s rest l st. reads a s rest l }
-  where
-    reads : (a : Command) (s rest : List Lexeme) → SpellsCommand a s → OrDeep (command_at (s ++ rest)) a rest
-    reads a s rest skip_word = read
+    reads : (a : ValueSort) (s rest : List Lexeme) → SpellsValueSort a s → OrDeep (leaf leaf_value_sort (s ++ rest)) a rest
+    reads a s rest node_word = read
+    reads a s rest list_word = read
+    reads a s rest int_word = read
+    reads a s rest str_word = read
+    reads a s rest bool_word = read

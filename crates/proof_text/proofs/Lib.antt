@@ -1,4 +1,8 @@
 pub mod LeafReader
+pub mod ListReader
+pub mod TermReader
+pub mod FormulaReader
+pub mod CommandReader
 pub mod JudgementReader
 pub mod StepReader
 pub mod TheoryReader

@@ -1,43 +1,21 @@
-// Formulas, commands and judgements.
-ghost use Rattle.std.specs.Prelude.{◌≡◌};
+// Sorts of data and judgements.
+ghost use Rattle.std.specs.Prelude.{◌≡◌, map};
+ghost use Rattle.std.specs.Option.{option_map};
 ghost use Rattle.dom_terms.specs.Sorts.{data_sort_of};
-ghost use Rattle.formula_syntax.specs.Formulas.{formula_of};
-ghost use Rattle.dom_syntax.specs.Commands.{command_of};
+ghost use Rattle.dom_terms.specs.Terms.{prog_var_of};
 ghost use Rattle.dom_syntax.specs.Judgements.{judgement_of};
 ghost use Rattle.token_readers.specs.Reading.{leaf};
 ghost use Rattle.token_readers.specs.Giving.{Gives};
 ghost use Rattle.token_readers.specs.Leaves.{seen, lexemes_in};
-ghost use Rattle.proof_text.specs.Readers.{leaf_sort, formula_at, command_at, judgement_at};
-ghost use Rattle.std.specs.Option.{option_map};
+ghost use Rattle.proof_text.specs.Readers.{leaf_sort, judgement_at};
 
-use dom_syntax::{Command, Judgement, Triple};
-use dom_terms::DataSort;
-use formula_syntax::Formula;
+use crate::commands::command;
+use crate::formulas::formula;
+use dom_syntax::{Judgement, Triple};
+use dom_terms::{DataSort, Vars};
+use std::alloc::Global;
 use text_tokens::Token;
-use token_readers::{ReadFault, after, expect};
-
-/// A formula: `true` or `0g`.
-#[tactic(auto, unfolding(crate::specs::Readers::formula_at))]
-pub fn formula(tokens: &[Token]) -> Result<(Formula, &[Token]), ReadFault>
-    ensures { Gives (λ x. (formula_of x.0, lexemes_in x.1.now)) result (formula_at (lexemes_in tokens.now)) }
-{
-    if let Some(rest) = after(tokens, "true") {
-        return Ok((Formula::True, rest));
-    }
-    if let Some(rest) = after(tokens, "0g") {
-        return Ok((Formula::EmptyGrove, rest));
-    }
-    Err(ReadFault::Text(tokens.len()))
-}
-
-/// A command: `skip`.
-#[tactic(auto, unfolding(crate::specs::Readers::command_at))]
-pub fn command(tokens: &[Token]) -> Result<(Command, &[Token]), ReadFault>
-    ensures { Gives (λ x. (command_of x.0, lexemes_in x.1.now)) result (command_at (lexemes_in tokens.now)) }
-{
-    let rest = expect(tokens, "skip")?;
-    Ok((Command::Skip, rest))
-}
+use token_readers::{ReadFault, expect};
 
 fn sort_of(token: &Token) -> Option<DataSort>
     ensures { option_map data_sort_of result ≡ leaf_sort (seen token.now) }
@@ -63,15 +41,21 @@ pub fn data_sort(tokens: &[Token]) -> Result<(DataSort, &[Token]), ReadFault>
 
 /// A judgement: a triple.
 #[tactic(auto, unfolding(crate::specs::Readers::judgement_at))]
-pub fn judgement(tokens: &[Token]) -> Result<(Judgement, &[Token]), ReadFault>
-    ensures { Gives (λ x. (judgement_of x.0, lexemes_in x.1.now)) result (judgement_at (lexemes_in tokens.now)) }
+pub fn judgement<'a>(
+    alloc: Global,
+    declared: &Vars,
+    depth: u32,
+    tokens: &'a [Token],
+) -> Result<(Judgement, &'a [Token]), ReadFault>
+    ensures { Gives (λ x. (judgement_of x.0, lexemes_in x.1.now)) result
+        (judgement_at (map prog_var_of declared.now) depth u32.MAX (lexemes_in tokens.now)) }
 {
     let rest = expect(tokens, "pre")?;
-    let (pre, rest) = formula(rest)?;
+    let (pre, rest) = formula(alloc, declared, depth, rest)?;
     let rest = expect(rest, "do")?;
-    let (command, rest) = command(rest)?;
+    let (command, rest) = command(alloc, declared, depth, rest)?;
     let rest = expect(rest, "post")?;
-    let (post, rest) = formula(rest)?;
+    let (post, rest) = formula(alloc, declared, depth, rest)?;
     let rest = expect(rest, "at")?;
     let (sort, rest) = data_sort(rest)?;
     let triple = Triple {

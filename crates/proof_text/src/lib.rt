@@ -3,9 +3,13 @@
 //! Stands on the readers of tokens, the types of theories and the grammar.
 #![tactic(auto)]
 
+mod commands;
+mod declarations;
+mod formulas;
 mod judgements;
 mod procedures;
 mod steps;
+mod terms;
 mod theories;
 
-pub use theories::read_theory;
+pub use theories::{MOST_DEPTH, read_theory};

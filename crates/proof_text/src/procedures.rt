@@ -1,54 +1,65 @@
 // Procedures.
-ghost use Rattle.std.specs.Prelude.{◌≡◌, map, [], ◌∷◌};
+ghost use Rattle.std.specs.Prelude.{◌≡◌, [], ◌∷◌, map};
+ghost use Rattle.dom_terms.specs.Sorts.{data_sort_of};
+ghost use Rattle.dom_terms.specs.Terms.{prog_var_of};
 ghost use Rattle.dom_syntax.specs.Theories.{procedure_of};
 ghost use Rattle.token_readers.specs.Giving.{Gives};
 ghost use Rattle.token_readers.specs.Leaves.{lexemes_in};
-ghost use Rattle.proof_text.specs.Readers.{header_at, procedure_tail, more_procedures_at, procedures_at};
 ghost use Rattle.token_readers.proofs.Lists.{with_front};
+ghost use Rattle.proof_text.specs.Readers.{contents_at, procedure_tail, more_procedures_at, procedures_at};
 
-use crate::judgements::{command, data_sort, formula};
+use crate::commands::command;
+use crate::declarations::{declarations, joined};
+use crate::formulas::formula;
+use crate::judgements::data_sort;
 use crate::steps::steps;
 use dom_syntax::{Procedure, Procedures};
-use dom_terms::{Text, Vars};
+use dom_terms::{DataSort, Text, Vars};
 use std::alloc::Global;
 use text_tokens::Token;
 use token_readers::{ReadFault, after, expect, name};
 
-// A procedure's name, and what stands before its sort.
-#[tactic(auto, unfolding(crate::specs::Readers::header_at))]
-fn header(alloc: Global, tokens: &[Token]) -> Result<(Text, &[Token]), ReadFault>
-    ensures { Gives (λ x. (x.0, lexemes_in x.1.now)) result (header_at (lexemes_in tokens.now)) }
-{
-    let (name, rest) = name(alloc, tokens)?;
-    let rest = expect(rest, "(")?;
-    let rest = expect(rest, ")")?;
-    let rest = expect(rest, "returns")?;
-    let rest = expect(rest, "(")?;
-    let rest = expect(rest, ")")?;
-    let rest = expect(rest, "sort")?;
-    Ok((name, rest))
+// What stands before the requires of a procedure.
+#[derive(Drop)]
+struct Header {
+    name: Text,
+    params: Vars,
+    results: Vars,
+    sort: DataSort,
 }
 
-// What stands behind the word `proc`.
-#[tactic(auto, unfolding(crate::specs::Readers::procedure_tail))]
-fn procedure(alloc: Global, tokens: &[Token]) -> Result<(Procedure, &[Token]), ReadFault>
-    ensures { Gives (λ x. (procedure_of x.0, lexemes_in x.1.now)) result (procedure_tail u32.MAX (lexemes_in tokens.now)) }
+// What stands behind the header.
+#[tactic(auto, unfolding(crate::specs::Readers::contents_at))]
+fn contents<'a>(
+    alloc: Global,
+    header: Header,
+    depth: u32,
+    tokens: &'a [Token],
+) -> Result<(Procedure, &'a [Token]), ReadFault>
+    ensures { Gives (λ x. (procedure_of x.0, lexemes_in x.1.now)) result
+        (contents_at depth u32.MAX header.name (map prog_var_of header.params) (map prog_var_of header.results)
+        (data_sort_of header.sort) (lexemes_in tokens.now)) }
 {
-    let (name, rest) = header(alloc, tokens)?;
-    let (sort, rest) = data_sort(rest)?;
-    let rest = expect(rest, "requires")?;
-    let (pre, rest) = formula(rest)?;
+    let declared = joined(alloc, &header.params, &header.results)?;
+    let rest = expect(tokens, "requires")?;
+    let (pre, rest) = formula(alloc, &declared, depth, rest)?;
     let rest = expect(rest, "ensures")?;
-    let (post, rest) = formula(rest)?;
+    let (post, rest) = formula(alloc, &declared, depth, rest)?;
     let rest = expect(rest, "body")?;
-    let (body, rest) = command(rest)?;
+    let (body, rest) = command(alloc, &declared, depth, rest)?;
     let rest = expect(rest, "proof")?;
-    let (proof, rest) = steps(alloc, rest)?;
+    let (proof, rest) = steps(alloc, &declared, depth, rest)?;
     let rest = expect(rest, "end")?;
+    let Header {
+        name,
+        params,
+        results,
+        sort,
+    } = header;
     let procedure = Procedure {
         name,
-        params: Vars::new(alloc),
-        results: Vars::new(alloc),
+        params,
+        results,
         sort,
         pre,
         post,
@@ -58,14 +69,39 @@ fn procedure(alloc: Global, tokens: &[Token]) -> Result<(Procedure, &[Token]), R
     Ok((procedure, rest))
 }
 
+// What stands behind the word `proc`.
+#[tactic(auto, unfolding(crate::specs::Readers::procedure_tail))]
+fn procedure(
+    alloc: Global,
+    depth: u32,
+    tokens: &[Token],
+) -> Result<(Procedure, &[Token]), ReadFault>
+    ensures { Gives (λ x. (procedure_of x.0, lexemes_in x.1.now)) result (procedure_tail depth u32.MAX (lexemes_in tokens.now)) }
+{
+    let (name, rest) = name(alloc, tokens)?;
+    let (params, rest) = declarations(alloc, rest)?;
+    let rest = expect(rest, "returns")?;
+    let (results, rest) = declarations(alloc, rest)?;
+    let rest = expect(rest, "sort")?;
+    let (sort, rest) = data_sort(rest)?;
+    let header = Header {
+        name,
+        params,
+        results,
+        sort,
+    };
+    contents(alloc, header, depth, rest)
+}
+
 // The procedures behind those found, as long as one begins.
 fn more_procedures<'a>(
     alloc: Global,
     first: Procedure,
+    depth: u32,
     tokens: &'a [Token],
 ) -> Result<(Procedures, &'a [Token]), ReadFault>
     ensures { Gives (λ x. (map procedure_of x.0, lexemes_in x.1.now)) result
-        (with_front (procedure_of first ∷ []) (more_procedures_at u32.MAX (lexemes_in tokens.now))) }
+        (with_front (procedure_of first ∷ []) (more_procedures_at depth u32.MAX (lexemes_in tokens.now))) }
 {
     let mut found = Procedures::new(alloc);
     found.push(first)?;
@@ -73,7 +109,7 @@ fn more_procedures<'a>(
     for _ in 0..u32::MAX {
         match after(rest, "proc") {
             Some(behind) => {
-                let (item, next) = procedure(alloc, behind)?;
+                let (item, next) = procedure(alloc, depth, behind)?;
                 found.push(item)?;
                 rest = next;
             }
@@ -85,10 +121,14 @@ fn more_procedures<'a>(
 
 /// One procedure or more.
 #[tactic(auto, unfolding(crate::specs::Readers::procedures_at))]
-pub fn procedures(alloc: Global, tokens: &[Token]) -> Result<(Procedures, &[Token]), ReadFault>
-    ensures { Gives (λ x. (map procedure_of x.0, lexemes_in x.1.now)) result (procedures_at u32.MAX (lexemes_in tokens.now)) }
+pub fn procedures(
+    alloc: Global,
+    depth: u32,
+    tokens: &[Token],
+) -> Result<(Procedures, &[Token]), ReadFault>
+    ensures { Gives (λ x. (map procedure_of x.0, lexemes_in x.1.now)) result (procedures_at depth u32.MAX (lexemes_in tokens.now)) }
 {
     let rest = expect(tokens, "proc")?;
-    let (first, rest) = procedure(alloc, rest)?;
-    more_procedures(alloc, first, rest)
+    let (first, rest) = procedure(alloc, depth, rest)?;
+    more_procedures(alloc, first, depth, rest)
 }

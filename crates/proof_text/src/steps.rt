@@ -1,14 +1,17 @@
 // Steps of proofs.
 ghost use Rattle.std.specs.Prelude.{◌≡◌, map};
+ghost use Rattle.dom_terms.specs.Terms.{prog_var_of, term_of};
 ghost use Rattle.dom_syntax.specs.Judgements.{step_of};
 ghost use Rattle.token_readers.specs.Reading.{leaf, sep_list, many};
 ghost use Rattle.token_readers.specs.Giving.{Gives};
 ghost use Rattle.token_readers.specs.Leaves.{lexemes_in, leaf_number, leaf_step};
-ghost use Rattle.proof_text.specs.Readers.{comma, premises_at, step_tail};
+ghost use Rattle.proof_text.specs.Expressions.{term_at};
+ghost use Rattle.proof_text.specs.Readers.{comma, bracketed_at, arguments_at, step_tail};
 
 use crate::judgements::judgement;
+use crate::terms::term;
 use dom_syntax::{Reason, Step, Steps};
-use dom_terms::{Numbers, Terms};
+use dom_terms::{Numbers, Terms, Vars};
 use std::alloc::Global;
 use text_tokens::Token;
 use token_readers::{ReadFault, after, expect, number, step_line, word};
@@ -30,10 +33,10 @@ fn numbers(alloc: Global, tokens: &[Token]) -> Result<(Numbers, &[Token]), ReadF
     Err(ReadFault::Memory)
 }
 
-/// The numbers of the steps that a step cites, in brackets.
-#[tactic(auto, unfolding(crate::specs::Readers::premises_at))]
+// The numbers of the steps that a step cites, in brackets.
+#[tactic(auto, unfolding(crate::specs::Readers::bracketed_at))]
 fn premises(alloc: Global, tokens: &[Token]) -> Result<(Numbers, &[Token]), ReadFault>
-    ensures { Gives (λ x. (x.0, lexemes_in x.1.now)) result (premises_at u32.MAX (lexemes_in tokens.now)) }
+    ensures { Gives (λ x. (x.0, lexemes_in x.1.now)) result (bracketed_at (leaf leaf_number) u32.MAX (lexemes_in tokens.now)) }
 {
     let rest = expect(tokens, "(")?;
     if let Some(behind) = after(rest, ")") {
@@ -44,22 +47,73 @@ fn premises(alloc: Global, tokens: &[Token]) -> Result<(Numbers, &[Token]), Read
     Ok((found, rest))
 }
 
+// One or more terms with commas between them.
+fn terms<'a>(
+    alloc: Global,
+    declared: &Vars,
+    depth: u32,
+    tokens: &'a [Token],
+) -> Result<(Terms, &'a [Token]), ReadFault>
+    ensures { Gives (λ x. (map term_of x.0, lexemes_in x.1.now)) result
+        (sep_list comma (term_at (map prog_var_of declared.now) depth) u32.MAX (lexemes_in tokens.now)) }
+{
+    let mut found = Terms::new(alloc);
+    let mut rest = tokens;
+    for _ in 0..u32::MAX {
+        let (item, behind) = term(alloc, declared, depth, rest)?;
+        found.push(item)?;
+        match after(behind, ",") {
+            Some(next) => rest = next,
+            None => return Ok((found, behind)),
+        }
+    }
+    Err(ReadFault::Memory)
+}
+
+// The arguments of a rule, behind the word `with`.
+#[tactic(auto, unfolding(crate::specs::Readers::arguments_at))]
+fn arguments<'a>(
+    alloc: Global,
+    declared: &Vars,
+    depth: u32,
+    tokens: &'a [Token],
+) -> Result<(Terms, &'a [Token]), ReadFault>
+    ensures { Gives (λ x. (map term_of x.0, lexemes_in x.1.now)) result
+        (arguments_at (map prog_var_of declared.now) depth u32.MAX (lexemes_in tokens.now)) }
+{
+    let Some(rest) = after(tokens, "with") else {
+        return Ok((Terms::new(alloc), tokens));
+    };
+    let rest = expect(rest, "(")?;
+    let (found, rest) = terms(alloc, declared, depth, rest)?;
+    let rest = expect(rest, ")")?;
+    Ok((found, rest))
+}
+
 // What stands behind the word `step`, which is on the line.
 #[tactic(auto, unfolding(crate::specs::Readers::step_tail))]
-fn step(alloc: Global, line: u32, tokens: &[Token]) -> Result<(Step, &[Token]), ReadFault>
-    ensures { Gives (λ x. (step_of x.0, lexemes_in x.1.now)) result (step_tail u32.MAX line (lexemes_in tokens.now)) }
+fn step<'a>(
+    alloc: Global,
+    declared: &Vars,
+    depth: u32,
+    line: u32,
+    tokens: &'a [Token],
+) -> Result<(Step, &'a [Token]), ReadFault>
+    ensures { Gives (λ x. (step_of x.0, lexemes_in x.1.now)) result
+        (step_tail (map prog_var_of declared.now) depth u32.MAX line (lexemes_in tokens.now)) }
 {
     let (number, rest) = number(tokens)?;
     let rest = expect(rest, "by")?;
     let (name, rest) = word(alloc, rest)?;
     let (premises, rest) = premises(alloc, rest)?;
+    let (arguments, rest) = arguments(alloc, declared, depth, rest)?;
     let rest = expect(rest, ":")?;
-    let (judgement, rest) = judgement(rest)?;
+    let (judgement, rest) = judgement(alloc, declared, depth, rest)?;
     let rest = expect(rest, ";")?;
     let reason = Reason::Rule {
         name,
         premises,
-        arguments: Terms::new(alloc),
+        arguments,
     };
     let step = Step {
         number,
@@ -71,15 +125,21 @@ fn step(alloc: Global, line: u32, tokens: &[Token]) -> Result<(Step, &[Token]), 
 }
 
 /// The steps of a proof, as long as one begins.
-pub fn steps(alloc: Global, tokens: &[Token]) -> Result<(Steps, &[Token]), ReadFault>
-    ensures { Gives (λ x. (map step_of x.0, lexemes_in x.1.now)) result (many leaf_step (step_tail u32.MAX) u32.MAX (lexemes_in tokens.now)) }
+pub fn steps<'a>(
+    alloc: Global,
+    declared: &Vars,
+    depth: u32,
+    tokens: &'a [Token],
+) -> Result<(Steps, &'a [Token]), ReadFault>
+    ensures { Gives (λ x. (map step_of x.0, lexemes_in x.1.now)) result
+        (many leaf_step (step_tail (map prog_var_of declared.now) depth u32.MAX) u32.MAX (lexemes_in tokens.now)) }
 {
     let mut found = Steps::new(alloc);
     let mut rest = tokens;
     for _ in 0..u32::MAX {
         match step_line(rest) {
             Some((line, behind)) => {
-                let (item, next) = step(alloc, line, behind)?;
+                let (item, next) = step(alloc, declared, depth, line, behind)?;
                 found.push(item)?;
                 rest = next;
             }

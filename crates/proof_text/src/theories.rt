@@ -1,5 +1,5 @@
 // Theories.
-ghost use Rattle.std.specs.Prelude.{◌≡◌, ◌<◌, length, IfOk, IsErrOf};
+ghost use Rattle.std.specs.Prelude.{◌≡◌, IfOk, IsErrOf};
 ghost use Rattle.model_programs.specs.Theories.{Theory as Spelled};
 ghost use Rattle.model_grammar.specs.Grammar.{SpellsTheory};
 ghost use Rattle.dom_syntax.specs.Theories.{theory_of};
@@ -15,13 +15,17 @@ use std::alloc::Global;
 use text_tokens::{Token, Tokens};
 use token_readers::{ReadFault, TextFault, expect, number};
 
+/// The deepest nesting of terms, formulas and commands that is read, which is more than a file may
+/// have; a deeper one is answered as want of memory.
+pub const MOST_DEPTH: u32 = 128;
+
 #[tactic(auto, unfolding(crate::specs::Readers::theory_at))]
 fn theory(alloc: Global, tokens: &[Token]) -> Result<(Theory, &[Token]), ReadFault>
-    ensures { Gives (λ x. (theory_of x.0, lexemes_in x.1.now)) result (theory_at u32.MAX (lexemes_in tokens.now)) }
+    ensures { Gives (λ x. (theory_of x.0, lexemes_in x.1.now)) result (theory_at MOST_DEPTH u32.MAX (lexemes_in tokens.now)) }
 {
     let rest = expect(tokens, "domlogic")?;
     let (version, rest) = number(rest)?;
-    let (procedures, rest) = procedures(alloc, rest)?;
+    let (procedures, rest) = procedures(alloc, MOST_DEPTH, rest)?;
     let theory = Theory {
         version,
         logic: LogicVars::new(alloc),
@@ -31,7 +35,7 @@ fn theory(alloc: Global, tokens: &[Token]) -> Result<(Theory, &[Token]), ReadFau
 }
 
 fn whole_theory(alloc: Global, tokens: &[Token]) -> Result<Theory, ReadFault>
-    ensures { Gives theory_of result (whole (theory_at u32.MAX) (lexemes_in tokens.now)) }
+    ensures { Gives theory_of result (whole (theory_at MOST_DEPTH u32.MAX) (lexemes_in tokens.now)) }
 {
     let (found, rest) = theory(alloc, tokens)?;
     if rest.is_empty() {
@@ -43,7 +47,6 @@ fn whole_theory(alloc: Global, tokens: &[Token]) -> Result<Theory, ReadFault>
 
 /// The theory that the tokens spell, all of them. `BadText` comes exactly where they spell none.
 pub fn read_theory(alloc: Global, tokens: &Tokens) -> Result<Theory, TextFault>
-    requires { length tokens.now < 4294967295 }
     ensures found { IfOk result (λ t. SpellsTheory (theory_of t) (lexemes_in tokens.now)) }
     ensures bad_text { IsErrOf result TextFault.BadText → (t : Spelled) → SpellsTheory t (lexemes_in tokens.now) → ⊥ }
 {

@@ -1,14 +1,14 @@
 -- Lists with a mark between the items: the reader is right, and a loop reads them.
-use Rattle.std.proofs.Common.{◌≡◌, ℕ, zero, suc, pred, ◌+◌, ◌-◌, ◌<◌, ◌≤◌, Bool, true, false, List, [], ◌∷◌, ◌++◌, Option, Some, None, option_map, Ok, Err, refl, sym, ap, subst, ◌∙◌, append_assoc, append-nil, arith}
+use Rattle.std.proofs.Common.{◌≡◌, ℕ, zero, suc, pred, ◌+◌, ◌-◌, ◌<◌, ◌≤◌, Bool, true, false, List, [], ◌∷◌, ◌++◌, length, Option, Some, None, option_map, Result, Ok, Err, refl, sym, ap, subst, ◌∙◌, append_assoc, append-nil, arith}
 use Rattle.std.specs.Prelude as std
 use Rattle.model_text.specs.Lexemes.{Lexeme, terminal}
 use Rattle.token_readers.specs.Reading.{after, is_terminal}
 use Rattle.token_readers.proofs.TerminalTests.{text_refl}
-use Rattle.token_readers.specs.Reading.{At, Answer, Read, ◌>>=◌, ret, when, sep_list, many, begins, first, begun, is_none, not_begun, not_next}
+use Rattle.token_readers.specs.Reading.{Stop, At, Deep, Answer, Read, ◌>>=◌, ret, then, when, either, sep_list, many, begins, first, begun, is_none, not_begun, not_next}
 use Rattle.token_readers.specs.declared.fault.ReadFault.{ReadFault}
 use Rattle.token_readers.specs.declared.fault.ReadFault.TheVariants as faults
 use Rattle.token_readers.specs.Giving.{Fails}
-use Rattle.token_readers.proofs.Sound.{Sound, After, s_ret, s_then, s_deep, s_less, s_step, s_begins, begins_yes, when_yes}
+use Rattle.token_readers.proofs.Sound.{Sound, Behind, After, s_ret, s_then, s_deep, s_less, s_step, s_begins, begins_yes, when_yes}
 use Rattle.token_readers.proofs.Only.{Only, OrDeep, deep, read, Prefix_free, o_last, o_then}
 
 pub data SpellsList {A : Type 0} (sep : List ℕ) (L : A → List Lexeme → Type 0) : List A → List Lexeme → Type 0 where
@@ -32,7 +32,7 @@ not_true : (b : Bool) → std.not b ≡ true → b ≡ false
 not_true false e = refl
 not_true true e = absurd cc
 
-ends_list : {A : Type 0} (sep : List ℕ) (r : Read A) (a : A) (rest : List Lexeme) → not_next sep rest ≡ true → OrDeep (when sep r (ret a) rest) a rest
+pub ends_list : {A : Type 0} (sep : List ℕ) (r : Read A) (a : A) (rest : List Lexeme) → not_next sep rest ≡ true → OrDeep (when sep r (ret a) rest) a rest
 ends_list sep r a [] st = read
 ends_list sep r a (t ∷ ts) st = let h : is_terminal sep t ≡ false = not_true (is_terminal sep t) st in rw h read
 

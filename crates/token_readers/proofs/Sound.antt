@@ -1,9 +1,9 @@
 -- What makes a reader right for a language, and the rules by which readers are put together.
-use Rattle.std.proofs.Common.{◌≡◌, ℕ, suc, ◌+◌, ◌<◌, ◌≤◌, Bool, true, false, cond, List, [], ◌∷◌, ◌++◌, length, Option, Some, None, option_map, Result, Ok, Err, refl, sym, ap, subst, ◌∙◌, append_assoc, arith, ◌⊎◌, inl, inr, length-append}
+use Rattle.std.proofs.Common.{◌≡◌, ℕ, zero, suc, ◌+◌, ◌<◌, ◌≤◌, Bool, true, false, cond, List, [], ◌∷◌, ◌++◌, length, Option, Some, None, option_map, Result, Ok, Err, refl, sym, ap, subst, ◌∙◌, append_assoc, arith, ◌⊎◌, inl, inr, length-append, add-one}
 use Rattle.model_text.specs.Lexemes.{Lexeme, terminal}
-use Rattle.token_readers.specs.Reading.{is_terminal}
+use Rattle.token_readers.specs.Reading.{is_terminal, after}
 use Rattle.token_readers.proofs.TerminalTests.{is_terminal_is}
-use Rattle.token_readers.specs.Reading.{Stop, At, Deep, Answer, Read, ◌>>=◌, ret, fail, then, either, when, rest_or, expect, leaf, begins, begun, the_terminal}
+use Rattle.token_readers.specs.Reading.{Stop, At, Deep, Answer, Read, ◌>>=◌, ret, fail, then, either, when, rest_or, terminal_at, expect, leaf, leaf_or, begins, begun, the_terminal}
 
 pub bind_ok : {A B : Type 0} (r : Result A Stop) (f : A → Result B Stop) (y : B) → (r >>= f) ≡ Ok y → (x : A) × (r ≡ Ok x) × (f x ≡ Ok y)
 bind_ok (Ok x) f y e = (x, refl, e)

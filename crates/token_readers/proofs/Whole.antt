@@ -1,10 +1,10 @@
 -- A reader of whole lists is exact, with its fault token.
-use Rattle.std.proofs.Common.{◌≡◌, ℕ, suc, ◌-◌, ◌<◌, ◌≤◌, Bool, true, List, [], ◌∷◌, ◌++◌, length, take, drop, Ok, Err, refl, sym, ap, subst, ◌∙◌, append_assoc, append-nil, arith, ◌⊎◌, inl, inr, length-append}
-use Rattle.std.proofs.lemmas.List.{take-append-drop, take-append-le}
-use Rattle.model_text.specs.Lexemes.{Lexeme}
-use Rattle.token_readers.specs.Reading.{At, Deep, Answer, Read, ◌>>=◌}
+use Rattle.std.proofs.Common.{◌≡◌, ℕ, zero, suc, ◌+◌, ◌-◌, ◌<◌, ◌≤◌, Bool, true, false, cond, List, [], ◌∷◌, ◌++◌, length, take, drop, Option, Some, None, Result, Ok, Err, refl, sym, ap, subst, ◌∙◌, append_assoc, append-nil, arith, ◌⊎◌, inl, inr, length-append, add-one}
+use Rattle.std.proofs.lemmas.List.{take-append-drop, take-append-le, take_at}
+use Rattle.model_text.specs.Lexemes.{Lexeme, terminal}
+use Rattle.token_readers.specs.Reading.{Stop, At, Deep, Answer, Read, ◌>>=◌}
 use Rattle.token_readers.specs.Spelling.{Begins, IsFaultToken, ended, whole}
-use Rattle.token_readers.proofs.Sound.{Sound, ok_parts, bind_ok, bind_err, bind_then}
+use Rattle.token_readers.proofs.Sound.{Sound, ok_parts, bind_ok, bind_err, bind_then, bind_stop}
 use Rattle.token_readers.proofs.Only.{Only, OrDeep, deep, read}
 
 -- no answer of the reader is two things

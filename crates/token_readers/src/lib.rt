@@ -9,4 +9,4 @@ mod terminals;
 
 pub use fault::{ReadFault, TextFault};
 pub use leaves::{name, number, step_line, word};
-pub use terminals::{after, expect};
+pub use terminals::{after, expect, is_this};

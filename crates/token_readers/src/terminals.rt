@@ -8,7 +8,8 @@ ghost use Rattle.token_readers.specs.Leaves.{seen, lexemes_in};
 use crate::fault::ReadFault;
 use text_tokens::Token;
 
-fn is_this(token: &Token, text: &str) -> bool
+/// Whether the token is this reserved word or symbol.
+pub fn is_this(token: &Token, text: &str) -> bool
     ensures { result ≡ is_terminal text.now (seen token.now) }
 {
     token.is_terminal(text)

@@ -1,26 +1,43 @@
-use Rattle.std.proofs.Common.{◌≡◌, ◌+◌, sym, subst, refl, arith, length, List, map, true, false, Bool, ap}
-use Rattle.std.proofs.lemmas.List.{length-map}
+use Rattle.std.proofs.Common.{◌≡◌, ◌∙◌, ℕ, sym, subst, refl, List, map, true, false, Bool, ◌&&◌, ap}
 use Rattle.model_text.specs.Lexemes.{Lexeme}
+use Rattle.model_text.specs.Tokens.{tokens_of}
+use Rattle.text_tokens.specs.declared.tokens.Token.{Token}
+use Rattle.text_tokens.specs.Tokens.{token_of}
+use Rattle.token_readers.specs.Leaves.{lexemes_in}
 use Rattle.model_programs.specs.Theories.{Theory}
 use Rattle.model_grammar.specs.Grammar.{SpellsTheory}
-use Rattle.model_grammar.specs.Files.{IsOfForm, lexemes_of}
-use Rattle.text_tokens.specs.Tokens.{token_of}
+use Rattle.model_grammar.specs.Files.{IsOfForm, lexemes_of, nests_within, texts_within}
 use Rattle.dom_syntax.specs.Theories.{theory_of}
 use Rattle.proof_text.proofs.Exact.{one_theory}
-use Rattle.domcheck_core.proofs.Counts.{few_tokens}
 use Rattle.domcheck_core.proofs.Spelling.{same_lexemes}
 use Rattle.domcheck_core.proofs.file.read_file.Goals as goal
 
 not_both : (b : Bool) → b ≡ false → b ≡ true → ⊥
 not_both b e f = cc
 
-pub read_theory-requires : goal.read_theory-requires
-read_theory-requires c =
-    omega (arith, c.requires, few_tokens c.args.bytes.now, length-map c.in_ok-tokens.tokens token_of, ap length c.in_ok-tokens.ensures)
+both : (a b : Bool) → (a && b) ≡ true → (a ≡ true) × (b ≡ true)
+both true true e = (refl, refl)
+both true false e = absurd cc
+both false b e = absurd cc
+
+neither : (a b : Bool) → a ≡ true → b ≡ true → (a && b) ≡ false → ⊥
+neither true true e f h = absurd cc
+neither true false e f h = absurd cc
+neither false b e f h = absurd cc
+
+-- the test of the tokens is the test of the lexemes
+tested : (bytes : List ℕ) (slice ts : List Token) (r b : Bool) → slice ≡ ts → map token_of ts ≡ tokens_of bytes
+    → r ≡ (nests_within 0 (lexemes_in slice) && texts_within (lexemes_in slice)) → r ≡ b
+    → (nests_within 0 (lexemes_of bytes) && texts_within (lexemes_of bytes)) ≡ b
+tested bytes slice ts r b e h q d =
+    ap (λ (z : List Lexeme). nests_within 0 z && texts_within z)
+    (sym (same_lexemes bytes slice (ap (map token_of) e ∙ h))) ∙ sym q ∙ d
 
 pub returns-then-branch : goal.returns-then-branch
 returns-then-branch c = record {
   small = c.requires;
+  nesting = (both _ _ (tested c.args.bytes.now _ _ _ true c.as_slice.ensures c.in_ok-tokens.ensures c.are_within.ensures c.if-not-are_within.false)).0;
+  texts = (both _ _ (tested c.args.bytes.now _ _ _ true c.as_slice.ensures c.in_ok-tokens.ensures c.are_within.ensures c.if-not-are_within.false)).1;
   spelled = subst (λ (z : List Lexeme). SpellsTheory (theory_of c.in-Ok.theory) z) (same_lexemes c.args.bytes.now _ c.in_ok-tokens.ensures) c.in-Ok.ensures.found;
   of_form = c.in_ok-is_of_form-in-Ok.ensures.0 c.if-branch.true;
 }
@@ -36,3 +53,8 @@ pub returns-in-Err-BadText : goal.returns-in-Err-BadText
 returns-in-Err-BadText c = λ t spells.
     (rw c.in-Err-BadText.field-0-is at c.in-Err-BadText.ensures.bad_text) refl t
     (subst (λ (z : List Lexeme). SpellsTheory t z) (sym (same_lexemes c.args.bytes.now _ c.in_ok-tokens.ensures)) spells.spelled)
+
+pub returns-then-not-are_within : goal.returns-then-not-are_within
+returns-then-not-are_within c = λ t spells.
+    neither _ _ spells.nesting spells.texts
+    (tested c.args.bytes.now _ _ _ false c.as_slice.ensures c.in_ok-tokens.ensures c.are_within.ensures c.if-not-are_within.true)

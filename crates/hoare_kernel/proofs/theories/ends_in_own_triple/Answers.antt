@@ -1,8 +1,9 @@
-use Rattle.std.proofs.Common.{◌≡◌, ◌∙◌, sym, ap, subst, arith, map, length, ◌-◌, Some}
+use Rattle.std.proofs.Common.{◌≡◌, ◌∙◌, sym, ap, subst, arith, List, map, length, get_or, ◌-◌, suc, Some, IfOk, Bool}
 use Rattle.dom_syntax.specs.declared.steps.Step.{Step}
 use Rattle.dom_syntax.specs.Judgements.{step_of, judgement_of}
+use Rattle.dom_syntax.specs.Theories.{procedure_of}
 use Rattle.hoare_kernel.specs.Sizes.{JudgementIsSmall}
-use Rattle.hoare_kernel.specs.Tests.{last_step}
+use Rattle.hoare_kernel.specs.Tests.{own_last, own_test, last_step}
 use Rattle.hoare_kernel.proofs.Last.{at_last, small_at}
 use Rattle.hoare_kernel.proofs.theories.ends_in_own_triple.Goals as goal
 

@@ -1,4 +1,4 @@
-use Rattle.std.proofs.Common.{sym}
+use Rattle.std.proofs.Common.{◌≡◌, sym}
 use Rattle.std.proofs.lemmas.Result.{err_from_is_err_and}
 use Rattle.token_readers.specs.Reading.{leaf}
 use Rattle.token_readers.specs.Leaves.{leaf_number}

@@ -1,0 +1,13 @@
+use Rattle.std.proofs.Common.{◌≡◌, ◌≤◌, ◌+◌, length, map}
+use Rattle.dom_syntax.specs.Theories.{procedure_of}
+use Rattle.model_grammar.specs.Files.{step_count}
+use Rattle.domcheck_core.proofs.limits.count_steps.Given as goal
+
+abbrev pub invariant-procedures : goal.invariant-procedures
+invariant-procedures l = record {
+  same : step_count (map procedure_of l.procedures) ≡ l.count + step_count (map procedure_of l.rest);
+  few : l.count ≤ 65535;
+}
+
+abbrev pub decreases-procedures : goal.decreases-procedures
+decreases-procedures l = length l.rest

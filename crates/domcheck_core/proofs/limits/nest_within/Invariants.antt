@@ -1,0 +1,13 @@
+use Rattle.std.proofs.Common.{◌≡◌, ◌≤◌, length}
+use Rattle.token_readers.specs.Leaves.{lexemes_in}
+use Rattle.model_grammar.specs.Files.{nests_within}
+use Rattle.domcheck_core.proofs.limits.nest_within.Given as goal
+
+abbrev pub invariant-tokens : goal.invariant-tokens
+invariant-tokens l = record {
+  same : nests_within 0 (lexemes_in l.tokens) ≡ nests_within l.depth (lexemes_in l.rest);
+  few : l.depth ≤ 100;
+}
+
+abbrev pub decreases-tokens : goal.decreases-tokens
+decreases-tokens l = length l.rest

@@ -1,0 +1,130 @@
+// Which tokens and theories are within the limits of a file.
+ghost use Rattle.std.specs.Prelude.{◌≡◌, ◌<◌, ◌≤◌, ◌&&◌, MatchOption, map};
+ghost use Rattle.dom_syntax.specs.Theories.{procedure_of};
+ghost use Rattle.token_readers.specs.Leaves.{seen, lexemes_in};
+ghost use Rattle.model_grammar.specs.Files as files;
+
+use dom_syntax::Procedure;
+use text_tokens::Token;
+use token_readers::is_this;
+
+/// The most brackets that are open at one token.
+const MOST_OPEN: u32 = 100;
+
+/// The most bytes of a text.
+const MOST_TEXT: usize = 4096;
+
+/// The most variables of a procedure.
+const MOST_VARIABLES: usize = 64;
+
+/// The most steps of the proofs of a file.
+const MOST_STEPS: usize = 65_535;
+
+// Whether the token is an opening bracket.
+fn opens(token: &Token) -> bool
+    ensures { result ≡ files.opens (seen token.now) }
+{
+    is_this(token, "(") || is_this(token, "[") || is_this(token, "{") || is_this(token, "<")
+}
+
+// Whether the token is a closing bracket.
+fn closes(token: &Token) -> bool
+    ensures { result ≡ files.closes (seen token.now) }
+{
+    is_this(token, ")") || is_this(token, "]") || is_this(token, "}") || is_this(token, ">")
+}
+
+// How many brackets are open behind the token, where so many are open before it.
+fn open_behind(before: u32, token: &Token) -> u32
+    requires { before ≤ 100 }
+    ensures { result ≡ files.open_behind before (seen token.now) }
+{
+    if opens(token) {
+        before + 1
+    } else if closes(token) {
+        before.saturating_sub(1)
+    } else {
+        before
+    }
+}
+
+// Whether never more brackets are open than the most.
+fn nest_within(tokens: &[Token]) -> bool
+    ensures { result ≡ files.nests_within 0 (lexemes_in tokens.now) }
+{
+    let mut rest = tokens;
+    let mut depth = 0u32;
+    'tokens: while let [first, others @ ..] = rest {
+        depth = open_behind(depth, first);
+        if depth > MOST_OPEN {
+            return false;
+        }
+        rest = others;
+    }
+    true
+}
+
+// Whether the token stands for no longer text than the most.
+fn is_text_within(token: &Token) -> bool
+    ensures { result ≡ files.text_within (seen token.now) }
+{
+    match token.literal() {
+        Some(text) => text.len() <= MOST_TEXT,
+        None => true,
+    }
+}
+
+// Whether no literal stands for a longer text than the most.
+fn texts_within(tokens: &[Token]) -> bool
+    ensures { result ≡ files.texts_within (lexemes_in tokens.now) }
+{
+    let mut rest = tokens;
+    'tokens: while let [first, others @ ..] = rest {
+        if !is_text_within(first) {
+            return false;
+        }
+        rest = others;
+    }
+    true
+}
+
+/// Whether the brackets and the literals of the tokens are within the limits.
+pub fn are_within(tokens: &[Token]) -> bool
+    ensures { result ≡ (files.nests_within 0 (lexemes_in tokens.now) && files.texts_within (lexemes_in tokens.now)) }
+{
+    nest_within(tokens) && texts_within(tokens)
+}
+
+/// Whether no procedure declares more variables than the most.
+pub fn variables_within(procedures: &[Procedure]) -> bool
+    ensures { result ≡ files.variables_within (map procedure_of procedures.now) }
+{
+    let mut rest = procedures;
+    'procedures: while let [first, others @ ..] = rest {
+        let (params, results) = (first.params.len(), first.results.len());
+        if params > MOST_VARIABLES || results > MOST_VARIABLES - params {
+            return false;
+        }
+        rest = others;
+    }
+    true
+}
+
+/// The number of steps of all proofs, or none where it passes the limit.
+pub fn count_steps(procedures: &[Procedure]) -> Option<usize>
+    ensures { MatchOption result
+        (MOST_STEPS < files.step_count (map procedure_of procedures.now))
+        (λ count. (count ≡ files.step_count (map procedure_of procedures.now)) × (count ≤ MOST_STEPS)) }
+{
+    let mut rest = procedures;
+    let mut count = 0usize;
+    'procedures: while let [first, others @ ..] = rest {
+        let steps = first.proof.len();
+        if steps > MOST_STEPS - count {
+            return None;
+        }
+        count += steps;
+        rest = others;
+    }
+    Some(count)
+}

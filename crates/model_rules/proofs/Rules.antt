@@ -1,0 +1,145 @@
+-- Each row is sound: one lemma for each rule, by the number of steps.
+use Rattle.std.proofs.Common.{◌≡◌, ℕ, zero, suc, List, [], ◌∷◌, cond, sym, refl, ap, ◌∙◌, subst, arith, append-nil, IsTrue}
+use mathlib.Core.Path.{fun_ext}
+use Rattle.model_shapes.specs.Sorts.{shape, context, DataSort, grove}
+use Rattle.model_shapes.specs.Values.{Value}
+use Rattle.model_shapes.specs.Trees.{Trees}
+use Rattle.model_shapes.specs.Shapes.{Shaped}
+use Rattle.model_shapes.specs.Things.{val}
+use Rattle.model_formulas.specs.Variables.{Var, prog, logic, bound}
+use Rattle.model_formulas.specs.Terms.{Term, var_eq}
+use Rattle.model_formulas.specs.Formulas.{Formula}
+use Rattle.model_formulas.specs.Substitution.{formula_with, replacing}
+use Rattle.model_formulas.specs.Satisfaction.{Environment, Meets, Entails, joint}
+use Rattle.model_formulas.specs.Setting.{setting, setting_at}
+use Rattle.model_formulas.proofs.Quantified.{replacing-env}
+use Rattle.model_formulas.proofs.Substitutes.{meets-with}
+use Rattle.model_programs.specs.Stores.{ProgVar, named, as_var, sort_of, is_yes, Store, set, value_in, lookup, value_of, Computes}
+use Rattle.model_programs.specs.Commands.{skip, block, assign, Block}
+use Rattle.model_programs.specs.Theories.{Procedures, Judgement, entails, triple}
+use Rattle.model_programs.specs.Sorting.{Sorted, BlockSorted}
+use Rattle.model_programs.specs.Fitting.{BodiesSorted}
+use Rattle.model_programs.specs.FileFaults.{evaluates}
+use Rattle.model_programs.specs.Machine.{run, pieces_of}
+use Rattle.model_programs.specs.LocalTriples.{TripleFor}
+use Rattle.model_programs.proofs.StoreLaws.{value_in-decided, set-proper, value-fits, meaning-value, proper-store, other-store}
+use Rattle.model_programs.proofs.Runs.{Well, Well-less, at_end, at_step, at_zero, followed}
+use Rattle.model_programs.proofs.FileTests.{sorted-command}
+use Rattle.model_rules.specs.Rows.{Chain, last_link, more_links, Row, skip_row, assign_row, seq_row}
+use Rattle.model_rules.proofs.Ends.{UpTo, At, At-map, Sound, to_sound, from_sound}
+
+-- a store with one variable set is the environment with that variable set
+set-env : (x : ProgVar) (v : Value) (st : Store) (e : Environment)
+    → joint (lookup (set x v st)) e ≡ setting (as_var x) (val v) (joint (lookup st) e)
+set-env x v st e = fun_ext at
+  where
+    at : (y : Var) → joint (lookup (set x v st)) e y ≡ setting (as_var x) (val v) (joint (lookup st) e) y
+    at (prog z u) = ap val (value_in-decided x v st (named z u)) ∙ go (var_eq (prog z u) (as_var x))
+      where
+        go : (b : Dec (prog z u ≡ as_var x)) → val (cond (is_yes b) v (value_in st (named z u))) ≡ setting_at (val v) (joint (lookup st) e) b
+        go (yes q) = refl
+        go (no m) = refl
+    at (logic z u) = go x (var_eq (logic z u) (as_var x))
+      where
+        go : (x : ProgVar) (b : Dec (logic z u ≡ as_var x)) → e (logic z u) ≡ setting_at (val v) (joint (lookup st) e) b
+        go (named y s) (yes q) = absurd cc
+        go x (no m) = refl
+    at (bound i u) = go x (var_eq (bound i u) (as_var x))
+      where
+        go : (x : ProgVar) (b : Dec (bound i u ≡ as_var x)) → e (bound i u) ≡ setting_at (val v) (joint (lookup st) e) b
+        go (named y s) (yes q) = absurd cc
+        go x (no m) = refl
+
+-- the command of a triple has parts of the right sorts
+abbrev pub JudgementSorted : Procedures → Judgement → Type 0
+JudgementSorted ps (entails p q s) = Unit
+JudgementSorted ps (triple p c q d) = Sorted ps c
+
+-- a judgement holds for the runs of at most n steps
+abbrev pub HoldsUpTo : Procedures → ℕ → Judgement → Type 0
+HoldsUpTo ps n (entails p q s) = Entails p q s
+HoldsUpTo ps n (triple p c q d) = TripleFor ps (UpTo n) p c q d
+
+-- both of each of these
+abbrev pub AllSorted : Procedures → List Judgement → Type 0
+AllSorted ps [] = Unit
+AllSorted ps (j ∷ js) = JudgementSorted ps j × AllSorted ps js
+
+abbrev pub AllHold : Procedures → ℕ → List Judgement → Type 0
+AllHold ps n [] = Unit
+AllHold ps n (j ∷ js) = HoldsUpTo ps n j × AllHold ps n js
+
+-- an assignment whose term is tested has parts of the right sorts
+assign-sorted : (ps : Procedures) (x : ProgVar) (t : Term) → IsTrue (evaluates (sort_of x) t) → Computes (sort_of x) t
+assign-sorted ps x t e = sorted-command ps (assign x t) (record { known = refl; fitting = rw e refl; apart = refl })
+
+module _ (ps : Procedures) where
+  -- the commands of a chain
+  chain-sorted : (d : DataSort) (js : List Judgement) (p : Formula) (b : Block) (q : Formula)
+      → Chain d js p b q → AllSorted ps js → BlockSorted ps b
+  chain-sorted d js p b q (last_link p1 q1 c) so = (so.0, tt)
+  chain-sorted d js p b q (more_links js1 p1 m q1 c b1 rest) so = (so.0, chain-sorted d js1 m b1 q1 rest so.1)
+
+  -- what the conclusion of a row says has parts of the right sorts
+  pub row-sorted : {name : List ℕ} {arguments : List Term} {js : List Judgement} {j : Judgement} → Row name arguments js j → AllSorted ps js → JudgementSorted ps j
+  row-sorted (skip_row p d) so = tt
+  row-sorted (assign_row q x t d e) so = assign-sorted ps x t e
+  row-sorted (seq_row js p q b d chain) so = chain-sorted d js p b q chain so
+
+module _ (ps : Procedures) (bodies : BodiesSorted ps) where
+  -- SKIP
+  skip-sound : (n : ℕ) (p : Formula) (d : DataSort) → Sound ps bodies n p skip p d
+  skip-sound zero p d e c wc st g a = at_zero ps ⊥ (At d c p e) (run skip) [] st g
+  skip-sound (suc n) p d e c wc st g a =
+      at_step ps ⊥ n (At d c p e) (run skip) [] st g (λ k. at_end ps ⊥ n (At d c p e) st g a)
+
+  -- ASSIGNMENT
+  assign-sound : (n : ℕ) (q : Formula) (x : ProgVar) (t : Term) (d : DataSort)
+      → Computes (sort_of x) t
+      → Sound ps bodies n (formula_with (replacing (as_var x) t) q) (assign x t) q d
+  assign-sound zero q x t d so e c wc st g a = at_zero ps ⊥ (At d c q e) (run (assign x t)) [] st g
+  assign-sound (suc n) q x t d so e c wc st g a =
+      at_step ps ⊥ n (At d c q e) (run (assign x t)) [] st g
+      (λ k. at_end ps ⊥ n (At d c q e) after g
+      (At-map d c (formula_with (replacing (as_var x) t) q) q e st after g
+      (other-store st after e a.proper
+      (set-proper x (value_of st t) st (value-fits (sort_of x) t st so (proper-store st e a.proper)) (proper-store st e a.proper)))
+      (λ b wb m. subst (λ z. Meets q z (shape d) b)
+      (replacing-env (as_var x) t (joint (lookup st) e)
+      ∙ ap (λ z. setting (as_var x) z (joint (lookup st) e)) (meaning-value (sort_of x) t st e so)
+      ∙ sym (set-env x (value_of st t) st e))
+      (meets-with q (replacing (as_var x) t) (joint (lookup st) e) (shape d) b m)) a))
+    where
+      after : Store
+      after = set x (value_of st t) st
+
+  -- SEQUENCE
+  chain-sound : (n : ℕ) (d : DataSort) (js : List Judgement) (p : Formula) (b : Block) (q : Formula)
+      → Chain d js p b q → AllSorted ps js → AllHold ps n js
+      → (e : Environment) (c : Trees) → Shaped (context d grove) c → (st : Store) (g : Trees)
+      → At d c p e st g → Well ps ⊥ n (At d c q e) (pieces_of b) st g
+  chain-sound n d js p b q (last_link p1 q1 cmd) so h e c wc st g a =
+      to_sound ps bodies n p1 cmd q1 d so.0 h.0 e c wc st g a
+  chain-sound n d js p b q (more_links js1 p1 m q1 cmd b1 rest) so h e c wc st g a =
+      followed ps ⊥ n (At d c m e) (At d c q1 e) (run cmd ∷ []) (pieces_of b1)
+      (λ st' g' a'. chain-sound n d js1 m b1 q1 rest so.1 h.1 e c wc st' g' a') st g
+      (to_sound ps bodies n p1 cmd m d so.0 h.0 e c wc st g a)
+
+  seq-sound : (n : ℕ) (js : List Judgement) (p : Formula) (b : Block) (q : Formula) (d : DataSort)
+      → Chain d js p b q → AllSorted ps js → AllHold ps n js → Sound ps bodies n p (block b) q d
+  seq-sound zero js p b q d chain so h e c wc st g a = at_zero ps ⊥ (At d c q e) (run (block b)) [] st g
+  seq-sound (suc n) js p b q d chain so h e c wc st g a =
+      at_step ps ⊥ n (At d c q e) (run (block b)) [] st g
+      (λ k. subst (λ z. Well ps ⊥ n (At d c q e) z st g) (sym (append-nil (pieces_of b)))
+      (Well-less ps ⊥ (suc n) n (At d c q e) (pieces_of b) st g (omega arith)
+      (chain-sound (suc n) d js p b q chain so h e c wc st g a)))
+
+  -- EACH ROW
+  pub row-sound : (n : ℕ) {name : List ℕ} {arguments : List Term} {js : List Judgement} {j : Judgement}
+      → Row name arguments js j → AllSorted ps js → AllHold ps n js → HoldsUpTo ps n j
+  row-sound n (skip_row p d) so h = from_sound ps bodies n p skip p d (skip-sound n p d)
+  row-sound n (assign_row q x t d e) so h =
+      from_sound ps bodies n (formula_with (replacing (as_var x) t) q) (assign x t) q d
+      (assign-sound n q x t d (assign-sorted ps x t e))
+  row-sound n (seq_row js p q b d chain) so h =
+      from_sound ps bodies n p (block b) q d (seq-sound n js p b q d chain so h)
