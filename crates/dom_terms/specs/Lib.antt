@@ -2,4 +2,6 @@ pub mod Sorts
 pub mod Values
 pub mod Terms
 pub mod Conditions
+pub mod Stores
+pub mod Evaluation
 pub mod formers

@@ -6,11 +6,13 @@
 
 mod conditions;
 mod copied;
+mod evaluation;
 mod limits;
 mod list;
 mod memory;
 mod same;
 mod sorts;
+mod store;
 mod terms;
 mod text;
 mod values;
@@ -18,6 +20,7 @@ mod verdicts;
 
 pub use conditions::Cond;
 pub use copied::Copied;
+pub use evaluation::eval;
 pub use limits::LimitKind;
 pub use list::List;
 pub use memory::OutOfMemory;
@@ -25,6 +28,7 @@ pub use same::{
     same_data_sort, same_logic_var, same_prog_var, same_sort, same_text, same_value_sort,
 };
 pub use sorts::{DataSort, Sort, ValueSort};
+pub use store::Store;
 pub use terms::{LogicVar, ProgVar, Term};
 pub use text::Text;
 pub use values::Value;

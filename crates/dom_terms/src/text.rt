@@ -49,6 +49,15 @@ impl Text {
         Ok(())
     }
 
+    /// Puts the characters of another text at the end. Where memory is refused the text is unchanged.
+    pub fn append(&mut self, other: &Text) -> Result<(), OutOfMemory>
+        ensures ok { OnOk result (self.new ≡ self.old ++ other.now) }
+        ensures err { OnErr result (self.new ≡ self.old) }
+    {
+        self.characters.push_str(other.as_str())?;
+        Ok(())
+    }
+
     /// How many bytes the text has.
     pub fn len(&self) -> usize
         ensures { result ≡ length self.now }

@@ -1,3 +1,8 @@
+ghost use Rattle.std.specs.Prelude.{◌≡◌};
+ghost use Rattle.dom_terms.specs.declared.verdicts.EvalFault.TheVariants.{OutOfMemory};
+
+use crate::memory::OutOfMemory;
+
 /// Why a term has no value.
 #[derive(Clone, Copy, Debug, PartialEq, Eq)]
 pub enum EvalFault {
@@ -7,6 +12,14 @@ pub enum EvalFault {
     TextLimit,
     /// Memory was refused.
     OutOfMemory,
+}
+
+impl From<OutOfMemory> for EvalFault {
+    ghost from_gives = { λ _ fault. fault ≡ OutOfMemory };
+
+    fn from(_refused: OutOfMemory) -> EvalFault {
+        EvalFault::OutOfMemory
+    }
 }
 
 /// A side condition of a rule.
