@@ -10,9 +10,13 @@ use std::alloc::Global;
 /// `post`.
 #[derive(Debug, Drop)]
 pub struct Triple {
+    /// What holds before.
     pub pre: Formula,
+    /// What is run.
     pub command: Command,
+    /// What holds wherever it ends.
     pub post: Formula,
+    /// The sort of shapes that both formulas are judged at.
     pub sort: DataSort,
 }
 

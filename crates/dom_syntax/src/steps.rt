@@ -24,9 +24,13 @@ pub enum Reason {
 /// A step of a proof: its number, the line on which it begins, its reason and what it says.
 #[derive(Debug, Drop)]
 pub struct Step {
+    /// The number written at the step; a well-formed proof counts from 1.
     pub number: u32,
+    /// The line of the file that the step begins on, counted from 1.
     pub line: u32,
+    /// The rule and what it cites, or none.
     pub reason: Reason,
+    /// What the step claims.
     pub judgement: Judgement,
 }
 

@@ -13,21 +13,32 @@ pub type Procedures = List<Procedure>;
 /// A procedure: `pre` is its requires, `post` its ensures, and `proof` the proof of its triple.
 #[derive(Debug, Drop)]
 pub struct Procedure {
+    /// The name that calls use.
     pub name: Text,
+    /// The parameters, which the body doesn't change.
     pub params: Vars,
+    /// The results, which begin at the default of their sorts.
     pub results: Vars,
+    /// The sort of shapes that the specification speaks of.
     pub sort: DataSort,
+    /// The precondition.
     pub pre: Formula,
+    /// The postcondition.
     pub post: Formula,
+    /// The body.
     pub body: Command,
+    /// The steps of the proof, in the order of the file.
     pub proof: Steps,
 }
 
 /// A theory: the version of the language, the logic variables declared, and the procedures.
 #[derive(Debug, Drop)]
 pub struct Theory {
+    /// The number after `domlogic`.
     pub version: u32,
+    /// The declared logic variables.
     pub logic: LogicVars,
+    /// The procedures, in the order of the file.
     pub procedures: Procedures,
 }
 

@@ -10,14 +10,18 @@ use std::alloc::Global;
 /// A program variable: its name and its sort. One name at two sorts is two variables.
 #[derive(Debug, Drop)]
 pub struct ProgVar {
+    /// The name.
     pub name: Text,
+    /// The sort of the values that it holds.
     pub sort: ValueSort,
 }
 
 /// A logic variable: its name and its sort. One name at two sorts is two variables.
 #[derive(Debug, Drop)]
 pub struct LogicVar {
+    /// The name, with its `$`.
     pub name: Text,
+    /// The sort of what it stands for: values, shapes or contexts.
     pub sort: Sort,
 }
 

@@ -17,8 +17,7 @@ mod status;
 #[cfg(test)]
 mod tests;
 
-use answers::answer_words;
-pub use answers::{Refusal, Reply};
+use answers::{Refusal, answer_words};
 use outside_io::{Library, Sink, write_all_of};
 pub use status::Status;
 use std::alloc::Global;

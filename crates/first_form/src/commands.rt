@@ -6,9 +6,10 @@ ghost use Rattle.model_programs.specs.FileFaults as faults;
 ghost use Rattle.first_form.specs.FormTests as tests;
 
 use crate::scopes::{is_among, is_declared};
-use crate::terms::{has_sort, is_term_declared};
+use crate::terms::is_term_declared;
 use dom_syntax::{Block, Command};
 use dom_terms::{ProgVar, Term};
+use formula_syntax::has_sort;
 
 // Whether the assignment is to a declared variable that is no parameter, of a term of its sort.
 fn does_assignment_fit(

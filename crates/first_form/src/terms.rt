@@ -1,12 +1,11 @@
-// Terms: whether their variables are declared, and their sorts.
+// Terms: whether their variables are declared, and whether two have one sort.
 ghost use Rattle.std.specs.Prelude.{◌≡◌, map};
-ghost use Rattle.model_formulas.specs.WellSorted as sorting;
-ghost use Rattle.dom_terms.specs.Sorts.{value_sort_of};
 ghost use Rattle.dom_terms.specs.Terms.{prog_var_of, term_of};
 ghost use Rattle.first_form.specs.FormTests as tests;
 
 use crate::scopes::is_declared;
-use dom_terms::{ProgVar, Sort, Term, ValueSort, same_sort, same_value_sort};
+use dom_terms::{ProgVar, Term, ValueSort};
+use formula_syntax::both_have;
 
 // Whether each variable of the term is declared.
 pub(crate) fn is_term_declared(params: &[ProgVar], results: &[ProgVar], term: &Term) -> bool
@@ -21,37 +20,6 @@ pub(crate) fn is_term_declared(params: &[ProgVar], results: &[ProgVar], term: &T
             is_term_declared(params, results, left) && is_term_declared(params, results, right)
         }
     }
-}
-
-// Whether the term is well sorted and has the sort.
-pub(crate) fn has_sort(term: &Term, sort: ValueSort) -> bool
-    ensures { result ≡ sorting.has_sort (value_sort_of sort) (term_of term.now) }
-{
-    match term {
-        Term::NullNode => same_value_sort(sort, ValueSort::Node),
-        Term::NullList => same_value_sort(sort, ValueSort::List),
-        Term::Int(_) => same_value_sort(sort, ValueSort::Int),
-        Term::Str(_) => same_value_sort(sort, ValueSort::Str),
-        Term::Bool(_) => same_value_sort(sort, ValueSort::Bool),
-        Term::Prog(variable) => same_value_sort(sort, variable.sort),
-        Term::Logic(variable) => same_sort(Sort::Value(sort), variable.sort),
-        Term::Add(left, right) | Term::Sub(left, right) => {
-            same_value_sort(sort, ValueSort::Int)
-                && has_sort(left, ValueSort::Int)
-                && has_sort(right, ValueSort::Int)
-        }
-        Term::Cat(left, right) => {
-            same_value_sort(sort, ValueSort::Str)
-                && has_sort(left, ValueSort::Str)
-                && has_sort(right, ValueSort::Str)
-        }
-    }
-}
-
-fn both_have(sort: ValueSort, left: &Term, right: &Term) -> bool
-    ensures { result ≡ sorting.both_have (value_sort_of sort) (term_of left.now) (term_of right.now) }
-{
-    has_sort(left, sort) && has_sort(right, sort)
 }
 
 // Whether both terms have one value sort.

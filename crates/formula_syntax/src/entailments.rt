@@ -8,8 +8,11 @@ use std::alloc::Global;
 /// That whatever of the sort meets the left formula meets the right one.
 #[derive(Debug, Drop)]
 pub struct Entailment {
+    /// What is given.
     pub left: Formula,
+    /// What follows.
     pub right: Formula,
+    /// The sort that both are judged at.
     pub sort: Sort,
 }
 

@@ -20,6 +20,7 @@ pub use entailments::Entailment;
 pub use formulas::{Formula, Side};
 pub use purity::is_pure;
 pub use same::{is_replacement, is_substitution, same_formula};
+pub use sort_tests::{both_have, has_sort};
 pub use sorting::{IllSorted, sorted_as};
 pub use variables::{AnyVar, Pair};
 

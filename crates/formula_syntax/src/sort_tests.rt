@@ -107,8 +107,8 @@ pub(crate) fn right_at(side: Side, sort: Sort) -> Sort
     }
 }
 
-// whether the term is well sorted and has the sort
-pub(crate) fn has_sort(term: &Term, sort: ValueSort) -> bool
+/// Whether the term is well sorted and has the sort.
+pub fn has_sort(term: &Term, sort: ValueSort) -> bool
     ensures { result ≡ tests.has_sort (value_sort_of sort) (term_of term.now) }
 {
     match term {
@@ -132,8 +132,8 @@ pub(crate) fn has_sort(term: &Term, sort: ValueSort) -> bool
     }
 }
 
-// whether both terms have the sort
-pub(crate) fn both_have(sort: ValueSort, left: &Term, right: &Term) -> bool
+/// Whether both terms are well sorted and have the sort.
+pub fn both_have(sort: ValueSort, left: &Term, right: &Term) -> bool
     ensures { result ≡ tests.both_have (value_sort_of sort) (term_of left.now) (term_of right.now) }
 {
     has_sort(left, sort) && has_sort(right, sort)

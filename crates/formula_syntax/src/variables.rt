@@ -16,7 +16,9 @@ pub enum AnyVar {
 /// A variable and the term that takes its place.
 #[derive(Debug, Drop)]
 pub struct Pair {
+    /// The variable that is replaced.
     pub var: AnyVar,
+    /// What stands in its place.
     pub term: Term,
 }
 

@@ -13,9 +13,13 @@ pub type Grove = List<Tree>;
 /// A node: its name, its number, its children, and the number of their list.
 #[derive(Debug, Drop)]
 pub struct Tree {
+    /// The name.
     pub name: Text,
+    /// The node number.
     pub id: u32,
+    /// The children, in order.
     pub kids: Forest,
+    /// The number of the list of children.
     pub list: u32,
 }
 
