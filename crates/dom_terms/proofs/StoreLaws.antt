@@ -1,6 +1,6 @@
 -- What a look-up and a change of the cells of a store are in the store of the definitions.
 use Rattle.std.proofs.Common.{◌≡◌, ℕ, ◌<◌, ◌≤◌, zero, suc, ◌+◌, ◌++◌, List, [], ◌∷◌, Bool, true, false, not, cond, Option, Some, None, length, get_or, refl, sym, ap, ◌∙◌, subst, arith}
-use Rattle.std.specs.Prelude.{nat_lt, option_map}
+use Rattle.std.specs.Prelude.{nat_lt, option_map, map}
 use Rattle.std.specs.List.{find, position, prefix_len}
 use Rattle.std.proofs.Math.ListN as list
 use Rattle.std.proofs.lemmas.Bool.{ltb-false}
@@ -12,7 +12,7 @@ use Rattle.dom_terms.specs.declared.store.Cell.{Cell}
 use Rattle.dom_terms.specs.declared.values.Value.{Value}
 use Rattle.dom_terms.specs.Terms.{prog_var_of}
 use Rattle.dom_terms.specs.Values.{value_seen}
-use Rattle.dom_terms.specs.Stores.{store_of, has_variable, found_in}
+use Rattle.dom_terms.specs.Stores.{store_of, cell_seen, has_variable, found_in}
 
 -- the value in a cell
 abbrev pub value_in_cell : Cell → values.Value
@@ -121,3 +121,14 @@ absent-default x (holding y w store) e = go (same_name x y) e (absent-default x 
         → default (sort_of x) ≡ cond b w (value_in store x)
     go true q h = absurd (cc)
     go false q h = h q
+
+-- cells that hold the same make the same store
+pub same_cells : (xs ys : List Cell) → map cell_seen xs ≡ map cell_seen ys → store_of xs ≡ store_of ys
+same_cells [] [] e = refl
+same_cells [] (y ∷ ys) e = absurd cc
+same_cells (x ∷ xs) [] e = absurd cc
+same_cells (x ∷ xs) (y ∷ ys) e =
+    let same : cell_seen x ≡ cell_seen y = cc in
+    let rest : map cell_seen xs ≡ map cell_seen ys = cc in
+    ap (λ (held : ProgVar × values.Value). holding held.0 held.1 (store_of xs)) same
+    ∙ ap (holding (prog_var_of y.variable) (value_seen y.value)) (same_cells xs ys rest)

@@ -7,6 +7,10 @@ use Rattle.dom_terms.specs.declared.store.Cell.{Cell}
 use Rattle.dom_terms.specs.Terms.{prog_var_of}
 use Rattle.dom_terms.specs.Values.{value_seen}
 
+-- what a cell holds: the variable with its value
+abbrev pub cell_seen : Cell → model.ProgVar × values.Value
+cell_seen cell = (prog_var_of cell.variable, value_seen cell.value)
+
 -- the store that holds what the cells hold
 abbrev pub store_of : List Cell → model.Store
 store_of [] = model.unset

@@ -1,5 +1,6 @@
-ghost use Rattle.std.specs.Prelude.{◌≡◌, ◌≤◌, ◌↔◌, [], ◌∷◌, ◌++◌, length, map, slice_get, option_copied};
+ghost use Rattle.std.specs.Prelude.{◌≡◌, ◌≤◌, ◌<◌, ◌+◌, ◌↔◌, [], ◌∷◌, ◌++◌, length, map, take, drop, slice_get, option_copied, Some, ◌-◌};
 ghost use Rattle.std.specs.Prelude.{IsTrue, IsNone, IfOk, OnOk, OnErr};
+ghost use Rattle.std.specs.List.Sorted.{IsPermutation, IsSortedByKeyClosure};
 
 use crate::copied::Copied;
 use crate::memory::OutOfMemory;
@@ -60,6 +61,47 @@ impl<T> List<T> {
         ensures { result.now ≡ self.now }
     {
         self.items.as_slice()
+    }
+
+    /// The last item: none exactly where there is no item.
+    pub fn last(&self) -> Option<&T>
+        ensures item { option_copied result ≡ slice_get self.now (length self.now - 1) }
+        ensures absent { IsNone result ↔ (self.now ≡ []) }
+    {
+        self.items.as_slice().last()
+    }
+
+    /// Takes the item at a place counted from 0 away. Those behind it keep their order.
+    pub fn remove(&mut self, place: usize) -> T
+        requires { place < length self.old }
+        ensures item { slice_get self.old place ≡ Some result }
+        ensures rest { self.new ≡ take place self.old ++ drop (place + 1) self.old }
+    {
+        self.items.remove(place)
+    }
+
+    /// Moves the items of another list to the end. Where memory is refused both are unchanged.
+    pub fn append(&mut self, other: &mut List<T>) -> Result<(), OutOfMemory>
+        ensures ok { OnOk result ((self.new ≡ self.old ++ other.old) × (other.new ≡ [])) }
+        ensures err { OnErr result ((self.new ≡ self.old) × (other.new ≡ other.old)) }
+    {
+        self.items.append(&mut other.items)?;
+        Ok(())
+    }
+
+    /// Sorts the items by their keys, with std's sort, which keeps the order of equal keys. Where
+    /// memory is refused the list is unchanged.
+    pub fn sort_by_key<K: Ord + Drop, F: FnMut(&T) -> K>(
+        &mut self,
+        key: F,
+    ) -> Result<(), OutOfMemory>
+        requires { F.IsAlwaysCallable key }
+        ensures permutation { IsPermutation self.old self.new }
+        ensures sorted { OnOk result (IsSortedByKeyClosure F.FnMut K.cmp key self.new) }
+        ensures err { OnErr result (self.new ≡ self.old) }
+    {
+        self.items.sort_by_key(key)?;
+        Ok(())
     }
 }
 

@@ -1,11 +1,12 @@
-ghost use Rattle.std.specs.Prelude.{◌≡◌, OnOk, OnErr, option_map, option_copied, find, position};
+ghost use Rattle.std.specs.Prelude.{◌≡◌, IfOk, OnOk, OnErr, map, option_map, option_copied, find, position};
 ghost use Rattle.model_shapes.specs.Values.{FitsValue};
 ghost use Rattle.model_programs.specs.Stores.{unset, set, ProperStore};
 ghost use Rattle.dom_terms.specs.Sorts.{value_sort_of};
 ghost use Rattle.dom_terms.specs.Values.{value_seen};
 ghost use Rattle.dom_terms.specs.Terms.{prog_var_of};
-ghost use Rattle.dom_terms.specs.Stores.{store_of, has_variable, found_in};
+ghost use Rattle.dom_terms.specs.Stores.{store_of, cell_seen, has_variable, found_in};
 
+use crate::copied::Copied;
 use crate::memory::OutOfMemory;
 use crate::same::same_prog_var;
 use crate::terms::ProgVar;
@@ -91,4 +92,34 @@ fn place_of(cells: &[Cell], variable: &ProgVar) -> Option<usize>
     cells
         .iter()
         .position(|cell| same_prog_var(variable, &cell.variable))
+}
+
+impl Copied for Store {
+    ghost use Rattle.model_programs.specs.Stores as model;
+
+    ghost Seen = { model.Store };
+
+    ghost seen = { store_of };
+
+    #[tactic(auto, using(crate::proofs::StoreLaws::same_cells))]
+    fn copy(&self, alloc: Global) -> Result<Store, OutOfMemory>
+        ensures { IfOk result (λ copied. store_of copied ≡ store_of self.now) }
+    {
+        let cells = copied_cells(alloc, &self.cells)?;
+        Ok(Store { cells })
+    }
+}
+
+// A copy of the cells.
+fn copied_cells(alloc: Global, cells: &[Cell]) -> Result<Vec<Cell>, OutOfMemory>
+    ensures { IfOk result (λ copied. map cell_seen copied.items ≡ map cell_seen cells.now) }
+{
+    let mut copied = Vec::new(alloc);
+    for cell in cells {
+        copied.push(Cell {
+            variable: cell.variable.copy(alloc)?,
+            value: cell.value.copy(alloc)?,
+        })?;
+    }
+    Ok(copied)
 }

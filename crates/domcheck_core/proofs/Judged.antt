@@ -5,21 +5,14 @@ use Rattle.model_programs.specs.Theories.{Theory}
 use Rattle.model_rules.specs.Accepted.{IsAccepted}
 use Rattle.model_rules.proofs.Sound.{accepted_hold}
 use Rattle.model_grammar.specs.Files.{SpellsFile, most_bytes, lexemes_of}
-use Rattle.model_grammar.specs.Words.{Request, check}
-use Rattle.model_grammar.specs.Output.{bad_words_line}
+use Rattle.model_answers.specs.Words.{Request, check, run}
+use Rattle.model_answers.specs.Output.{accepted_line, bad_words_line}
 use Rattle.proof_text.proofs.Exact.{one_theory}
-use Rattle.domcheck_core.specs.Answers.{Books, Accepted, Refused, Unreadable, CheckAnswer, says_yes, says_no, reads_nothing, IsAnswer, bad_words, checked, IsTold}
-use Rattle.domcheck_core.specs.Clauses.{OfFile, IsProved, ExactlyWhere, GivesUp, Complete, speaks}
+use Rattle.domcheck_core.specs.Answers.{Books, Accepted, Refused, Unreadable, CheckAnswer, says_yes, says_no, reads_nothing, NotCalled, not_called, IsAnswer, bad_words, checked, ran, IsTold}
+use Rattle.domcheck_core.specs.Clauses.{OfFile, IsProved, ExactlyWhere, GivesUp, BadWordsWhere, IsAnswered, may_answer, Complete, speaks}
+use Rattle.domcheck_core.proofs.OneAnswer.{one_file, not_both, told_of, one_answer}
 use Rattle.domcheck_core.specs.declared.status.Status.{Status}
 use Rattle.domcheck_core.specs.declared.status.Status.TheVariants as status
-
--- a file spells at most one theory
-one_file : (bytes : List ℕ) (t u : Theory) → SpellsFile bytes t → SpellsFile bytes u → t ≡ u
-one_file bytes t u a b = one_theory (lexemes_of bytes) t u a.spelled b.spelled
-
--- no file is both accepted and refused
-not_both : (bytes : List ℕ) → Accepted bytes → Refused bytes → ⊥
-not_both bytes a r = r.2 (subst IsAccepted (one_file bytes a.0 r.0 a.1 r.1) a.2)
 
 -- the answer on the told bytes
 pub told_answer : (books : Books) (file bytes : List ℕ) (s : Status) (output : List ℕ) → IsAnswer books (Some (check file)) s output → books file ≡ Some bytes → CheckAnswer bytes s output
@@ -31,6 +24,7 @@ told_answer books file bytes s output (checked f b e a) told =
 pub on_file : (r : Option Request) (books : Books) (s : Status) (output : List ℕ) (P : List ℕ → Type 0)
     → ((bytes : List ℕ) → CheckAnswer bytes s output → P bytes) → (IsTold r books → IsAnswer books r s output) → OfFile r books P
 on_file None books s output P f h = tt
+on_file (Some (run file procedure document fuel arguments)) books s output P f h = tt
 on_file (Some (check file)) books s output P f h = λ bytes told. f bytes (told_answer books file bytes s output (h (bytes, told)) told)
 
 pub sound : (s : Status) (output bytes : List ℕ) → CheckAnswer bytes s output → s ≡ status.Done → IsProved bytes
@@ -59,11 +53,33 @@ done_or_none s (inr (inl e)) h = inr e
 done_or_none s (inr (inr (inl e))) h = absurd cc
 done_or_none s (inr (inr (inr e))) h = absurd cc
 
+-- the answer of the definition, where there is one, is the one that was given
+pub exactly : (r : Option Request) (books : Books) (s : Status) (output : List ℕ) → (IsTold r books → IsAnswer books r s output)
+    → (other : Status) (other_output : List ℕ) → IsAnswer books r other other_output → (s ≡ other) ⊎ GivesUp s
+exactly r books s output h other other_output a =
+    inl (one_answer books r s output other other_output (h (told_of books r other other_output a)) a).0
+
+pub answered : (r : Option Request) (books : Books) (s : Status) (output : List ℕ) → (IsTold r books → IsAnswer books r s output) → IsAnswered r books s
+answered r books s output h = λ told. inl (output, h told)
+
 pub complete : (r : Option Request) (books : Books) (read_rose : List ℕ → Type 0) (write_rose : Type 0) (s : Status) (output : List ℕ)
     → (IsTold r books → IsAnswer books r s output) → speaks s ≡ true → Complete r books read_rose write_rose s
 complete None books read_rose write_rose s output h sp = tt
 complete (Some (check file)) books read_rose write_rose s output h sp = λ bytes told accepted no_read no_write.
     done_or_none s ((yes_exactly s output bytes (told_answer books file bytes s output (h (bytes, told)) told)).1 accepted) sp
+complete (Some (run file procedure document fuel arguments)) books read_rose write_rose s output h sp = λ other a no_file no_document no_write.
+    done_or_none s (exactly (Some (run file procedure document fuel arguments)) books s output h status.Done other a) sp
+
+pub bad_words_where : (r : Option Request) (books : Books) (s : Status) (output : List ℕ) → (IsTold r books → IsAnswer books r s output)
+    → may_answer r s ≡ true → BadWordsWhere r books s
+bad_words_where None books s output h m = inl (one_answer books None s output status.BadWords bad_words_line (h tt) bad_words).0
+bad_words_where (Some (check file)) books s output h m = λ e. no_bad_words (rw e at m)
+  where
+    no_bad_words : may_answer (Some (check file)) status.BadWords ≡ true → ⊥
+    no_bad_words m = cc
+bad_words_where (Some (run file procedure document fuel arguments)) books s output h m = λ bytes told nothing.
+    exactly (Some (run file procedure document fuel arguments)) books s output h status.BadWords bad_words_line
+    (ran file procedure document fuel arguments bytes told (not_called nothing))
 
 -- a file with more bytes than the limit spells nothing
 pub too_large : (bytes : List ℕ) → most_bytes < length bytes → Unreadable bytes

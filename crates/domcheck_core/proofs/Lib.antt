@@ -1,4 +1,12 @@
+pub mod OneAnswer
 pub mod Judged
+pub mod Calling
+pub mod Reading
+pub mod Bare
+pub mod Outcomes
+pub mod Fitting
+pub mod Running
 pub mod Small
 pub mod Counts
 pub mod Spelling
+pub mod Tested

@@ -1,10 +1,22 @@
 -- The answer to the words: the status and the output, one case for each row.
-use Rattle.std.specs.Prelude.{◌≡◌, ℕ, List, Option, Some, None}
-use Rattle.model_programs.specs.Theories.{Theory}
+use Rattle.std.specs.Prelude.{◌≡◌, ℕ, nat_le, Bool, true, false, List, Option, Some, None}
+use Rattle.model_shapes.specs.Trees.{Trees}
+use Rattle.model_shapes.specs.Values.{Value}
+use Rattle.model_formulas.specs.Formulas.{Named}
+use Rattle.model_programs.specs.Stores.{ProgVar}
+use Rattle.model_programs.specs.Theories.{ProcedureOf, Theory, procedures_of}
+use Rattle.model_programs.specs.Machine.{start}
+use Rattle.model_programs.specs.Outcomes as outcomes
+use Rattle.model_programs.specs.Outcomes.{Outcome, ends, spends, passes_limit, has_fault, no_pick, standard_limits, size, outcome}
 use Rattle.model_rules.specs.Accepted.{IsAccepted}
+use Rattle.model_documents.specs.Numbers.{Numbered, first_out_of_range, first_repeat}
 use Rattle.model_grammar.specs.Files.{SpellsFile}
-use Rattle.model_grammar.specs.Words.{Request, check}
-use Rattle.model_grammar.specs.Output.{accepted_line, not_accepted_line, bad_words_line, bad_text_line}
+use Rattle.model_answers.specs.Words.{Request, check, run}
+use Rattle.model_answers.specs.Arguments.{called}
+use Rattle.model_answers.specs.Documents.{SpellsDocument}
+use Rattle.model_answers.specs.Output.{accepted_line, not_accepted_line, bad_words_line, bad_text_line, bad_document_text_line, range_line, repeat_line, limit_line, fault_line, spent_line, ended_lines}
+use Rattle.dom_terms.specs.declared.limits.LimitKind.{LimitKind}
+use Rattle.dom_terms.specs.declared.limits.LimitKind.TheVariants as l
 use Rattle.domcheck_core.specs.declared.status.Status.{Status}
 use Rattle.domcheck_core.specs.declared.status.Status.TheVariants as status
 
@@ -12,6 +24,7 @@ use Rattle.domcheck_core.specs.declared.status.Status.TheVariants as status
 abbrev pub Books : Type 0
 Books = List ℕ → Option (List ℕ)
 
+-- CHECK
 -- what is asked of the bytes of a file by each status of `check`
 abbrev pub Accepted : List ℕ → Type 0
 Accepted bytes = (theory : Theory) × SpellsFile bytes theory × IsAccepted theory
@@ -29,13 +42,124 @@ pub data CheckAnswer (bytes : List ℕ) : Status → List ℕ → Type 0 where
   says_no : Refused bytes → CheckAnswer bytes status.StepFails not_accepted_line
   reads_nothing : Unreadable bytes → CheckAnswer bytes status.BadText bad_text_line
 
--- THE ANSWER to a request, where the book that it reads is told
+-- RUN
+-- the status that names a limit
+abbrev pub limit_named : outcomes.LimitKind → LimitKind
+limit_named outcomes.file_limit = l.File
+limit_named outcomes.nesting_limit = l.Nesting
+limit_named outcomes.text_limit = l.Text
+limit_named outcomes.variables_limit = l.Variables
+limit_named outcomes.steps_limit = l.Steps
+limit_named outcomes.nodes_limit = l.Nodes
+limit_named outcomes.identifier_limit = l.Identifier
+limit_named outcomes.number_limit = l.Number
+limit_named outcomes.depth_limit = l.Depth
+
+-- a status and the output with it
+abbrev pub Answer : Type 0
+Answer = Status × List ℕ
+
+abbrev pub limit_answer : outcomes.LimitKind → Option Answer
+limit_answer kind = Some (status.Limit (limit_named kind), limit_line kind)
+
+-- the answer of an outcome; the last never comes, since the next pick is free
+abbrev pub outcome_answer : List ProgVar → Outcome → Option Answer
+outcome_answer results (ends steps values grove) =
+    Some (status.Done, ended_lines steps results values grove)
+outcome_answer results (has_fault kind steps piece) = Some (status.Faulted, fault_line kind steps)
+outcome_answer results (spends steps config) = Some (status.FuelSpent, spent_line steps)
+outcome_answer results (passes_limit kind) = limit_answer kind
+outcome_answer results no_pick = None
+
+-- the outcome of the procedure on these values and this document within the fuel
+abbrev pub outcome_on : Theory → ProcedureOf Named → List Value → ℕ → Trees → Outcome
+outcome_on theory f values fuel document =
+    let begun = start f values document in
+    outcome standard_limits (procedures_of theory) f.results fuel 0 begun.pending begun.store begun.grove
+
+-- a number that is out of range, where there is one, and else what comes otherwise
+abbrev pub unless_out_of_range : Option Numbered → Option Answer → Option Answer
+unless_out_of_range (Some n) otherwise = Some (status.BadDocument, range_line n)
+unless_out_of_range None otherwise = otherwise
+
+-- a number that repeats
+abbrev pub unless_repeated : Option Numbered → Option Answer → Option Answer
+unless_repeated (Some n) otherwise = Some (status.BadDocument, repeat_line n)
+unless_repeated None otherwise = otherwise
+
+-- more nodes than the most
+abbrev pub unless_too_large : Bool → Option Answer → Option Answer
+unless_too_large false otherwise = limit_answer outcomes.nodes_limit
+unless_too_large true otherwise = otherwise
+
+-- a number out of range, a number that repeats, too many nodes, in this order, and else what comes
+-- otherwise
+abbrev pub unless_unfit : Trees → Option Answer → Option Answer
+unless_unfit document otherwise =
+    unless_out_of_range (first_out_of_range document)
+    (unless_repeated (first_repeat document)
+    (unless_too_large (nat_le (size document) standard_limits.nodes) otherwise))
+
+-- the answer of the run on a document that spells this grove
+abbrev pub grove_answer : Theory → ProcedureOf Named → List Value → ℕ → Trees → Option Answer
+grove_answer theory f values fuel document =
+    unless_unfit document (outcome_answer f.results (outcome_on theory f values fuel document))
+
+-- the bytes spell no document
+abbrev pub NoDocument : List ℕ → Type 0
+NoDocument bytes = (document : Trees) → SpellsDocument bytes document → ⊥
+
+-- the answer of the run on a document with these bytes
+pub data DocumentAnswer (theory : Theory) (f : ProcedureOf Named) (values : List Value) (fuel : ℕ) (bytes : List ℕ)
+    : Status → List ℕ → Type 0 where
+  document_unread : NoDocument bytes
+      → DocumentAnswer theory f values fuel bytes status.BadText bad_document_text_line
+  document_read : (document : Trees) {s : Status} {output : List ℕ} → SpellsDocument bytes document
+      → grove_answer theory f values fuel document ≡ Some (s, output)
+      → DocumentAnswer theory f values fuel bytes s output
+
+-- the file with these bytes has the procedure, and the arguments read
+abbrev pub IsCalled : List ℕ → List ℕ → List (List ℕ) → Type 0
+IsCalled bytes procedure arguments =
+    (theory : Theory) × SpellsFile bytes theory × (f : ProcedureOf Named) × (values : List Value)
+    × (called theory procedure arguments ≡ Some (f, values))
+
+-- it has not
+abbrev pub NotCalled : List ℕ → List ℕ → List (List ℕ) → Type 0
+NotCalled bytes procedure arguments =
+    (theory : Theory) × SpellsFile bytes theory × (called theory procedure arguments ≡ None)
+
+-- the answer of `run` on a file with these bytes
+pub data RunAnswer (books : Books) (bytes procedure document : List ℕ) (fuel : ℕ) (arguments : List (List ℕ))
+    : Status → List ℕ → Type 0 where
+  file_unread : Unreadable bytes
+      → RunAnswer books bytes procedure document fuel arguments status.BadText bad_text_line
+  not_called : NotCalled bytes procedure arguments
+      → RunAnswer books bytes procedure document fuel arguments status.BadWords bad_words_line
+  is_called : (theory : Theory) (f : ProcedureOf Named) (values : List Value) (read : List ℕ)
+      {s : Status} {output : List ℕ} → SpellsFile bytes theory
+      → called theory procedure arguments ≡ Some (f, values) → books document ≡ Some read
+      → DocumentAnswer theory f values fuel read s output
+      → RunAnswer books bytes procedure document fuel arguments s output
+
+-- THE ANSWER to a request, where the books that it reads are told
 pub data IsAnswer (books : Books) : Option Request → Status → List ℕ → Type 0 where
   bad_words : IsAnswer books None status.BadWords bad_words_line
   checked : (file bytes : List ℕ) {s : Status} {output : List ℕ} → books file ≡ Some bytes
       → CheckAnswer bytes s output → IsAnswer books (Some (check file)) s output
+  ran : (file procedure document : List ℕ) (fuel : ℕ) (arguments : List (List ℕ)) (bytes : List ℕ)
+      {s : Status} {output : List ℕ} → books file ≡ Some bytes
+      → RunAnswer books bytes procedure document fuel arguments s output
+      → IsAnswer books (Some (run file procedure document fuel arguments)) s output
 
--- the book that a request reads is told
+-- the book of this name is told
+abbrev pub IsToldBook : Books → List ℕ → Type 0
+IsToldBook books name = (bytes : List ℕ) × (books name ≡ Some bytes)
+
+-- the books that a request reads are told: for a run the document only where it comes to that
 abbrev pub IsTold : Option Request → Books → Type 0
 IsTold None books = Unit
-IsTold (Some (check file)) books = (bytes : List ℕ) × (books file ≡ Some bytes)
+IsTold (Some (check file)) books = IsToldBook books file
+IsTold (Some (run file procedure document fuel arguments)) books =
+    (bytes : List ℕ) × (books file ≡ Some bytes)
+    × (IsCalled bytes procedure arguments → IsToldBook books document)

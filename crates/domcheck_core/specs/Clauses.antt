@@ -6,15 +6,16 @@ use Rattle.model_programs.specs.Theories.{Theory, procedures_of}
 use Rattle.model_programs.specs.LocalTriples.{MeetsItsSpecification}
 use Rattle.model_rules.specs.Accepted.{Each}
 use Rattle.model_grammar.specs.Files.{SpellsFile}
-use Rattle.model_grammar.specs.Words.{Request, check}
-use Rattle.domcheck_core.specs.Answers.{Books, Accepted, IsAnswer, IsTold}
+use Rattle.model_answers.specs.Words.{Request, check, run}
+use Rattle.domcheck_core.specs.Answers.{Books, Accepted, IsAnswer, IsTold, IsCalled, NotCalled}
 use Rattle.domcheck_core.specs.declared.status.Status.{Status}
 use Rattle.domcheck_core.specs.declared.status.Status.TheVariants as status
 
--- of the bytes of the file that is to be checked, where the library tells them
+-- of the bytes of the file that `check` asks for, where the library tells them
 abbrev pub OfFile : Option Request → Books → (List ℕ → Type 0) → Type 0
 OfFile None books P = Unit
 OfFile (Some (check file)) books P = Told (books file) P
+OfFile (Some (run file procedure document fuel arguments)) books P = Unit
 
 -- The file spells a theory, and each of its procedures, started in any context round data that meets
 -- its requires, faults in no number of steps and ends with data that meets its ensures.
@@ -31,6 +32,14 @@ GivesUp s = (s ≡ status.OutOfMemory) ⊎ ((s ≡ status.ReadFault) ⊎ (s ≡ 
 abbrev pub ExactlyWhere : Type 0 → Status → Status → Type 0
 ExactlyWhere Cause s wanted = (s ≡ wanted → Cause) × (Cause → (s ≡ wanted) ⊎ GivesUp s)
 
+-- the statuses of a run that has an answer
+abbrev pub is_run_status : Status → Bool
+is_run_status status.StepFails = false
+is_run_status status.OutOfMemory = false
+is_run_status status.ReadFault = false
+is_run_status status.WriteFault = false
+is_run_status s = true
+
 -- the answers that a request may have, whatever is told
 abbrev pub may_answer : Option Request → Status → Bool
 may_answer r status.OutOfMemory = true
@@ -40,12 +49,31 @@ may_answer (Some (check file)) status.Done = true
 may_answer (Some (check file)) status.StepFails = true
 may_answer (Some (check file)) status.BadText = true
 may_answer (Some (check file)) status.ReadFault = true
+may_answer (Some (run file procedure document fuel arguments)) status.ReadFault = true
+may_answer (Some (run file procedure document fuel arguments)) s = is_run_status s
 may_answer r s = false
 
--- a name that the request reads, whose count rose
-abbrev pub ReadRose : Option Request → (List ℕ → Type 0) → Type 0
-ReadRose None rose = ⊥
-ReadRose (Some (check file)) rose = rose file
+-- a name that the request reads, whose count rose: that of the document only where every test before
+-- its reading passes
+abbrev pub ReadRose : Option Request → Books → (List ℕ → Type 0) → Type 0
+ReadRose None books rose = ⊥
+ReadRose (Some (check file)) books rose = rose file
+ReadRose (Some (run file procedure document fuel arguments)) books rose =
+    rose file ⊎ (rose document × Told (books file) (λ bytes. IsCalled bytes procedure arguments))
+
+-- Bad words come where the words have no reading, and for a run where they name no procedure of the
+-- file or no arguments for it; that a run has them nowhere else is part of what it is answered.
+abbrev pub BadWordsWhere : Option Request → Books → Status → Type 0
+BadWordsWhere None books s = (s ≡ status.BadWords) ⊎ GivesUp s
+BadWordsWhere (Some (check file)) books s = s ≡ status.BadWords → ⊥
+BadWordsWhere (Some (run file procedure document fuel arguments)) books s =
+    Told (books file) (λ bytes. NotCalled bytes procedure arguments
+    → (s ≡ status.BadWords) ⊎ GivesUp s)
+
+-- the answer is that of the definition, or the call gives up
+abbrev pub IsAnswered : Option Request → Books → Status → Type 0
+IsAnswered r books s =
+    IsTold r books → ((output : List ℕ) × IsAnswer books r s output) ⊎ GivesUp s
 
 -- what the sink took: all of the output of the answer; at a fault of the sink a prefix of that of
 -- some answer; at want of memory and a fault of the library nothing
@@ -57,12 +85,18 @@ Wrote r books status.WriteFault before after =
 Wrote r books s before after =
     IsTold r books → (output : List ℕ) × IsAnswer books r s output × Took before after output
 
--- an accepted file is said to be one where nothing rose, but for want of memory
+-- Where the library told what is asked for and nothing rose, an accepted file is said to be one, and
+-- a run that ends is printed, but for want of memory.
 abbrev pub Complete : Option Request → Books → (List ℕ → Type 0) → Type 0 → Status → Type 0
 Complete None books read_rose write_rose s = Unit
 Complete (Some (check file)) books read_rose write_rose s =
     Told (books file) (λ bytes. Accepted bytes → (read_rose file → ⊥) → (write_rose → ⊥)
     → (s ≡ status.Done) ⊎ (s ≡ status.OutOfMemory))
+Complete (Some (run file procedure document fuel arguments)) books read_rose write_rose s =
+    (output : List ℕ)
+    → IsAnswer books (Some (run file procedure document fuel arguments)) status.Done output
+    → (read_rose file → ⊥) → (read_rose document → ⊥) → (write_rose → ⊥)
+    → (s ≡ status.Done) ⊎ (s ≡ status.OutOfMemory)
 
 -- the statuses with output
 abbrev pub speaks : Status → Bool

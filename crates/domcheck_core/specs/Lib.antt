@@ -1,3 +1,6 @@
 pub mod Answers
+pub mod Books
+pub mod Calls
 pub mod Clauses
+pub mod Groves
 pub mod Numbers

@@ -13,13 +13,16 @@ use std::alloc::Global;
 use text_tokens::token_list;
 use token_readers::TextFault;
 
+/// The most brackets that are open at one token of a file.
+const MOST_OPEN: u32 = 100;
+
 /// The theory that the bytes spell, or none where they spell none of the form that is read.
 pub fn read_file(alloc: Global, bytes: &[u8]) -> Result<Option<Theory>, OutOfMemory>
     requires { length bytes.now ≤ most_bytes }
     ensures { IfOk result (λ found. MatchOption found (Unreadable bytes.now) (λ t. SpellsFile bytes.now (theory_of t))) }
 {
     let tokens = token_list(alloc, bytes)?;
-    if !are_within(tokens.as_slice()) {
+    if !are_within(tokens.as_slice(), MOST_OPEN) {
         return Ok(None);
     }
     match read_theory(alloc, &tokens) {

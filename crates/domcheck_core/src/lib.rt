@@ -1,29 +1,40 @@
-//! The top call: checks annotated program files. Its contract says what each answer means, when it
-//! comes and what is written, for every library and every sink.
-//! Stands on the readers of files, the checker of theories and the outside.
+//! The top call: checks annotated program files, and runs their procedures on documents. Its contract
+//! says what each answer means, when it comes and what is written, for every library and every sink.
+//! Stands on the readers of words, files and documents, the checker of theories, the machine and the
+//! outside.
 #![tactic(auto)]
 
-ghost use Rattle.std.specs.Prelude.{◌≡◌, ◌≤◌, ℕ, List, IsTrue, None, Some, map, string_bytes};
+ghost use Rattle.std.specs.Prelude.{◌≡◌, ◌≤◌, ◌⊎◌, ℕ, List, IsTrue, None, Some, map, string_bytes};
 ghost use Rattle.outside_io.specs.Causes.{Rose, Told};
-ghost use Rattle.model_grammar.specs.Words.{reading_of};
-ghost use Rattle.domcheck_core.specs.Answers.{Accepted, Refused, Unreadable};
-ghost use Rattle.domcheck_core.specs.Clauses.{OfFile, IsProved, ExactlyWhere, may_answer, ReadRose, Wrote, Complete};
+ghost use Rattle.model_answers.specs.Words.{reading_of};
+ghost use Rattle.domcheck_core.specs.Answers.{Accepted, Refused, Unreadable, IsAnswer};
+ghost use Rattle.domcheck_core.specs.Clauses.{OfFile, IsProved, ExactlyWhere, BadWordsWhere, GivesUp, IsAnswered, may_answer, ReadRose, Wrote, Complete};
 
 mod answers;
+mod books;
+mod calls;
+mod document;
 mod file;
 mod form;
+mod groves;
 mod limits;
+mod replies;
+#[cfg(test)]
+mod run_tests;
+mod runs;
 mod status;
 #[cfg(test)]
 mod tests;
 
-use answers::{Refusal, answer_words};
+use answers::answer_words;
 use outside_io::{Library, Sink, write_all_of};
+use replies::Refusal;
+pub use request_words::{Request, WordFault, read_words};
 pub use status::Status;
 use std::alloc::Global;
 
-/// Does what the words after the program's name ask for, and answers how it ended.
-/// The one form today is `check FILE`. The output is built whole and then written.
+/// Does what the words after the program's name ask for, and answers how it ended. The forms today
+/// are `check FILE` and `run FILE PROC DOC FUEL ARG*`. The output is built whole and then written.
 pub fn domcheck<L: Library, S: Sink>(
     alloc: Global,
     words: &[String],
@@ -41,12 +52,18 @@ pub fn domcheck<L: Library, S: Sink>(
         (λ bytes. ExactlyWhere (Refused bytes) result Status.StepFails) }
     ensures bad_text_exactly { OfFile (reading_of (map string_bytes words.now)) (L.book library.old)
         (λ bytes. ExactlyWhere (Unreadable bytes) result Status.BadText) }
-    ensures bad_words_exactly { ExactlyWhere (reading_of (map string_bytes words.now) ≡ None) result Status.BadWords }
+    ensures bad_words_where { BadWordsWhere (reading_of (map string_bytes words.now)) (L.book library.old) result }
     ensures possible { IsTrue (may_answer (reading_of (map string_bytes words.now)) result) }
+
+    // The answer to each request is the one that is defined, and no other.
+    ensures answered { IsAnswered (reading_of (map string_bytes words.now)) (L.book library.old) result }
+    ensures exactly { (s : Status) (output : List ℕ)
+        → IsAnswer (L.book library.old) (reading_of (map string_bytes words.now)) s output
+        → (result ≡ s) ⊎ GivesUp result }
 
     // Faults come only where their counts rose.
     ensures read_fault { result ≡ Status.ReadFault
-        → ReadRose (reading_of (map string_bytes words.now)) (λ name. Rose (L.faults library.old name) (L.faults library.new name)) }
+        → ReadRose (reading_of (map string_bytes words.now)) (L.book library.old) (λ name. Rose (L.faults library.old name) (L.faults library.new name)) }
     ensures write_fault { result ≡ Status.WriteFault → Rose (S.faults sink.old) (S.faults sink.new) }
 
     // What the sink took.
@@ -66,7 +83,7 @@ pub fn domcheck<L: Library, S: Sink>(
 {
     match answer_words(alloc, words, library) {
         Ok(reply) => {
-            if write_all_of(sink, &reply.line).is_err() {
+            if write_all_of(sink, reply.output.as_str().as_bytes()).is_err() {
                 return Status::WriteFault;
             }
             reply.status

@@ -8,9 +8,6 @@ use dom_syntax::Procedure;
 use text_tokens::Token;
 use token_readers::is_this;
 
-/// The most brackets that are open at one token.
-const MOST_OPEN: u32 = 100;
-
 /// The most bytes of a text.
 const MOST_TEXT: usize = 4096;
 
@@ -36,7 +33,7 @@ fn closes(token: &Token) -> bool
 
 // How many brackets are open behind the token, where so many are open before it.
 fn open_behind(before: u32, token: &Token) -> u32
-    requires { before ≤ 100 }
+    requires { before ≤ 1000 }
     ensures { result ≡ files.open_behind before (seen token.now) }
 {
     if opens(token) {
@@ -49,14 +46,15 @@ fn open_behind(before: u32, token: &Token) -> u32
 }
 
 // Whether never more brackets are open than the most.
-fn nest_within(tokens: &[Token]) -> bool
-    ensures { result ≡ files.nests_within 0 (lexemes_in tokens.now) }
+fn nest_within(tokens: &[Token], most: u32) -> bool
+    requires { most ≤ 1000 }
+    ensures { result ≡ files.nests_within most 0 (lexemes_in tokens.now) }
 {
     let mut rest = tokens;
     let mut depth = 0u32;
     'tokens: while let [first, others @ ..] = rest {
         depth = open_behind(depth, first);
-        if depth > MOST_OPEN {
+        if depth > most {
             return false;
         }
         rest = others;
@@ -88,11 +86,12 @@ fn texts_within(tokens: &[Token]) -> bool
     true
 }
 
-/// Whether the brackets and the literals of the tokens are within the limits.
-pub fn are_within(tokens: &[Token]) -> bool
-    ensures { result ≡ (files.nests_within 0 (lexemes_in tokens.now) && files.texts_within (lexemes_in tokens.now)) }
+/// Whether at most so many brackets are open at each token, and the literals are within the limit.
+pub fn are_within(tokens: &[Token], most_open: u32) -> bool
+    requires { most_open ≤ 1000 }
+    ensures { result ≡ (files.nests_within most_open 0 (lexemes_in tokens.now) && files.texts_within (lexemes_in tokens.now)) }
 {
-    nest_within(tokens) && texts_within(tokens)
+    nest_within(tokens, most_open) && texts_within(tokens)
 }
 
 /// Whether no procedure declares more variables than the most.

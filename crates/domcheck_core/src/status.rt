@@ -2,6 +2,8 @@
 ghost use Rattle.std.specs.Prelude.{◌≡◌};
 ghost use Rattle.domcheck_core.specs.Numbers.{number_of};
 
+use dom_terms::LimitKind;
+
 /// How a call of the program ended.
 #[derive(Clone, Copy, Debug, PartialEq, Eq)]
 pub enum Status {
@@ -9,13 +11,21 @@ pub enum Status {
     Done,
     /// A step isn't an instance of its rule, or a proof doesn't end in its procedure's own triple.
     StepFails,
-    /// The words have none of the forms.
+    /// The words have none of the forms, or they name no procedure of the file or no arguments for it.
     BadWords,
-    /// The file isn't of the form that is read.
+    /// The file isn't of the form that is read, or the document's tokens spell no grove.
     BadText,
+    /// A number of the document is out of range, or one repeats.
+    BadDocument,
+    /// The run faults within the fuel.
+    Faulted,
+    /// The run still has a pending piece when the fuel is spent.
+    FuelSpent,
+    /// A counted quantity passes its limit.
+    Limit(LimitKind),
     /// Memory ran out, at any place; nothing was written.
     OutOfMemory,
-    /// The library failed while the file was read; nothing was written.
+    /// The library failed while the file or the document was read; nothing was written.
     ReadFault,
     /// The sink failed; a prefix of the output was written.
     WriteFault,
@@ -31,6 +41,10 @@ impl Status {
             Status::StepFails => 1,
             Status::BadWords => 2,
             Status::BadText => 3,
+            Status::BadDocument => 5,
+            Status::Faulted => 6,
+            Status::FuelSpent => 7,
+            Status::Limit(_) => 8,
             Status::OutOfMemory => 10,
             Status::ReadFault => 11,
             Status::WriteFault => 12,

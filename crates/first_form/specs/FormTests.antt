@@ -9,7 +9,7 @@ use Rattle.model_formulas.specs.Terms.{Term, literal, variable, sum, difference,
 use Rattle.model_formulas.specs.Formulas.{Named, truth, conjunction, equality, empty}
 use Rattle.model_formulas.specs.WellSorted.{has_sort, both_have, or_else}
 use Rattle.model_programs.specs.Stores.{ProgVar, named, sort_of, as_var}
-use Rattle.model_programs.specs.Commands.{Command, skip, block, assign, Block, stop, ◌then◌}
+use Rattle.model_programs.specs.Commands.{Command, skip, block, assign, create_node, node_name, Block, stop, ◌then◌}
 use Rattle.model_programs.specs.Theories.{JudgementOf, entails, triple, Reason, auto, by_rule, StepOf, ProcedureOf, Theory}
 use Rattle.model_programs.specs.FileFaults.{declared_sort, is_among, has_command}
 use Rattle.model_grammar.specs.FirstForm.{is_first_reason, declares_none}
@@ -55,18 +55,27 @@ does_formula_fit params results (equality a b) =
 does_formula_fit params results (empty grove) = true
 does_formula_fit params results p = false
 
--- an assignment to a declared variable that is no parameter
-abbrev pub does_assignment_fit : List ProgVar → List ProgVar → ProgVar → Term → Bool
-does_assignment_fit params results x e =
+-- a declared variable that is no parameter is set by a term of the sort
+abbrev pub does_setting_fit : List ProgVar → List ProgVar → ProgVar → ValueSort → Term → Bool
+does_setting_fit params results x s e =
     is_declared params results (as_var x) && (not (is_among params x)
-    && (is_term_declared params results e && has_sort (sort_of x) e))
+    && (is_term_declared params results e && has_sort s e))
+
+-- the same of a variable of this sort
+abbrev pub does_query_fit : List ProgVar → List ProgVar → ValueSort → ProgVar → ValueSort → Term → Bool
+does_query_fit params results u x s e =
+    same_value_sort (sort_of x) u && does_setting_fit params results x s e
 
 -- a command of the first form that may stand in the body
 abbrev mutual
   pub does_command_fit : List ProgVar → List ProgVar → Command → Bool
   does_command_fit params results skip = true
   does_command_fit params results (block b) = has_command b && does_block_fit params results b
-  does_command_fit params results (assign x e) = does_assignment_fit params results x e
+  does_command_fit params results (assign x e) = does_setting_fit params results x (sort_of x) e
+  does_command_fit params results (create_node x e) =
+      does_query_fit params results node_sort x str_sort e
+  does_command_fit params results (node_name x e) =
+      does_query_fit params results str_sort x node_sort e
   does_command_fit params results c = false
 
   pub does_block_fit : List ProgVar → List ProgVar → Block → Bool

@@ -1,5 +1,6 @@
 // Commands of the first form.
 ghost use Rattle.std.specs.Prelude.{◌≡◌, map};
+ghost use Rattle.dom_terms.specs.Sorts.{value_sort_of};
 ghost use Rattle.dom_terms.specs.Terms.{prog_var_of, term_of};
 ghost use Rattle.dom_syntax.specs.Commands.{block_of, command_of};
 ghost use Rattle.model_programs.specs.FileFaults as faults;
@@ -8,23 +9,24 @@ ghost use Rattle.first_form.specs.FormTests as tests;
 use crate::scopes::{is_among, is_declared};
 use crate::terms::is_term_declared;
 use dom_syntax::{Block, Command};
-use dom_terms::{ProgVar, Term};
+use dom_terms::{ProgVar, Term, ValueSort, same_value_sort};
 use formula_syntax::has_sort;
 
-// Whether the assignment is to a declared variable that is no parameter, of a term of its sort.
-fn does_assignment_fit(
+// Whether a declared variable that is no parameter is set by a term of the sort.
+fn does_setting_fit(
     params: &[ProgVar],
     results: &[ProgVar],
     variable: &ProgVar,
+    sort: ValueSort,
     value: &Term,
 ) -> bool
-    ensures { result ≡ tests.does_assignment_fit (map prog_var_of params.now)
-        (map prog_var_of results.now) (prog_var_of variable.now) (term_of value.now) }
+    ensures { result ≡ tests.does_setting_fit (map prog_var_of params.now)
+        (map prog_var_of results.now) (prog_var_of variable.now) (value_sort_of sort) (term_of value.now) }
 {
     is_declared(params, results, variable)
         && !is_among(params, variable)
         && is_term_declared(params, results, value)
-        && has_sort(value, variable.sort)
+        && has_sort(value, sort)
 }
 
 fn has_command(block: &Block) -> bool
@@ -45,7 +47,17 @@ pub(crate) fn does_command_fit(params: &[ProgVar], results: &[ProgVar], command:
     match command {
         Command::Skip => true,
         Command::Block(block) => has_command(block) && does_block_fit(params, results, block),
-        Command::Assign(variable, value) => does_assignment_fit(params, results, variable, value),
+        Command::Assign(variable, value) => {
+            does_setting_fit(params, results, variable, variable.sort, value)
+        }
+        Command::Create(variable, name) => {
+            same_value_sort(variable.sort, ValueSort::Node)
+                && does_setting_fit(params, results, variable, ValueSort::Str, name)
+        }
+        Command::Name(variable, node) => {
+            same_value_sort(variable.sort, ValueSort::Str)
+                && does_setting_fit(params, results, variable, ValueSort::Node, node)
+        }
         _ => false,
     }
 }

@@ -1,3 +1,7 @@
 pub mod BoundNames
 pub mod OneSort
 pub mod Replacing
+pub mod Gathering
+pub mod FreeVariables
+pub mod FreeOccurrences
+pub mod RenamedBinders

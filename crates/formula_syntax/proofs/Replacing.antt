@@ -1,6 +1,5 @@
 -- A variable below binders is bound by one of them, or its replacement stands there as it is.
 use Rattle.std.proofs.Common.{◌≡◌, ℕ, List, [], ◌∷◌, ◌<◌, suc, zero, refl, sym, ap, ◌∙◌, subst, true, false, length, arith, Decides}
-use mathlib.Core.Path.{fun_ext}
 use Rattle.model_shapes.specs.Sorts.{ValueSort, Sort}
 use Rattle.model_formulas.specs.Variables.{Var, bound, logic, prog, same_var}
 use Rattle.model_formulas.specs.Terms.{Term, literal, variable, sum, difference, appended, raised, term_with, var_eq, Substitution}

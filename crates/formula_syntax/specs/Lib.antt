@@ -4,3 +4,7 @@ pub mod Binders
 pub mod Sorting
 pub mod Structural
 pub mod Substitution
+pub mod FreeVariables
+pub mod Gathering
+pub mod Renaming
+pub mod Walks

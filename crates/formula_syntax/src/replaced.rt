@@ -14,7 +14,7 @@ use dom_terms::{LogicVar, ProgVar, Term, same_logic_var, same_prog_var};
 
 // a variable that stands in a formula
 #[derive(Drop)]
-enum Name<'a> {
+pub(crate) enum Name<'a> {
     Prog(&'a ProgVar),
     Logic(&'a LogicVar),
 }
@@ -137,26 +137,24 @@ fn replacement<'a>(name: &Name, replacing: &Replacing<'a>) -> Option<&'a Term>
 
 // the term of the first pair that has the variable
 #[tactic(auto, using(crate::proofs::Replacing::pair_rules))]
-fn paired<'a>(name: &Name, pairs: &'a [Pair]) -> Option<&'a Term>
+pub(crate) fn paired<'a>(name: &Name, pairs: &'a [Pair]) -> Option<&'a Term>
     ensures { MatchOption result
         (replacing_each (map pair_of pairs.now) (var_named name.now)
         ≡ variable (var_named name.now))
         (λ term. replacing_each (map pair_of pairs.now) (var_named name.now) ≡ term_of term.now) }
 {
-    match pairs {
-        [] => None,
-        [pair, rest @ ..] => {
-            if is_named(name, &pair.var) {
-                Some(&pair.term)
-            } else {
-                paired(name, rest)
-            }
+    let mut rest = pairs;
+    'pairs: while let [pair, others @ ..] = rest {
+        if is_named(name, &pair.var) {
+            return Some(&pair.term);
         }
+        rest = others;
     }
+    None
 }
 
 // whether the two are one variable
-fn is_named(name: &Name, variable: &AnyVar) -> bool
+pub(crate) fn is_named(name: &Name, variable: &AnyVar) -> bool
     ensures { result ≡ same_var (var_named name.now) (any_var_of variable.now) }
 {
     match (name, variable) {

@@ -1,0 +1,5 @@
+pub mod Walks
+pub mod FirstFound
+pub mod Counts
+pub mod Parents
+pub mod Sorted

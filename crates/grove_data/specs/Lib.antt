@@ -1,1 +1,4 @@
 pub mod Trees
+pub mod Finding
+pub mod UsedNumbers
+pub mod SameTrees

@@ -10,7 +10,7 @@ use Rattle.model_formulas.specs.Variables.{prog}
 use Rattle.model_formulas.specs.Terms.{Term, literal, variable, sum, difference, appended}
 use Rattle.model_formulas.specs.Formulas.{Named, truth, conjunction, equality, empty}
 use Rattle.model_programs.specs.Stores.{ProgVar, named}
-use Rattle.model_programs.specs.Commands.{Command, skip, block, assign, Block, stop, ◌then◌}
+use Rattle.model_programs.specs.Commands.{Command, skip, block, assign, create_node, node_name, Block, stop, ◌then◌}
 use Rattle.model_text.specs.Lexemes.{Lexeme, terminal, name_lexeme, number_lexeme, literal_lexeme}
 
 -- a reserved word or symbol by itself
@@ -62,15 +62,28 @@ pub data SpellsFormula (declared : List ProgVar) : Named → List Lexeme → Typ
       → SpellsFormula declared (conjunction p q)
       (terminal (codes "(") ∷ (s ++ (terminal (codes "and") ∷ (t ++ one (codes ")")))))
 
+-- DOM1 = "createNode" | "nodeName": what is asked of the document, the answer to stand in a variable
+pub data SpellsQuery : (ProgVar → Term → Command) → List Lexeme → Type 0 where
+  create_word : SpellsQuery create_node (one (codes "createNode"))
+  name_word : SpellsQuery node_name (one (codes "nodeName"))
+
+-- E | DOM1 "(" E ")": what is set, behind the variable and its sign
+pub data SpellsSetting (declared : List ProgVar) (x : ProgVar) : Command → List Lexeme → Type 0 where
+  to_value : {a : Term} {s : List Lexeme} → SpellsTerm declared a s
+      → SpellsSetting declared x (assign x a) s
+  to_answer : {q : ProgVar → Term → Command} {a : Term} {s t : List Lexeme}
+      → SpellsQuery q s → SpellsTerm declared a t → SpellsSetting declared x (q x a)
+      (s ++ (terminal (codes "(") ∷ (t ++ one (codes ")"))))
+
 mutual
-  -- C = "skip" | "{" BL "}" | NAME ":=" E
+  -- C = "skip" | "{" BL "}" | NAME ":=" E | NAME ":=" DOM1 "(" E ")"
   pub data SpellsCommand (declared : List ProgVar) : Command → List Lexeme → Type 0 where
     skip_word : SpellsCommand declared skip (one (codes "skip"))
     braces : {b : Block} {s : List Lexeme} → SpellsBlock declared b s
         → SpellsCommand declared (block b) (terminal (codes "{") ∷ (s ++ one (codes "}")))
-    assignment : (w : List ℕ) {a : Term} {s : List Lexeme} → SpellsTerm declared a s
-        → SpellsCommand declared (assign (named w (sort_among declared w)) a)
-        (name_lexeme w ∷ (terminal (codes ":=") ∷ s))
+    setting : (w : List ℕ) {c : Command} {s : List Lexeme}
+        → SpellsSetting declared (named w (sort_among declared w)) c s
+        → SpellsCommand declared c (name_lexeme w ∷ (terminal (codes ":=") ∷ s))
 
   -- BL = C (";" C)*
   pub data SpellsBlock (declared : List ProgVar) : Block → List Lexeme → Type 0 where

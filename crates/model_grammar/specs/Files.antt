@@ -43,11 +43,11 @@ closes lexeme = is_the (codes ")") lexeme || (is_the (codes "]") lexeme
 abbrev pub open_behind : ℕ → Lexeme → ℕ
 open_behind before lexeme = cond (opens lexeme) (before + 1) (cond (closes lexeme) (before - 1) before)
 
--- never are more brackets open than the most
-abbrev pub nests_within : ℕ → List Lexeme → Bool
-nests_within before [] = true
-nests_within before (lexeme ∷ rest) =
-    nat_le (open_behind before lexeme) most_open && nests_within (open_behind before lexeme) rest
+-- never are more brackets open than the most, where so many are open before
+abbrev pub nests_within : ℕ → ℕ → List Lexeme → Bool
+nests_within most before [] = true
+nests_within most before (lexeme ∷ rest) =
+    nat_le (open_behind before lexeme) most && nests_within most (open_behind before lexeme) rest
 
 -- no literal stands for a longer text than the most
 abbrev pub text_within : Lexeme → Bool
@@ -84,7 +84,7 @@ lexemes_of bytes = map lexeme_of (tokens_of bytes)
 -- A FILE: these bytes spell this theory.
 pub record SpellsFile (bytes : List ℕ) (theory : Theory) : Type 0 where
   pub small : length bytes ≤ most_bytes
-  pub nesting : IsTrue (nests_within 0 (lexemes_of bytes))
+  pub nesting : IsTrue (nests_within most_open 0 (lexemes_of bytes))
   pub texts : IsTrue (texts_within (lexemes_of bytes))
   pub spelled : SpellsTheory theory (lexemes_of bytes)
   pub of_form : IsOfForm theory

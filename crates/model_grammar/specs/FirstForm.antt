@@ -1,12 +1,13 @@
--- The theories of the first form, a part of the language of PODS 2008: programs that assign, at the
--- sort of groves, whose proofs go by the rules skip, assign and seq, without logic variables. Their
--- terms are then literals, program variables, sums, differences and joined texts.
+-- The theories of the first form, a part of the language of PODS 2008: programs that assign, create
+-- nodes and read their names, at the sort of groves, whose proofs go by the rules skip, assign and
+-- seq, without logic variables. Their terms are then literals, program variables, sums, differences
+-- and joined texts.
 use Rattle.std.specs.Prelude.{ℕ, Bool, true, false, ◌&&◌, List, [], ◌∷◌, bytes_eq, codes}
 use Rattle.std.specs.List.{list_all, list_any}
 use Rattle.model_shapes.specs.Sorts.{grove, same_data_sort}
 use Rattle.model_formulas.specs.Variables.{Var}
 use Rattle.model_formulas.specs.Formulas.{Named, truth, conjunction, equality, empty}
-use Rattle.model_programs.specs.Commands.{Command, skip, block, assign}
+use Rattle.model_programs.specs.Commands.{Command, skip, block, assign, create_node, node_name}
 use Rattle.model_programs.specs.CommandParts.{commands_in}
 use Rattle.model_programs.specs.Theories.{JudgementOf, entails, triple, Reason, auto, by_rule, StepOf, ProcedureOf, Theory}
 
@@ -18,11 +19,13 @@ is_first_formula (equality a b) = true
 is_first_formula (empty grove) = true
 is_first_formula formula = false
 
--- skip, a block or an assignment
+-- skip, a block, an assignment, createNode or nodeName
 abbrev pub is_first_kind : Command → Bool
 is_first_kind skip = true
 is_first_kind (block b) = true
 is_first_kind (assign x e) = true
+is_first_kind (create_node x e) = true
+is_first_kind (node_name x e) = true
 is_first_kind command = false
 
 -- the command and each command in it is one of these

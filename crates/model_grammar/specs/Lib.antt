@@ -2,5 +2,3 @@ pub mod Expressions
 pub mod Grammar
 pub mod FirstForm
 pub mod Files
-pub mod Words
-pub mod Output

@@ -1,6 +1,7 @@
 -- The readers of terms, formulas and commands on lists of lexemes, each with one lexeme of
--- look-ahead. The grammar says what they read; depth bounds the nesting and `most` the length of
--- blocks. `declared` has the sorts of the names.
+-- look-ahead. Nothing here is to be believed: the proofs tie it to the grammar, which says what they
+-- read. Depth bounds the nesting and `most` the length of blocks. `declared` has the sorts of the
+-- names.
 use Rattle.std.specs.Prelude.{ℕ, zero, suc, nat_le, true, false, cond, List, [], ◌∷◌, Option, Some, None, Err, codes, pos, negsuc}
 use Rattle.model_shapes.specs.Sorts.{grove}
 use Rattle.model_shapes.specs.Values.{null, nolist, int, str, boolean}
@@ -8,7 +9,7 @@ use Rattle.model_formulas.specs.Variables.{prog}
 use Rattle.model_formulas.specs.Terms.{Term, literal, variable, sum, difference, appended}
 use Rattle.model_formulas.specs.Formulas.{Named, truth, conjunction, equality, empty}
 use Rattle.model_programs.specs.Stores.{ProgVar, named}
-use Rattle.model_programs.specs.Commands.{Command, skip, block, assign}
+use Rattle.model_programs.specs.Commands.{Command, skip, block, assign, create_node, node_name}
 use Rattle.dom_syntax.specs.Commands.{block_with}
 use Rattle.model_text.specs.Lexemes.{Lexeme, name_lexeme, number_lexeme, literal_lexeme}
 use Rattle.model_grammar.specs.Expressions.{sort_among, most_integer}
@@ -82,14 +83,24 @@ unfoldable pub block_at : ℕ → Read Command → Read Command
 block_at most command =
     then (sep_list semicolon command most) λ cs. expect (codes "}") (ret (block (block_with cs)))
 
--- a name and its value
-unfoldable pub assignment_at : List ProgVar → Read Term → Read Command
-assignment_at declared term =
-    then (leaf leaf_name) λ w. expect (codes ":=") (then term λ a.
-    ret (assign (named w (sort_among declared w)) a))
+-- a term in brackets
+unfoldable pub in_brackets : Read Term → Read Term
+in_brackets term = expect (codes "(") (then term λ a. expect (codes ")") (ret a))
+
+-- what a variable is set to
+unfoldable pub value_at : ProgVar → Read Term → Read Command
+value_at x term =
+    when (codes "createNode") (then (in_brackets term) λ a. ret (create_node x a))
+    (when (codes "nodeName") (then (in_brackets term) λ a. ret (node_name x a))
+    (then term λ a. ret (assign x a)))
+
+-- a name and what it is set to
+unfoldable pub setting_at : List ProgVar → Read Term → Read Command
+setting_at declared term =
+    then (leaf leaf_name) λ w. expect (codes ":=") (value_at (named w (sort_among declared w)) term)
 
 unfoldable pub command_at : List ProgVar → ℕ → ℕ → Read Command
 command_at declared most zero ts = Err Deep
 command_at declared most (suc n) ts =
     when (codes "skip") (ret skip) (when (codes "{") (block_at most (command_at declared most n))
-    (assignment_at declared (term_at declared n))) ts
+    (setting_at declared (term_at declared n))) ts

@@ -1,4 +1,5 @@
--- The readers of theories on lists of lexemes, each with one lexeme of look-ahead. The grammar says
+-- The readers of theories on lists of lexemes, each with one lexeme of look-ahead. Nothing here is to
+-- be believed: the proofs tie it to the grammar, which says
 -- what they read; depth bounds the nesting and `most` the length of lists. `declared` has the
 -- sorts of the names.
 use Rattle.std.specs.Prelude.{ℕ, ◌+◌, cond, List, [], ◌∷◌, ◌++◌, Option, Some, None, bytes_eq, codes}

@@ -16,6 +16,7 @@ mod tests;
 mod tokens;
 mod words;
 
+pub use numbers::number_value;
 pub use reading::token_list;
 pub use reserved::is_reserved;
 pub use tokens::{Token, TokenKind, Tokens};

@@ -18,18 +18,18 @@ few_lexemes bytes h = omega (arith, few_tokens bytes, length-map (tokens_of byte
 
 pub returns-in_default : goal.returns-in_default
 returns-in_default c =
-    said (λ r. r.status) (λ r. r.line.items) _ _ _ c.line_reply.result (reads_nothing (rw c.in_default.is at c.in_ok-theory.ensures)) c.line_reply.ensures.status c.line_reply.ensures.line
+    said (λ r. r.status) (λ r. r.output) _ _ _ c.reported.result (reads_nothing (rw c.in_default.is at c.in_ok-theory.ensures)) c.reported.ensures.status c.reported.ensures.output
 
 pub is_accepted-requires : goal.is_accepted-requires
 is_accepted-requires c = theory_small (rw c.in-Some.is at c.in_ok-theory.ensures).spelled (few_lexemes c.args.bytes.now c.requires)
 
 pub returns-then-branch : goal.returns-then-branch
 returns-then-branch c =
-    said (λ r. r.status) (λ r. r.line.items) _ _ _ c.yes.result
-    (says_yes (theory_of c.in-Some.theory) (rw c.in-Some.is at c.in_ok-theory.ensures) (c.in_ok-is_accepted.ensures.0 c.if-branch.true)) c.yes.ensures.status c.yes.ensures.line
+    said (λ r. r.status) (λ r. r.output) _ _ _ c.accepted.result
+    (says_yes (theory_of c.in-Some.theory) (rw c.in-Some.is at c.in_ok-theory.ensures) (c.in_ok-is_accepted.ensures.0 c.if-branch.true)) c.accepted.ensures.status c.accepted.ensures.output
 
 pub returns : goal.returns
 returns c =
-    said (λ r. r.status) (λ r. r.line.items) _ _ _ c.line_reply-else-branch.result
+    said (λ r. r.status) (λ r. r.output) _ _ _ c.reported-else-branch.result
     (says_no (theory_of c.in-Some.theory, rw c.in-Some.is at c.in_ok-theory.ensures, λ a. not_both _ c.if-branch.false (c.in_ok-is_accepted.ensures.1 a)))
-    c.line_reply-else-branch.ensures.status c.line_reply-else-branch.ensures.line
+    c.reported-else-branch.ensures.status c.reported-else-branch.ensures.output

@@ -10,34 +10,17 @@ use Rattle.model_grammar.specs.Files.{IsOfForm, lexemes_of, nests_within, texts_
 use Rattle.dom_syntax.specs.Theories.{theory_of}
 use Rattle.proof_text.proofs.Exact.{one_theory}
 use Rattle.domcheck_core.proofs.Spelling.{same_lexemes}
+use Rattle.domcheck_core.proofs.Tested.{both, neither, tested}
 use Rattle.domcheck_core.proofs.file.read_file.Goals as goal
 
 not_both : (b : Bool) → b ≡ false → b ≡ true → ⊥
 not_both b e f = cc
 
-both : (a b : Bool) → (a && b) ≡ true → (a ≡ true) × (b ≡ true)
-both true true e = (refl, refl)
-both true false e = absurd cc
-both false b e = absurd cc
-
-neither : (a b : Bool) → a ≡ true → b ≡ true → (a && b) ≡ false → ⊥
-neither true true e f h = absurd cc
-neither true false e f h = absurd cc
-neither false b e f h = absurd cc
-
--- the test of the tokens is the test of the lexemes
-tested : (bytes : List ℕ) (slice ts : List Token) (r b : Bool) → slice ≡ ts → map token_of ts ≡ tokens_of bytes
-    → r ≡ (nests_within 0 (lexemes_in slice) && texts_within (lexemes_in slice)) → r ≡ b
-    → (nests_within 0 (lexemes_of bytes) && texts_within (lexemes_of bytes)) ≡ b
-tested bytes slice ts r b e h q d =
-    ap (λ (z : List Lexeme). nests_within 0 z && texts_within z)
-    (sym (same_lexemes bytes slice (ap (map token_of) e ∙ h))) ∙ sym q ∙ d
-
 pub returns-then-branch : goal.returns-then-branch
 returns-then-branch c = record {
   small = c.requires;
-  nesting = (both _ _ (tested c.args.bytes.now _ _ _ true c.as_slice.ensures c.in_ok-tokens.ensures c.are_within.ensures c.if-not-are_within.false)).0;
-  texts = (both _ _ (tested c.args.bytes.now _ _ _ true c.as_slice.ensures c.in_ok-tokens.ensures c.are_within.ensures c.if-not-are_within.false)).1;
+  nesting = (both _ _ (tested 100 c.args.bytes.now _ _ _ true c.as_slice.ensures c.in_ok-tokens.ensures c.are_within.ensures c.if-not-are_within.false)).0;
+  texts = (both _ _ (tested 100 c.args.bytes.now _ _ _ true c.as_slice.ensures c.in_ok-tokens.ensures c.are_within.ensures c.if-not-are_within.false)).1;
   spelled = subst (λ (z : List Lexeme). SpellsTheory (theory_of c.in-Ok.theory) z) (same_lexemes c.args.bytes.now _ c.in_ok-tokens.ensures) c.in-Ok.ensures.found;
   of_form = c.in_ok-is_of_form-in-Ok.ensures.0 c.if-branch.true;
 }
@@ -57,4 +40,4 @@ returns-in-Err-BadText c = λ t spells.
 pub returns-then-not-are_within : goal.returns-then-not-are_within
 returns-then-not-are_within c = λ t spells.
     neither _ _ spells.nesting spells.texts
-    (tested c.args.bytes.now _ _ _ false c.as_slice.ensures c.in_ok-tokens.ensures c.are_within.ensures c.if-not-are_within.true)
+    (tested 100 c.args.bytes.now _ _ _ false c.as_slice.ensures c.in_ok-tokens.ensures c.are_within.ensures c.if-not-are_within.true)

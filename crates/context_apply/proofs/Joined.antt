@@ -1,0 +1,58 @@
+-- The trees of forests, one after another; none of them has a hole.
+use Rattle.std.proofs.Common.{◌≡◌, List, [], ◌∷◌, ◌++◌, map, length, sym, refl, ap, arith, ◌∙◌, subst, Some}
+use Rattle.std.specs.Prelude.{slice_get}
+use Rattle.model_shapes.specs.Trees.{Trees, none, beside, width}
+use Rattle.model_shapes.specs.Shapes.{holes}
+use Rattle.model_shapes.proofs.Basics.{beside_assoc, beside-none, holes-beside, width-beside}
+use Rattle.grove_data.specs.Trees.{tree_of, forest_of, tree_step}
+use Rattle.grove_data.specs.declared.trees.Tree.{Tree}
+use Rattle.grove_data.specs.declared.trees.Tree.TheFolds.{fold-roll-Tree, ind-Tree}
+use Rattle.grove_data.proofs.Walks.{tree_is}
+
+-- two forests in a row
+pub forest_of-append : (xs ys : List Tree)
+    → forest_of (xs ++ ys) ≡ beside (forest_of xs) (forest_of ys)
+forest_of-append [] ys = refl
+forest_of-append (x ∷ xs) ys =
+    ap (beside (tree_of x)) (forest_of-append xs ys)
+    ∙ sym (beside_assoc (tree_of x) (forest_of xs) (forest_of ys))
+
+abbrev IsBare : Tree → Type 0
+IsBare t = holes (tree_of t) ≡ 0
+
+kids-bare : (ts : List ((t : Tree) × IsBare t)) → holes (forest_of (map (λ e. e.0) ts)) ≡ 0
+kids-bare [] = refl
+kids-bare (t ∷ ts) =
+    omega (arith, holes-beside (tree_of t.0) (forest_of (map (λ e. e.0) ts)), t.1, kids-bare ts)
+
+-- no tree of the program has a hole
+pub tree-bare : (t : Tree) → holes (tree_of t) ≡ 0
+tree-bare = ind-Tree IsBare (λ x y is.
+    let inner = subst (λ z. holes (forest_of z.kids) ≡ 0) is (kids-bare y.kids) in
+    omega (arith, ap holes (fold-roll-Tree Trees tree_step x), inner))
+
+-- and no forest
+pub forest-bare : (ts : List Tree) → holes (forest_of ts) ≡ 0
+forest-bare [] = refl
+forest-bare (t ∷ ts) =
+    omega (arith, holes-beside (tree_of t) (forest_of ts), tree-bare t, forest-bare ts)
+
+-- each tree is one root
+pub tree-width : (t : Tree) → width (tree_of t) ≡ 1
+tree-width t = ap width (tree_is t)
+
+-- so a forest has as many roots as trees
+pub forest-width : (ts : List Tree) → width (forest_of ts) ≡ length ts
+forest-width [] = refl
+forest-width (t ∷ ts) =
+    omega (arith, width-beside (tree_of t) (forest_of ts), tree-width t, forest-width ts)
+
+pub ruleset forest_rules = (forest_of-append)
+
+-- the first of as many trees as there are roots
+pub first-tree : (ts : List Tree) (t : Tree) → width (forest_of ts) ≡ 1
+    → slice_get ts 0 ≡ Some t → tree_of t ≡ forest_of ts
+first-tree [] t w e = absurd (cc)
+first-tree (t' ∷ []) t w e = let same : t' ≡ t = cc in
+    sym (beside-none (tree_of t)) ∙ ap (λ z. beside (tree_of z) none) (sym same)
+first-tree (t' ∷ (u ∷ ts)) t w e = absurd (omega (arith, forest-width (t' ∷ (u ∷ ts))))

@@ -1,0 +1,22 @@
+use Rattle.std.proofs.Common.{◌≡◌, ◌∙◌, sym, ap, subst}
+use Rattle.model_programs.specs.Commands.{Command, create_node}
+use Rattle.model_programs.specs.Machine.{run}
+use Rattle.model_programs.specs.Outcomes.{standard_limits, step_limit}
+use Rattle.dom_terms.specs.Terms.{prog_var_of, term_of}
+use Rattle.dom_terms.specs.Stores.{store_of}
+use Rattle.grove_data.specs.Trees.{forest_of}
+use Rattle.dom_syntax.specs.Commands.{command_of, command_step}
+use Rattle.dom_syntax.specs.declared.commands.Command.TheOpen.{Command-F}
+use Rattle.dom_syntax.specs.declared.commands.Command.TheFolds.{fold-roll-Command}
+use Rattle.dom_syntax.specs.declared.commands.Command.TheVariants.{rolls-Create}
+use Rattle.dom_meaning.specs.Faults.{TellsLimit}
+use Rattle.dom_meaning.proofs.plans.command_planned.Goals as goal
+
+pub returns-in-Create-clause-limit : goal.returns-in-Create-clause-limit
+returns-in-Create-clause-limit c = λ rest.
+    let is : command_of c.args.command.now
+    ≡ create_node (prog_var_of c.in-Create.variable) (term_of c.in-Create.name) =
+    ap command_of (c.in-Create.is ∙ sym (rolls-Create c.in-Create.variable c.in-Create.name))
+    ∙ fold-roll-Command Command command_step (Command-F.Create c.in-Create.variable c.in-Create.name) in
+    subst (λ (z : Command). TellsLimit c.created.result (step_limit standard_limits (run z) rest
+    (store_of c.args.store.now) (forest_of c.args.grove.now))) (sym is) (c.created.ensures.limit rest)

@@ -1,0 +1,24 @@
+use Rattle.std.proofs.Common.{[], ◌∷◌, codes, map, sym, ap, subst}
+use Rattle.model_shapes.specs.Sorts.{str_sort}
+use Rattle.model_formulas.specs.Formulas.{Named}
+use Rattle.model_programs.specs.Stores.{named}
+use Rattle.model_programs.specs.Theories.{ProcedureOf}
+use Rattle.model_programs.specs.Fitting.{ValuesFit}
+use Rattle.dom_terms.specs.Values.{value_seen}
+use Rattle.dom_meaning.specs.Built.{is_built}
+use Rattle.dom_meaning.proofs.ExampleLaws.{first, example_is}
+use Rattle.dom_meaning.proofs.tests.with_name.Goals as goal
+
+pub start-requires-clause-procedure : goal.start-requires-clause-procedure
+start-requires-clause-procedure c = (first c.args.theory.now _ _ _ c.requires.naming).some
+
+pub start-requires-clause-arguments : goal.start-requires-clause-arguments
+start-requires-clause-arguments c = λ started found.
+    subst (λ (z : ProcedureOf Named). ValuesFit z.params (map value_seen c.in_ok-arguments.arguments))
+    (sym (example_is c.args.theory.now _ _ _ c.requires.naming started found)) (subst (ValuesFit (named (codes "n") str_sort ∷ [])) (sym c.in_ok-arguments.ensures.1) (tt, tt))
+
+pub returns : goal.returns
+returns c =
+    let its = first c.args.theory.now _ _ _ c.requires.naming in
+    let built = ap (λ (z : ProcedureOf Named). is_built z.body) its.is in
+    c.in_ok-start.ensures.runnable its.procedure its.there built

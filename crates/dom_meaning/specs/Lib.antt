@@ -1,0 +1,8 @@
+pub mod Configs
+pub mod Faults
+pub mod Built
+pub mod Plans
+pub mod Steps
+pub mod Runs
+pub mod Starts
+pub mod Examples

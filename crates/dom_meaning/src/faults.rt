@@ -1,0 +1,47 @@
+ghost use Rattle.std.specs.Prelude.{◌≡◌};
+ghost use Rattle.dom_meaning.specs.Faults.{step_fault_of};
+ghost use Rattle.dom_meaning.specs.declared.faults.StepFault.TheVariants as s;
+
+use dom_terms::{EvalFault, LimitKind, OutOfMemory};
+
+/// Why a command faults.
+#[derive(Clone, Copy, Debug, PartialEq, Eq)]
+pub enum FaultKind {
+    /// There is no such node.
+    NoNode,
+    /// There is no such children list.
+    NoList,
+    /// The node would stand below itself.
+    Cycle,
+    /// The node is no child of the other.
+    NotChild,
+}
+
+/// Why a step is not taken. The configuration is then as it was.
+#[derive(Clone, Copy, Debug, PartialEq, Eq)]
+pub enum StepFault {
+    /// It would pass a limit.
+    Limit(LimitKind),
+    /// Memory was refused.
+    OutOfMemory,
+}
+
+impl From<OutOfMemory> for StepFault {
+    ghost from_gives = { λ _ fault. fault ≡ s.OutOfMemory };
+
+    fn from(_refused: OutOfMemory) -> StepFault {
+        StepFault::OutOfMemory
+    }
+}
+
+impl From<EvalFault> for StepFault {
+    ghost from_gives = { λ refused fault. fault ≡ step_fault_of refused };
+
+    fn from(refused: EvalFault) -> StepFault {
+        match refused {
+            EvalFault::NumberRange => StepFault::Limit(LimitKind::Number),
+            EvalFault::TextLimit => StepFault::Limit(LimitKind::Text),
+            EvalFault::OutOfMemory => StepFault::OutOfMemory,
+        }
+    }
+}

@@ -1,0 +1,152 @@
+// Runs within their fuel.
+ghost use Rattle.std.specs.Prelude as plain;
+ghost use Rattle.std.specs.Prelude.{◌≡◌, ℕ, ◌<◌, [], ◌∷◌, ◌++◌, length, suc, map, true, IfOk, MatchResult};
+ghost use Rattle.std.specs.List.{list_all};
+ghost use Rattle.model_programs.specs.Stores as stores;
+ghost use Rattle.model_programs.specs.Theories.{procedures_of};
+ghost use Rattle.model_programs.specs.FileFaults.{IsWellFormedTheory};
+ghost use Rattle.model_programs.specs.Machine as machine;
+ghost use Rattle.model_programs.specs.Outcomes as model;
+ghost use Rattle.model_programs.specs.Outcomes.{values_in};
+ghost use Rattle.dom_terms.specs.Terms.{prog_var_of};
+ghost use Rattle.dom_terms.specs.Stores.{store_of};
+ghost use Rattle.grove_data.specs.Trees.{forest_of};
+ghost use Rattle.dom_syntax.specs.Theories.{theory_of};
+ghost use Rattle.dom_meaning.specs.Configs.{config_of, pick_of};
+ghost use Rattle.dom_meaning.specs.Built.{is_built_piece, IsRunnable};
+ghost use Rattle.dom_meaning.specs.Faults.{fault_kind_of};
+ghost use Rattle.dom_meaning.specs.Runs.{outcome_from, IsOutcome, IfSpent, pick_within};
+
+use crate::configurations::{Config, Pending};
+use crate::faults::{FaultKind, StepFault};
+use crate::results::values_of;
+use crate::steps::{StepOut, step};
+use dom_syntax::{Command, Theory};
+use dom_terms::{LimitKind, Values};
+use grove_data::{Grove, greatest_ids};
+use std::alloc::Global;
+
+/// How a run came out within its fuel.
+#[derive(Debug, Drop)]
+pub enum Outcome {
+    /// Nothing is pending: the steps taken, the values of the results in order, and the grove.
+    Ended {
+        steps: u32,
+        values: Values,
+        grove: Grove,
+    },
+    /// A command faults: why, the steps taken before, and the command.
+    Fault {
+        kind: FaultKind,
+        steps: u32,
+        command: Command,
+    },
+    /// The fuel is spent, and this is left.
+    Spent {
+        config: Config,
+    },
+    /// The next step would pass a limit.
+    Limit(LimitKind),
+    /// Memory was refused.
+    OutOfMemory,
+}
+
+/// Runs the configuration for at most `fuel` steps. A new node takes one more than the greatest node
+/// number, and one more than the greatest list number, of the grove. Before each step it is asked, in
+/// this order, whether nothing is pending, whether the fuel is spent, and whether a limit is passed:
+/// Number or Text of the terms of the first piece, then Nodes, then Identifier.
+pub fn run_plain(alloc: Global, theory: &Theory, config: Config, fuel: u32) -> Outcome
+    requires well_formed { IsWellFormedTheory (theory_of theory.now) }
+    requires runnable { IsRunnable (procedures_of (theory_of theory.now)) (config_of config) }
+    ensures outcome { IsOutcome (map prog_var_of config.results) fuel result
+        (outcome_from (procedures_of (theory_of theory.now)) (map prog_var_of config.results) fuel 0
+        (config_of config)) }
+    ensures spent { IfSpent result (IsRunnable (procedures_of (theory_of theory.now))) }
+{
+    let mut config = config;
+    for steps in 0..fuel {
+        match turned(alloc, theory, config, steps) {
+            Ok(next) => config = next,
+            Err(outcome) => return outcome,
+        }
+    }
+    if config.pending.is_empty() {
+        return ended(alloc, config, fuel);
+    }
+    Outcome::Spent { config }
+}
+
+// One step of a run: the next configuration, or how the run comes out there.
+fn turned(alloc: Global, theory: &Theory, mut config: Config, steps: u32) -> Result<Config, Outcome>
+    requires well_formed { IsWellFormedTheory (theory_of theory.now) }
+    requires runnable { IsRunnable (procedures_of (theory_of theory.now)) (config_of config) }
+    ensures outcome { let procedures = procedures_of (theory_of theory.now) in
+        let results = map prog_var_of config.results in
+        MatchResult result
+        (λ next. (fuel : ℕ) → outcome_from procedures results (suc fuel) steps (config_of config)
+        ≡ outcome_from procedures results fuel (suc steps) (config_of next))
+        (λ outcome. (fuel total : ℕ) → IsOutcome results total outcome
+        (outcome_from procedures results (suc fuel) steps (config_of config))) }
+    ensures next { MatchResult result
+        (λ next. IsRunnable (procedures_of (theory_of theory.now)) (config_of next))
+        (λ outcome. IfSpent outcome (λ left. ⊥)) }
+    ensures results { IfOk result (λ next. next.results ≡ config.results) }
+{
+    let pick = next_pick(&config.grove);
+    match step(alloc, theory, &mut config, pick) {
+        Ok(StepOut::Next) => Ok(config),
+        Ok(StepOut::Done) => Err(ended(alloc, config, steps)),
+        Ok(StepOut::Fault(kind)) => Err(faulted(config, kind, steps)),
+        Ok(StepOut::BadPick) => Err(Outcome::Limit(LimitKind::Identifier)),
+        Err(StepFault::Limit(kind)) => Err(Outcome::Limit(kind)),
+        Err(StepFault::OutOfMemory) => Err(Outcome::OutOfMemory),
+    }
+}
+
+// The numbers of a new node: one more than the greatest, or two zeros where one is at its limit.
+fn next_pick(grove: &Grove) -> (u32, u32)
+    ensures { pick_of result ≡ pick_within (forest_of grove.now) }
+{
+    let (node, list) = greatest_ids(grove);
+    if node == u32::MAX || list == u32::MAX {
+        return (0, 0);
+    }
+    (node + 1, list + 1)
+}
+
+// The end of a run.
+fn ended(alloc: Global, config: Config, steps: u32) -> Outcome
+    ensures outcome { (total : ℕ) → IsOutcome (map prog_var_of config.results) total result
+        (model.ends steps (values_in (map prog_var_of config.results) (store_of config.store))
+        (forest_of config.grove)) }
+    ensures spent { IfSpent result (λ left. ⊥) }
+{
+    match values_of(alloc, &config.results, &config.store) {
+        Ok(values) => Outcome::Ended {
+            steps,
+            values,
+            grove: config.grove,
+        },
+        Err(_) => Outcome::OutOfMemory,
+    }
+}
+
+// The fault of the first piece, which is a command.
+fn faulted(mut config: Config, kind: FaultKind, steps: u32) -> Outcome
+    requires pending { 0 < length config.pending }
+    requires built { list_all is_built_piece (config_of config).pending ≡ true }
+    ensures outcome { (results : plain.List stores.ProgVar) (total : ℕ) (piece : machine.Piece)
+        (rest : plain.List machine.Piece) → (config_of config).pending ≡ piece ∷ rest
+        → IsOutcome results total result (model.has_fault (fault_kind_of kind) steps piece) }
+    ensures spent { IfSpent result (λ left. ⊥) }
+{
+    let place = config.pending.len() - 1;
+    match config.pending.remove(place) {
+        Pending::Run(command) => Outcome::Fault {
+            kind,
+            steps,
+            command,
+        },
+        Pending::Restore(_, _) | Pending::Return(_, _, _) => unreachable!(),
+    }
+}

@@ -1,0 +1,121 @@
+-- Runs that are called: they may be run, and where they end, the grove is well formed.
+use Rattle.std.proofs.Common.{◌≡◌, ◌∙◌, ℕ, zero, suc, Bool, true, false, ◌&&◌, List, [], ◌∷◌, map, slice_get, Some, Result, Ok, Err, IfOk, refl, sym, subst}
+use Rattle.std.specs.List.{list_all}
+use Rattle.model_shapes.specs.Sorts.{shape, grove, same_data_sort}
+use Rattle.model_shapes.specs.Trees.{Trees, WellFormed}
+use Rattle.model_shapes.specs.Values.{Value}
+use Rattle.model_formulas.specs.Formulas.{Named}
+use Rattle.model_programs.specs.Stores.{ProgVar, Store}
+use Rattle.model_programs.specs.Commands.{Command, skip, block, assign, create_node, node_name, child_nodes, parent_node, list_item, append_child, remove_child, if_else, while_do, local, call}
+use Rattle.model_programs.specs.CommandParts.{commands_in}
+use Rattle.model_programs.specs.Theories.{ProcedureOf, Theory, Procedures, procedures_of}
+use Rattle.model_programs.specs.FileFaults.{IsWellFormedTheory}
+use Rattle.model_programs.specs.Fitting.{FitsConfig, Fine}
+use Rattle.model_programs.specs.LocalTriples.{Ends}
+use Rattle.model_programs.specs.Behind.{Behind}
+use Rattle.model_programs.specs.Machine as machine
+use Rattle.model_programs.specs.Outcomes as model
+use Rattle.model_programs.specs.Outcomes.{standard_limits}
+use Rattle.model_programs.proofs.Picks.{outcome-behind}
+use Rattle.model_programs.proofs.Fine.{runs-fine}
+use Rattle.model_programs.proofs.WellFormedTheories.{well-formed-bodies}
+use Rattle.model_grammar.specs.FirstForm.{is_first_kind, is_first_command, is_first_formula, is_first_step, is_first_procedure}
+use Rattle.dom_syntax.specs.declared.theories.Procedure.{Procedure}
+use Rattle.dom_syntax.specs.Theories.{procedure_of}
+use Rattle.dom_meaning.specs.Built.{is_built_kind, is_built}
+use Rattle.dom_meaning.specs.Runs.{outcome_from, IsOutcome}
+use Rattle.dom_meaning.specs.Starts.{Begins}
+use Rattle.dom_meaning.specs.Configs.{config_of}
+use Rattle.dom_meaning.specs.declared.configurations.Config.{Config}
+use Rattle.dom_terms.specs.Terms.{prog_var_of}
+use Rattle.dom_meaning.specs.declared.runs.Outcome.{Outcome}
+use Rattle.dom_meaning.specs.declared.runs.Outcome.TheVariants as o
+use Rattle.domcheck_core.specs.Calls.{IsWhole}
+use Rattle.domcheck_core.specs.Groves.{Passes}
+use Rattle.domcheck_core.specs.Answers.{Answer, outcome_on, outcome_answer, grove_answer, unless_unfit}
+use Rattle.domcheck_core.proofs.Tested.{both}
+
+-- the commands of the first form are those that the machine runs
+same_kinds : (c : Command) → is_first_kind c ≡ is_built_kind c
+same_kinds skip = refl
+same_kinds (block b) = refl
+same_kinds (assign x e) = refl
+same_kinds (create_node x e) = refl
+same_kinds (node_name x e) = refl
+same_kinds (child_nodes x e) = refl
+same_kinds (parent_node x e) = refl
+same_kinds (list_item x e f) = refl
+same_kinds (append_child e f) = refl
+same_kinds (remove_child e f) = refl
+same_kinds (if_else c a b) = refl
+same_kinds (while_do c b) = refl
+same_kinds (local x b) = refl
+same_kinds (call results name arguments) = refl
+
+all_kinds : (cs : List Command) → list_all is_first_kind cs ≡ list_all is_built_kind cs
+all_kinds [] = refl
+all_kinds (c ∷ cs) = λ i. same_kinds c i && all_kinds cs i
+
+built_body : (f : ProcedureOf Named) → is_first_procedure f ≡ true → is_built f.body ≡ true
+built_body f e =
+    let a = both (same_data_sort f.sort grove) (is_first_formula f.pre && (is_first_formula f.post && (is_first_command f.body && list_all is_first_step f.proof))) e in
+    let b = both (is_first_formula f.pre) (is_first_formula f.post && (is_first_command f.body && list_all is_first_step f.proof)) a.1 in
+    let c = both (is_first_formula f.post) (is_first_command f.body && list_all is_first_step f.proof) b.1 in
+    sym (all_kinds (commands_in f.body)) ∙ (both (is_first_command f.body) (list_all is_first_step f.proof) c.1).0
+
+-- of the procedure at a place
+pub built_at : (xs : List Procedure) (k : ℕ) (p : Procedure) → list_all is_first_procedure (map procedure_of xs) ≡ true → slice_get xs k ≡ Some p
+    → is_built (procedure_of p).body ≡ true
+built_at [] k p e h = absurd cc
+built_at (x ∷ xs) zero p e h =
+    let same : x ≡ p = cc in
+    subst (λ (z : Procedure). is_built (procedure_of z).body ≡ true) same
+    (built_body (procedure_of x) (both (is_first_procedure (procedure_of x)) (list_all is_first_procedure (map procedure_of xs)) e).0)
+built_at (x ∷ xs) (suc k) p e h =
+    built_at xs k p (both (is_first_procedure (procedure_of x)) (list_all is_first_procedure (map procedure_of xs)) e).1 h
+
+-- where a run ends, the grove is well formed
+ends_whole : (theory : Theory) → IsWellFormedTheory theory → (results : List ProgVar) (fuel : ℕ) (config : machine.Config)
+    → FitsConfig (procedures_of theory) config → (n : ℕ) (values : List Value) (g : Trees)
+    → outcome_from (procedures_of theory) results fuel 0 config ≡ model.ends n values g → WellFormed g
+ends_whole theory w results fuel config fits n values g e =
+    let ps = procedures_of theory in
+    let b : Behind ps results 0 config.pending config.store config.grove (model.ends n values g) =
+    subst (Behind ps results 0 config.pending config.store config.grove) e
+    (outcome-behind standard_limits ps results fuel 0 config.pending config.store config.grove) in
+    let f : Ends Unit Fine (machine.ended b.1 g) =
+    subst (Ends Unit Fine) b.3 (runs-fine ps (well-formed-bodies theory w) b.0 config.pending config.store config.grove fits.pieces fits.fine) in
+    f.whole.well_formed
+
+pub whole : (theory : Theory) → IsWellFormedTheory theory → (results : List ProgVar) (fuel : ℕ) (config : machine.Config)
+    → FitsConfig (procedures_of theory) config → (r : Outcome) → IsOutcome results fuel r (outcome_from (procedures_of theory) results fuel 0 config) → IsWhole r
+whole theory w results fuel config fits (o.Ended steps values g) e = ends_whole theory w results fuel config fits steps _ _ e
+whole theory w results fuel config fits (o.Fault kind steps command) e = tt
+whole theory w results fuel config fits (o.Spent left) e = tt
+whole theory w results fuel config fits (o.Limit kind) e = tt
+whole theory w results fuel config fits o.OutOfMemory e = tt
+
+-- what a run came to is what the definition says of the document
+pub ran : (theory : Theory) (f : ProcedureOf Named) (values : List Value) (fuel : ℕ) (document roots : Trees) (config : Config) (results : List ProgVar) (r : Outcome)
+    → Begins f values roots config → roots ≡ document → results ≡ f.results
+    → IsOutcome (map prog_var_of config.results) fuel r (outcome_from (procedures_of theory) (map prog_var_of config.results) fuel 0 (config_of config))
+    → IsOutcome results fuel r (outcome_on theory f values fuel document)
+ran theory f values fuel document roots config results r begins e q h =
+    let ps = procedures_of theory in
+    let a : IsOutcome f.results fuel r (outcome_from ps f.results fuel 0 (config_of config)) =
+    subst (λ (z : List ProgVar). IsOutcome z fuel r (outcome_from ps z fuel 0 (config_of config))) begins.results h in
+    let b : IsOutcome f.results fuel r (outcome_from ps f.results fuel 0 (machine.start f values roots)) =
+    subst (λ (z : machine.Config). IsOutcome f.results fuel r (outcome_from ps f.results fuel 0 z)) begins.configuration a in
+    let c : IsOutcome f.results fuel r (outcome_on theory f values fuel document) =
+    subst (λ (z : Trees). IsOutcome f.results fuel r (outcome_on theory f values fuel z)) e b in
+    subst (λ (z : List ProgVar). IsOutcome z fuel r (outcome_on theory f values fuel document)) (sym q) c
+
+-- the answer of the outcome is the answer on the document
+pub on_grove : {A E : Type 0} (theory : Theory) (f : ProcedureOf Named) (values : List Value) (fuel : ℕ) (document : Trees) (results : List ProgVar) (of : A → Answer) (reply : Result A E)
+    → Passes (unless_unfit document) → results ≡ f.results
+    → IfOk reply (λ x. outcome_answer results (outcome_on theory f values fuel document) ≡ Some (of x))
+    → IfOk reply (λ x. grove_answer theory f values fuel document ≡ Some (of x))
+on_grove theory f values fuel document results of (Ok x) passes e h =
+    passes (outcome_answer f.results (outcome_on theory f values fuel document))
+    ∙ subst (λ (z : List ProgVar). outcome_answer z (outcome_on theory f values fuel document) ≡ Some (of x)) e h
+on_grove theory f values fuel document results of (Err x) passes e h = tt

@@ -1,0 +1,39 @@
+-- What a call of the program stands for, and what a run needs of it; nothing here is to be believed.
+use Rattle.std.specs.Prelude.{◌≡◌, ℕ, List, Some, slice_get, map}
+use Rattle.model_shapes.specs.Trees.{WellFormed}
+use Rattle.model_programs.specs.Fitting.{ValuesFit}
+use Rattle.model_grammar.specs.Files.{IsOfForm}
+use Rattle.dom_terms.specs.Terms.{prog_var_of}
+use Rattle.grove_data.specs.Trees.{forest_of}
+use Rattle.dom_meaning.specs.declared.runs.Outcome.{Outcome}
+use Rattle.dom_meaning.specs.declared.runs.Outcome.TheVariants as o
+use Rattle.dom_syntax.specs.declared.theories.Procedure.{Procedure}
+use Rattle.dom_syntax.specs.declared.theories.Theory.{Theory}
+use Rattle.dom_syntax.specs.Theories.{procedure_of, theory_of}
+use Rattle.dom_terms.specs.Values.{value_seen}
+use Rattle.model_answers.specs.Arguments.{called, procedure_called}
+use Rattle.domcheck_core.specs.declared.calls.Call.{Call}
+
+-- a procedure stands at the place, and it is the first of the name
+abbrev pub IsPlaceOf : List ℕ → List Procedure → ℕ → Type 0
+IsPlaceOf name procedures place =
+    (f : Procedure) × (slice_get procedures place ≡ Some f)
+    × (procedure_called name (map procedure_of procedures) ≡ Some (procedure_of f))
+
+-- a procedure stands at the place, and it with the values is what is called
+abbrev pub IsCallOf : Theory → List ℕ → List (List ℕ) → Call → Type 0
+IsCallOf theory name arguments call =
+    (f : Procedure) × (slice_get theory.procedures call.procedure ≡ Some f)
+    × (called (theory_of theory) name arguments ≡ Some (procedure_of f, map value_seen call.values))
+
+-- the theory is of the form that is read, and the values fit the parameters of the procedure
+pub record FitsCall (theory : Theory) (call : Call) : Type 0 where
+  pub of_form : IsOfForm (theory_of theory)
+  pub procedure : Procedure
+  pub stands : slice_get theory.procedures call.procedure ≡ Some procedure
+  pub fit : ValuesFit (map prog_var_of procedure.params) (map value_seen call.values)
+
+-- the grove at the end of a run is well formed
+abbrev pub IsWhole : Outcome → Type 0
+IsWhole (o.Ended steps values grove) = WellFormed (forest_of grove)
+IsWhole outcome = Unit

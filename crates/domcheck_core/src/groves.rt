@@ -1,0 +1,76 @@
+// The groves that a run may start on.
+ghost use Rattle.std.specs.Prelude.{◌≡◌, None, IfOk, IfErr};
+ghost use Rattle.model_shapes.specs.Sorts.{grove, shape};
+ghost use Rattle.model_shapes.specs.Shapes.{Shaped};
+ghost use Rattle.model_documents.specs.Numbers.{first_repeat};
+ghost use Rattle.grove_data.specs.Trees.{forest_of};
+ghost use Rattle.logic_text.specs.RawGroves.{raw_forest_of};
+ghost use Rattle.domcheck_core.specs.Answers.{unless_unfit};
+ghost use Rattle.domcheck_core.specs.Groves.{size_test, repeat_test, IsUnfit, Passes};
+
+use crate::status::Status;
+use dom_terms::LimitKind;
+use fault_report::Report;
+use grove_data::{Grove, UniqueFault, check_unique, has_at_most};
+use logic_text::{RangeFault, RawGrove, to_grove};
+use std::alloc::Global;
+
+/// The most nodes of a document.
+const MOST_NODES: usize = 1000;
+
+/// Why a run may not start on a grove.
+#[derive(Clone, Copy, Debug, PartialEq, Eq)]
+pub enum Unfit {
+    /// The answer is this one.
+    Refused(Status, Report),
+    /// Memory ran out.
+    OutOfMemory,
+}
+
+// The grove, unless it has too many nodes.
+fn within_nodes(grove: Grove) -> Result<Grove, Unfit>
+    ensures same { IfOk result (λ kept. forest_of kept ≡ forest_of grove) }
+    ensures passes { IfOk result (λ kept. Passes (size_test (forest_of grove))) }
+    ensures told { IfErr result (λ e. IsUnfit e (size_test (forest_of grove))) }
+{
+    if has_at_most(&grove, MOST_NODES) {
+        return Ok(grove);
+    }
+    let kind = LimitKind::Nodes;
+    Err(Unfit::Refused(Status::Limit(kind), Report::Limit { kind }))
+}
+
+// The grove, unless a number repeats or it has too many nodes.
+fn without_repeats(alloc: Global, grove: Grove) -> Result<Grove, Unfit>
+    ensures same { IfOk result (λ kept. forest_of kept ≡ forest_of grove) }
+    ensures unique { IfOk result (λ kept. first_repeat (forest_of grove) ≡ None) }
+    ensures passes { IfOk result (λ kept. Passes (repeat_test (forest_of grove))) }
+    ensures told { IfErr result (λ e. IsUnfit e (repeat_test (forest_of grove))) }
+{
+    match check_unique(alloc, &grove) {
+        Ok(()) => within_nodes(grove),
+        Err(UniqueFault::Repeated { kind, number }) => {
+            let report = Report::Repeated { kind, number };
+            Err(Unfit::Refused(Status::BadDocument, report))
+        }
+        Err(UniqueFault::OutOfMemory) => Err(Unfit::OutOfMemory),
+    }
+}
+
+/// The grove of a document, unless a number is out of range, a number repeats or it has too many
+/// nodes: the first of these, in this order.
+pub fn fit_grove(alloc: Global, raw: &RawGrove) -> Result<Grove, Unfit>
+    ensures same { IfOk result (λ kept. forest_of kept ≡ raw_forest_of raw.now) }
+    ensures shaped { IfOk result (λ kept. Shaped (shape grove) (raw_forest_of raw.now)) }
+    ensures passes { IfOk result (λ kept. Passes (unless_unfit (raw_forest_of raw.now))) }
+    ensures told { IfErr result (λ e. IsUnfit e (unless_unfit (raw_forest_of raw.now))) }
+{
+    match to_grove(alloc, raw) {
+        Ok(grove) => without_repeats(alloc, grove),
+        Err(RangeFault::OutOfRange { kind, number }) => {
+            let report = Report::OutOfRange { kind, number };
+            Err(Unfit::Refused(Status::BadDocument, report))
+        }
+        Err(RangeFault::OutOfMemory) => Err(Unfit::OutOfMemory),
+    }
+}

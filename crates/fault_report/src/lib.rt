@@ -1,0 +1,14 @@
+//! The lines that the program prints, but for that of an accepted theory.
+//! Promises that each is the text of the definitions, byte by byte.
+//! Stands on the text of groves and on the machine's faults.
+#![tactic(auto)]
+
+mod endings;
+mod names;
+mod reports;
+#[cfg(test)]
+mod tests;
+mod values;
+
+pub use endings::ended_text;
+pub use reports::{Report, status_line};

@@ -1,0 +1,103 @@
+-- How the list of the free variables is found step by step.
+use Rattle.std.proofs.Common.{◌≡◌, refl, sym, ap, ◌∙◌, Bool, true, false, not, cond, List, [], ◌∷◌, ◌++◌, map, ◌||◌}
+use Rattle.std.specs.List.{list_any}
+use Rattle.std.proofs.lemmas.List.{map-append}
+use Rattle.std.proofs.lemmas.List.Elements.{filter-append}
+use Rattle.model_formulas.specs.Variables.{Var, same_var}
+use Rattle.model_formulas.specs.VariableTests.{false≢true}
+use Rattle.formula_syntax.specs.declared.variables.AnyVar.{AnyVar}
+use Rattle.formula_syntax.specs.Formulas.{any_var_of}
+use Rattle.formula_syntax.specs.FreeVariables.{is_among, without}
+use Rattle.formula_syntax.specs.Gathering.{outside, with_one, with_each}
+
+-- binders leave of one list and another what they leave of each
+pub outside-append : (xs ys zs : List Var)
+    → outside xs (ys ++ zs) ≡ outside xs ys ++ outside xs zs
+outside-append [] ys zs = refl
+outside-append (x ∷ xs) ys zs =
+    ap (outside xs) (filter-append (λ y. not (same_var y x)) ys zs)
+    ∙ outside-append xs (without x ys) (without x zs)
+
+each-append : (found xs ys : List Var)
+    → with_each found (xs ++ ys) ≡ with_each (with_each found xs) ys
+each-append found [] ys = refl
+each-append found (x ∷ xs) ys = each-append (with_one found x) xs ys
+
+-- one part behind another
+pub parts-in-order : (found xs ys zs : List Var)
+    → with_each found (outside xs (ys ++ zs))
+    ≡ with_each (with_each found (outside xs ys)) (outside xs zs)
+parts-in-order found xs ys zs =
+    ap (with_each found) (outside-append xs ys zs)
+    ∙ each-append found (outside xs ys) (outside xs zs)
+
+-- binders leave nothing of nothing
+pub outside-none : (xs : List Var) → outside xs [] ≡ []
+outside-none [] = refl
+outside-none (x ∷ xs) = outside-none xs
+
+-- a variable that one of the binders binds
+pub outside-bound : (x : Var) (xs : List Var) → is_among x xs ≡ true → outside xs (x ∷ []) ≡ []
+outside-bound x [] e = false≢true e
+outside-bound x (y ∷ ys) e = go (same_var x y) e (outside-bound x ys)
+  where
+    go : (b : Bool) → (b || is_among x ys) ≡ true
+        → (is_among x ys ≡ true → outside ys (x ∷ []) ≡ [])
+        → outside ys (cond (not b) (x ∷ []) []) ≡ []
+    go true e f = outside-none ys
+    go false e f = f e
+
+-- and one that none of them does
+pub outside-free : (x : Var) (xs : List Var) → is_among x xs ≡ false
+    → outside xs (x ∷ []) ≡ x ∷ []
+outside-free x [] e = refl
+outside-free x (y ∷ ys) e = go (same_var x y) e (outside-free x ys)
+  where
+    go : (b : Bool) → (b || is_among x ys) ≡ false
+        → (is_among x ys ≡ false → outside ys (x ∷ []) ≡ x ∷ [])
+        → outside ys (cond (not b) (x ∷ []) []) ≡ x ∷ []
+    go true e f = false≢true (sym e)
+    go false e f = f e
+
+-- a variable before a part
+pub first-in-order : (found xs zs : List Var) (x : Var)
+    → with_each found (outside xs (x ∷ zs))
+    ≡ with_each (with_each found (outside xs (x ∷ []))) (outside xs zs)
+first-in-order found xs zs x = parts-in-order found xs (x ∷ []) zs
+
+-- a bound variable isn't put behind what was found
+pub bound-left : (found xs : List Var) (x : Var) → is_among x xs ≡ true
+    → with_each found (outside xs (x ∷ [])) ≡ found
+bound-left found xs x e = ap (with_each found) (outside-bound x xs e)
+
+-- a test of a list, and of what its items stand for
+pub any-seen : {A B : Type 0} (f : A → B) (test : B → Bool) (xs : List A)
+    → list_any test (map f xs) ≡ list_any (λ x. test (f x)) xs
+any-seen f test [] = refl
+any-seen f test (x ∷ xs) = ap (λ b. test (f x) || b) (any-seen f test xs)
+
+-- nor is one that was found
+pub found-left : (found : List AnyVar) (xs : List Var) (x : Var) → is_among x xs ≡ false
+    → list_any (λ v. same_var x (any_var_of v)) found ≡ true
+    → with_each (map any_var_of found) (outside xs (x ∷ [])) ≡ map any_var_of found
+found-left found xs x e h =
+    ap (with_each seen) (outside-free x xs e)
+    ∙ ap (λ b. cond b seen (seen ++ x ∷ [])) (any-seen any_var_of (same_var x) found ∙ h)
+  where
+    seen : List Var
+    seen = map any_var_of found
+
+-- any other one is
+pub new-put : (found : List AnyVar) (xs : List Var) (x : Var) (v : AnyVar)
+    → is_among x xs ≡ false → list_any (λ v. same_var x (any_var_of v)) found ≡ false
+    → any_var_of v ≡ x
+    → map any_var_of (found ++ v ∷ []) ≡ with_each (map any_var_of found) (outside xs (x ∷ []))
+new-put found xs x v e h s =
+    map-append any_var_of found (v ∷ []) ∙ ap (λ u. map any_var_of found ++ u ∷ []) s
+    ∙ sym (ap (with_each (map any_var_of found)) (outside-free x xs e)
+    ∙ ap (λ b. cond b (map any_var_of found) (map any_var_of found ++ x ∷ []))
+    (any-seen any_var_of (same_var x) found ∙ h))
+
+pub ruleset step_rules = (parts-in-order, first-in-order, outside-none)
+
+pub ruleset variable_rules = (bound-left, found-left, new-put)

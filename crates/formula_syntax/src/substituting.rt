@@ -1,0 +1,250 @@
+ghost use Rattle.std.specs.Prelude.{◌≡◌, ◌≤◌, IfOk, None, true, ◌∷◌, map};
+ghost use Rattle.model_formulas.specs.Terms as terms;
+ghost use Rattle.model_formulas.specs.Nameless.{nameless, walked};
+ghost use Rattle.model_formulas.specs.Substitution.{formula_with};
+ghost use Rattle.model_formulas.specs.WellSorted.{parts};
+ghost use Rattle.dom_terms.specs.Sorts.{sort_of};
+ghost use Rattle.dom_terms.specs.Terms.{logic_var_of, term_of};
+ghost use Rattle.formula_syntax.specs.Formulas.{formula_of, pair_of};
+ghost use Rattle.formula_syntax.specs.Structural.{is_structural};
+ghost use Rattle.formula_syntax.specs.Substitution.{replacing_each, var_named};
+ghost use Rattle.formula_syntax.specs.Renaming as own;
+ghost use Rattle.formula_syntax.specs.Walks as walks;
+
+use crate::formulas::Formula;
+use crate::renaming::{Scopes, became, is_put, longest_name, longest_put, renamed};
+use crate::replaced::{Name, paired};
+use crate::variables::Pair;
+use dom_terms::{Copied, LogicVar, OutOfMemory, Term, same_sort};
+use std::alloc::Global;
+
+// what a walk down a formula carries along
+#[derive(Drop)]
+struct Walk<'a> {
+    alloc: Global,
+    pairs: &'a [Pair],
+    scopes: &'a Scopes<'a>,
+}
+
+/// The formula with the term of a pair for each of its free variables that a pair has, all at once.
+/// Of two pairs with one variable the first counts. A binder keeps its variable, unless that stands
+/// in a term of a pair: then it gets a longer name of the same sort, so nothing is captured. The
+/// answer is right up to the names of bound variables, and has as many parts as the formula.
+/// OutOfMemory comes where memory is refused; and where no formula is the answer, since a variable
+/// that stands as a formula or in `is` would become a term of another sort or no logic variable.
+#[tactic(auto, using(crate::proofs::RenamedBinders::whole_rules))]
+pub fn substitute(alloc: Global, from: &Formula, pairs: &[Pair]) -> Result<Formula, OutOfMemory>
+    ensures replaced { IfOk result (λ to.
+        formula_with (replacing_each (map pair_of pairs.now)) (nameless (formula_of from.now))
+        ≡ nameless (formula_of to)) }
+    ensures size { IfOk result (λ to. parts (formula_of to) ≡ parts (formula_of from.now)) }
+{
+    let longest = longest_put(pairs, longest_name(from));
+    let walk = Walk {
+        alloc,
+        pairs,
+        scopes: &Scopes::Outermost(longest),
+    };
+    substituted(from, &walk)
+}
+
+// the formula with its free variables replaced and its binders renamed
+#[cycle(substituted)]
+fn substituted(formula: &Formula, walk: &Walk) -> Result<Formula, OutOfMemory>
+    requires apart { walks.IsApart walk.now }
+    requires short { own.longest_name (formula_of formula.now) ≤ own.limit walk.now.scopes.now }
+    ensures replaced { IfOk result
+        (λ to. walks.Replaced walk.now (formula_of formula.now) (formula_of to)) }
+    ensures size { IfOk result (λ to. parts (formula_of to) ≡ parts (formula_of formula.now)) }
+{
+    match formula {
+        Formula::True => Ok(Formula::True),
+        Formula::False => Ok(Formula::False),
+        Formula::And(p, q) => Ok(Formula::And(boxed(p, walk)?, boxed(q, walk)?)),
+        Formula::Or(p, q) => Ok(Formula::Or(boxed(p, walk)?, boxed(q, walk)?)),
+        Formula::Imp(p, q) => Ok(Formula::Imp(boxed(p, walk)?, boxed(q, walk)?)),
+        Formula::Not(p) => Ok(Formula::Not(boxed(p, walk)?)),
+        Formula::Exists(x, p) => {
+            let (x, p) = quantified(x, p, walk)?;
+            Ok(Formula::Exists(x, p))
+        }
+        Formula::Forall(x, p) => {
+            let (x, p) = quantified(x, p, walk)?;
+            Ok(Formula::Forall(x, p))
+        }
+        Formula::Eq(a, b) => Ok(Formula::Eq(put_in(a, walk)?, put_in(b, walk)?)),
+        Formula::Le(a, b) => Ok(Formula::Le(put_in(a, walk)?, put_in(b, walk)?)),
+        Formula::Is(x, p) => Ok(Formula::Is(variable_put(x, walk)?, boxed(p, walk)?)),
+        _ => structural(formula, walk),
+    }
+}
+
+// the same for a formula that speaks of data itself
+#[cycle(substituted)]
+fn structural(formula: &Formula, walk: &Walk) -> Result<Formula, OutOfMemory>
+    requires structural { is_structural (formula_of formula.now) ≡ true }
+    requires apart { walks.IsApart walk.now }
+    requires short { own.longest_name (formula_of formula.now) ≤ own.limit walk.now.scopes.now }
+    ensures replaced { IfOk result
+        (λ to. walks.Replaced walk.now (formula_of formula.now) (formula_of to)) }
+    ensures size { IfOk result (λ to. parts (formula_of to) ≡ parts (formula_of formula.now)) }
+{
+    match formula {
+        Formula::EmptyForest => Ok(Formula::EmptyForest),
+        Formula::EmptyGrove => Ok(Formula::EmptyGrove),
+        Formula::Hole(sort) => Ok(Formula::Hole(*sort)),
+        Formula::Node(name, number, p, list) => {
+            let (name, number) = (put_in(name, walk)?, put_in(number, walk)?);
+            let p = boxed(p, walk)?;
+            Ok(Formula::Node(name, number, p, put_in(list, walk)?))
+        }
+        Formula::One(p) => Ok(Formula::One(boxed(p, walk)?)),
+        Formula::Root(p) => Ok(Formula::Root(boxed(p, walk)?)),
+        Formula::Join(side, p, q) => Ok(Formula::Join(*side, boxed(p, walk)?, boxed(q, walk)?)),
+        Formula::Plus(p, q) => Ok(Formula::Plus(boxed(p, walk)?, boxed(q, walk)?)),
+        Formula::PlusHole(p, q) => Ok(Formula::PlusHole(boxed(p, walk)?, boxed(q, walk)?)),
+        Formula::App(sort, p, q) => Ok(Formula::App(*sort, boxed(p, walk)?, boxed(q, walk)?)),
+        Formula::HoleAdj(p, q) => Ok(Formula::HoleAdj(boxed(p, walk)?, boxed(q, walk)?)),
+        Formula::CtxAdj(sort, p, q) => {
+            Ok(Formula::CtxAdj(*sort, boxed(p, walk)?, boxed(q, walk)?))
+        }
+        Formula::Var(x) => Ok(Formula::Var(variable_put(x, walk)?)),
+        Formula::Len(length) => Ok(Formula::Len(put_in(length, walk)?)),
+        _ => unreachable!(),
+    }
+}
+
+// the same, boxed
+#[cycle(substituted)]
+fn boxed(formula: &Formula, walk: &Walk) -> Result<Box<Formula>, OutOfMemory>
+    requires apart { walks.IsApart walk.now }
+    requires short { own.longest_name (formula_of formula.now) ≤ own.limit walk.now.scopes.now }
+    ensures replaced { IfOk result
+        (λ to. walks.Replaced walk.now (formula_of formula.now) (formula_of to.value)) }
+    ensures size { IfOk result
+        (λ to. parts (formula_of to.value) ≡ parts (formula_of formula.now)) }
+{
+    let formula = substituted(formula, walk)?;
+    Ok(Box::new(walk.alloc, formula)?)
+}
+
+// a binder and the formula below it, the same for both
+#[cycle(substituted)]
+#[tactic(auto, using(crate::proofs::RenamedBinders::put_rules))]
+fn quantified(
+    variable: &LogicVar,
+    inner: &Formula,
+    walk: &Walk,
+) -> Result<(LogicVar, Box<Formula>), OutOfMemory>
+    requires apart { walks.IsApart walk.now }
+    requires named { own.name_length (logic_var_of variable.now) ≤ own.limit walk.now.scopes.now }
+    requires short { own.longest_name (formula_of inner.now) ≤ own.limit walk.now.scopes.now }
+    ensures sort { IfOk result (λ (new, _). sort_of new.sort ≡ sort_of variable.now.sort) }
+    ensures replaced { IfOk result (λ (new, to).
+        formula_with (terms.under_binder (walks.puts walk.now))
+        (walked (logic_var_of variable.now ∷ own.before walk.now.scopes.now)
+        (formula_of inner.now))
+        ≡ walked (logic_var_of new ∷ own.after walk.now.scopes.now) (formula_of to.value)) }
+    ensures size { IfOk result (λ (_, to).
+        parts (formula_of to.value) ≡ parts (formula_of inner.now)) }
+{
+    if !is_put(variable, walk.pairs) {
+        let below = Walk {
+            scopes: &Scopes::Kept(variable, walk.scopes),
+            ..*walk
+        };
+        let inner = boxed(inner, &below)?;
+        return Ok((variable.copy(walk.alloc)?, inner));
+    }
+    let new = renamed(walk.alloc, variable, walk.scopes)?;
+    let below = Walk {
+        scopes: &Scopes::Renamed(variable, &new, walk.scopes),
+        ..*walk
+    };
+    let inner = boxed(inner, &below)?;
+    Ok((new, inner))
+}
+
+// the logic variable that stands for the variable, where one does
+fn variable_put(variable: &LogicVar, walk: &Walk) -> Result<LogicVar, OutOfMemory>
+    requires apart { walks.IsApart walk.now }
+    requires short { own.name_length (logic_var_of variable.now) ≤ own.limit walk.now.scopes.now }
+    ensures sort { IfOk result (λ new. sort_of new.sort ≡ sort_of variable.now.sort) }
+    ensures replaced { IfOk result (λ new. walks.ReplacedTerm walk.now
+        (terms.variable (logic_var_of variable.now)) (terms.variable (logic_var_of new))) }
+{
+    match logic_put(variable, walk)? {
+        Term::Logic(new) if same_sort(new.sort, variable.sort) => Ok(new),
+        _ => Err(OutOfMemory),
+    }
+}
+
+// the term with its free variables replaced, below what the binders became
+#[cycle(put_in)]
+#[tactic(auto, using(crate::proofs::RenamedBinders::prog_rules))]
+fn put_in(term: &Term, walk: &Walk) -> Result<Term, OutOfMemory>
+    requires apart { walks.IsApart walk.now }
+    requires short { own.longest_in (term_of term.now) ≤ own.limit walk.now.scopes.now }
+    ensures { IfOk result
+        (λ to. walks.ReplacedTerm walk.now (term_of term.now) (term_of to)) }
+{
+    match term {
+        Term::Prog(x) => free_put(&Name::Prog(x), walk),
+        Term::Logic(x) => logic_put(x, walk),
+        Term::Add(a, b) => Ok(Term::Add(boxed_put(a, walk)?, boxed_put(b, walk)?)),
+        Term::Sub(a, b) => Ok(Term::Sub(boxed_put(a, walk)?, boxed_put(b, walk)?)),
+        Term::Cat(a, b) => Ok(Term::Cat(boxed_put(a, walk)?, boxed_put(b, walk)?)),
+        _ => term.copy(walk.alloc),
+    }
+}
+
+// the same, boxed
+#[cycle(put_in)]
+fn boxed_put(term: &Term, walk: &Walk) -> Result<Box<Term>, OutOfMemory>
+    requires apart { walks.IsApart walk.now }
+    requires short { own.longest_in (term_of term.now) ≤ own.limit walk.now.scopes.now }
+    ensures { IfOk result
+        (λ to. walks.ReplacedTerm walk.now (term_of term.now) (term_of to.value)) }
+{
+    let term = put_in(term, walk)?;
+    Ok(Box::new(walk.alloc, term)?)
+}
+
+// what stands for the logic variable
+#[tactic(auto, using(crate::proofs::RenamedBinders::bound_rules))]
+fn logic_put(variable: &LogicVar, walk: &Walk) -> Result<Term, OutOfMemory>
+    requires apart { walks.IsApart walk.now }
+    requires short { own.name_length (logic_var_of variable.now) ≤ own.limit walk.now.scopes.now }
+    ensures { IfOk result (λ to. walks.ReplacedTerm walk.now
+        (terms.variable (logic_var_of variable.now)) (term_of to)) }
+{
+    match became(variable, walk.scopes) {
+        Some(new) => Ok(Term::Logic(new.copy(walk.alloc)?)),
+        None => free_put(&Name::Logic(variable), walk),
+    }
+}
+
+// what takes the place of a variable that no binder binds: the term of a pair, or itself
+#[tactic(auto, using(crate::proofs::RenamedBinders::free_rules))]
+fn free_put(name: &Name, walk: &Walk) -> Result<Term, OutOfMemory>
+    requires apart { walks.IsApart walk.now }
+    requires short { own.name_length (var_named name.now) ≤ own.limit walk.now.scopes.now }
+    requires free { own.became walk.now.scopes.now (var_named name.now) ≡ None }
+    ensures { IfOk result
+        (λ to. walks.ReplacedTerm walk.now (terms.variable (var_named name.now)) (term_of to)) }
+{
+    match paired(name, walk.pairs) {
+        Some(term) => term.copy(walk.alloc),
+        None => term_named(walk.alloc, name),
+    }
+}
+
+// the variable as a term
+fn term_named(alloc: Global, name: &Name) -> Result<Term, OutOfMemory>
+    ensures { IfOk result (λ term. term_of term ≡ terms.variable (var_named name.now)) }
+{
+    match name {
+        Name::Prog(variable) => Ok(Term::Prog(variable.copy(alloc)?)),
+        Name::Logic(variable) => Ok(Term::Logic(variable.copy(alloc)?)),
+    }
+}

@@ -1,0 +1,6 @@
+pub mod GroveReader
+pub mod Exact
+pub mod ListLemmas
+pub mod RangeLemmas
+pub mod EscapeLemmas
+pub mod MarkLemmas

@@ -1,0 +1,4 @@
+pub mod RawGroves
+pub mod Readers
+pub mod Ranges
+pub mod Marks

@@ -1,0 +1,4 @@
+pub mod Words
+pub mod Arguments
+pub mod Documents
+pub mod Output

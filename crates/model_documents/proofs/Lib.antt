@@ -1,0 +1,3 @@
+pub mod SortedRoots
+pub mod UniqueNumbers
+pub mod WorkedDocuments

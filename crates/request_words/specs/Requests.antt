@@ -1,0 +1,19 @@
+-- The requests of the definitions that those of the program stand for, and what it says of words.
+use Rattle.std.specs.Prelude.{◌≡◌, Result, Ok, Err, Option, Some, None}
+use Rattle.model_answers.specs.Words as model
+use Rattle.request_words.specs.declared.requests.Request.{Request}
+use Rattle.request_words.specs.declared.requests.Request.TheVariants as r
+use Rattle.request_words.specs.declared.requests.WordFault.{WordFault}
+use Rattle.request_words.specs.declared.requests.WordFault.TheVariants as f
+
+-- the request
+abbrev pub request_of : Request → model.Request
+request_of (r.Check file) = model.check file
+request_of (r.Run file procedure document fuel arguments) =
+    model.run file procedure document fuel arguments
+
+-- what was answered is the reading; bad words are those without one
+abbrev pub Reads : Result Request WordFault → Option model.Request → Type 0
+Reads (Ok request) reading = reading ≡ Some (request_of request)
+Reads (Err f.BadWords) reading = reading ≡ None
+Reads (Err f.OutOfMemory) reading = Unit

@@ -1,0 +1,66 @@
+// Decimal numbers.
+ghost use Rattle.std.specs.Prelude.{◌≡◌, ℕ};
+ghost use Rattle.std.specs.Option.{option_map};
+ghost use Rattle.model_shapes.specs.Values.{Value, int};
+ghost use Rattle.model_answers.specs.Words.{decimal_of};
+ghost use Rattle.model_answers.specs.Arguments as model;
+
+use text_tokens::number_value;
+
+/// The greatest integer of an argument.
+const GREATEST: u64 = 9_223_372_036_854_775_807;
+
+/// The decimal number of at most so much that the bytes are, or none.
+pub fn decimal(bytes: &[u8], most: u64) -> Option<u64>
+    ensures { result ≡ decimal_of most bytes.now }
+{
+    match bytes {
+        [] | [b'0', _, ..] => None,
+        _ => match number_value(bytes) {
+            Some(number) if number <= most => Some(number),
+            _ => None,
+        },
+    }
+}
+
+// The positive number of at most 32 bits that the bytes are, or none.
+fn positive(bytes: &[u8]) -> Option<u32>
+    ensures { (named : ℕ → Value) → option_map named result
+        ≡ model.positive_of named (decimal_of 4294967295 bytes.now) }
+{
+    match decimal(bytes, 4_294_967_295) {
+        None | Some(0) => None,
+        Some(number) => Some(number as u32),
+    }
+}
+
+/// The number of a node or a list that the bytes write behind its mark, or none.
+pub fn marked(bytes: &[u8], mark: u8) -> Option<u32>
+    ensures { (named : ℕ → Value) → option_map named result ≡ model.marked mark named bytes.now }
+{
+    match bytes {
+        [first, digits @ ..] if *first == mark => positive(digits),
+        _ => None,
+    }
+}
+
+// The integer below 0 whose digits stand behind its sign, or none.
+fn negative(digits: &[u8]) -> Option<i64>
+    ensures { option_map int result
+        ≡ model.negative_of (decimal_of 9223372036854775807 digits.now) }
+{
+    match decimal(digits, GREATEST) {
+        None | Some(0) => None,
+        Some(number) => Some(-(number as i64)),
+    }
+}
+
+/// The integer that the bytes are, or none.
+pub fn integer(bytes: &[u8]) -> Option<i64>
+    ensures { option_map int result ≡ model.integer_of bytes.now }
+{
+    match bytes {
+        [b'-', digits @ ..] => negative(digits),
+        _ => Some(decimal(bytes, GREATEST)? as i64),
+    }
+}

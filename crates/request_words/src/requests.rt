@@ -1,0 +1,105 @@
+// Requests.
+ghost use Rattle.std.specs.Prelude.{◌≡◌, IfOk, map, string_bytes};
+ghost use Rattle.model_answers.specs.Words.{check_of, run_of, reading_of};
+ghost use Rattle.request_words.specs.Requests.{Reads};
+ghost use Rattle.request_words.specs.declared.requests.WordFault.TheVariants.{OutOfMemory};
+
+use crate::decimals::decimal;
+use dom_terms::{OutOfMemory, Text, Texts};
+use std::alloc::Global;
+
+/// What the words after the program's name ask for.
+#[derive(Debug, Drop)]
+pub enum Request {
+    /// `check FILE`
+    Check {
+        /// The name of the file.
+        file: Text,
+    },
+    /// `run FILE PROC DOC FUEL ARG*`
+    Run {
+        /// The name of the file.
+        file: Text,
+        /// The name of the procedure.
+        procedure: Text,
+        /// The name of the document.
+        document: Text,
+        /// The most steps.
+        fuel: u32,
+        /// The words of the arguments.
+        arguments: Texts,
+    },
+}
+
+/// Why words have no reading.
+#[derive(Clone, Copy, Debug, PartialEq, Eq)]
+pub enum WordFault {
+    /// The words have none of the forms.
+    BadWords,
+    /// Memory ran out.
+    OutOfMemory,
+}
+
+impl From<OutOfMemory> for WordFault {
+    ghost from_gives = { λ _ e. e ≡ OutOfMemory };
+
+    fn from(_e: OutOfMemory) -> WordFault {
+        WordFault::OutOfMemory
+    }
+}
+
+// The words as texts.
+fn texts(alloc: Global, words: &[String]) -> Result<Texts, OutOfMemory>
+    ensures { IfOk result (λ texts. texts ≡ map string_bytes words.now) }
+{
+    let mut texts = Texts::new(alloc);
+    for word in words {
+        texts.push(Text::from_str(alloc, word.as_str())?)?;
+    }
+    Ok(texts)
+}
+
+// The words behind `check`.
+fn read_check(alloc: Global, words: &[String]) -> Result<Request, WordFault>
+    ensures { Reads result (check_of (map string_bytes words.now)) }
+{
+    let [file] = words else {
+        return Err(WordFault::BadWords);
+    };
+    let file = Text::from_str(alloc, file.as_str())?;
+    Ok(Request::Check { file })
+}
+
+// The words behind `run`.
+fn read_run(alloc: Global, words: &[String]) -> Result<Request, WordFault>
+    ensures { Reads result (run_of (map string_bytes words.now)) }
+{
+    let [file, procedure, document, fuel, arguments @ ..] = words else {
+        return Err(WordFault::BadWords);
+    };
+    let Some(fuel) = decimal(fuel.as_str().as_bytes(), 1_000_000) else {
+        return Err(WordFault::BadWords);
+    };
+    Ok(Request::Run {
+        file: Text::from_str(alloc, file.as_str())?,
+        procedure: Text::from_str(alloc, procedure.as_str())?,
+        document: Text::from_str(alloc, document.as_str())?,
+        fuel: fuel as u32,
+        arguments: texts(alloc, arguments)?,
+    })
+}
+
+/// The request that the words after the program's name are. `BadWords` comes exactly where they have
+/// none of the forms.
+pub fn read_words(alloc: Global, words: &[String]) -> Result<Request, WordFault>
+    ensures { Reads result (reading_of (map string_bytes words.now)) }
+{
+    let [command, words @ ..] = words else {
+        return Err(WordFault::BadWords);
+    };
+    match command.as_str() {
+        "check" => read_check(alloc, words),
+        "run" => read_run(alloc, words),
+        _ => Err(WordFault::BadWords),
+    }
+}
