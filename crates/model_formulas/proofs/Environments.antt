@@ -49,7 +49,7 @@ some_shape (context h k) e = go (some_thing (context h k) e)
   where
     go : (x : Thing) × Fits (context h k) x → (r : Trees) × Shaped (context h k) r
     go (val v, f) = absurd f
-    go (trees r, f) = (r, f)
+    go (trees r, f) = (r, f.0)
 
 -- truth doesn't entail falsity
 pub consistent : (s : Sort) → is_form s ≡ true → Entails truth falsity s → ⊥

@@ -77,94 +77,115 @@ some_thing (shape grove) e =
     (trees none, record { well_formed = nothing; width_fits = tt; holed = refl })
 some_thing (context tree tree) e = (
   trees (hole none),
-  record {
-    well_formed = only_hole;
-    width_fits = refl;
-    holed = record {
-      one = refl;
-      at_root = λ z.
-          refl;
-      below = λ z. refl;
-    };
-  },
+  (
+    record {
+      well_formed = only_hole;
+      width_fits = refl;
+      holed = record {
+        one = refl;
+        at_root = λ z.
+            refl;
+        below = λ z. refl;
+      };
+    },
+    tt,
+  ),
 )
 some_thing (context tree forest) e = (
   trees (hole none),
-  record {
-    well_formed = only_hole;
-    width_fits = tt;
-    holed = record {
-      one = refl;
-      at_root = λ z.
-          refl;
-      below = λ z. refl;
-    };
-  },
+  (
+    record {
+      well_formed = only_hole;
+      width_fits = tt;
+      holed = record {
+        one = refl;
+        at_root = λ z.
+            refl;
+        below = λ z. refl;
+      };
+    },
+    tt,
+  ),
 )
 some_thing (context tree grove) e = (
   trees (hole none),
-  record {
-    well_formed = only_hole;
-    width_fits = tt;
-    holed = record {
-      one = refl;
-      at_root = λ z.
-          refl;
-      below = λ z. refl;
-    };
-  },
+  (
+    record {
+      well_formed = only_hole;
+      width_fits = tt;
+      holed = record {
+        one = refl;
+        at_root = λ z.
+            refl;
+        below = λ z. refl;
+      };
+    },
+    tt,
+  ),
 )
 some_thing (context forest tree) e = (
   trees (lone (hole none)),
-  record {
-    well_formed = lone_hole;
-    width_fits = refl;
-    holed = record {
-      one = refl;
-      at_root = λ z.
-          zero≢one z;
-      below = λ z. refl;
-    };
-  },
+  (
+    record {
+      well_formed = lone_hole;
+      width_fits = refl;
+      holed = record {
+        one = refl;
+        at_root = λ z.
+            zero≢one z;
+        below = λ z. refl;
+      };
+    },
+    tt,
+  ),
 )
 some_thing (context forest forest) e = (
   trees (hole none),
-  record {
-    well_formed = only_hole;
-    width_fits = tt;
-    holed = record {
-      one = refl;
-      at_root = λ z.
-          refl;
-      below = λ z. refl;
-    };
-  },
+  (
+    record {
+      well_formed = only_hole;
+      width_fits = tt;
+      holed = record {
+        one = refl;
+        at_root = λ z.
+            refl;
+        below = λ z. refl;
+      };
+    },
+    tt,
+  ),
 )
 some_thing (context forest grove) e = (
   trees (lone (hole none)),
-  record {
-    well_formed = lone_hole;
-    width_fits = tt;
-    holed = record {
-      one = refl;
-      at_root = λ z.
-          zero≢one z;
-      below = λ z. refl;
-    };
-  },
+  (
+    record {
+      well_formed = lone_hole;
+      width_fits = tt;
+      holed = record {
+        one = refl;
+        at_root = λ z.
+            zero≢one z;
+        below = λ z. refl;
+      };
+    },
+    refl,
+  ),
 )
 some_thing (context grove grove) e = (
   trees (hole none),
-  record {
-    well_formed = only_hole;
-    width_fits = tt;
-    holed = record {
-      one = refl;
-      at_root = λ z.
-          refl;
-      below = λ z. one≢zero z;
-    };
-  },
+  (
+    record {
+      well_formed = only_hole;
+      width_fits = tt;
+      holed = record {
+        one = refl;
+        at_root = λ z.
+            refl;
+        below = λ z. one≢zero z;
+      };
+    },
+    tt,
+  ),
 )
 some_thing (context grove tree) e = absurd (false≢true e)
 some_thing (context grove forest) e = absurd (false≢true e)
@@ -179,6 +200,6 @@ fits-is_sort (context grove grove) x f = refl
 fits-is_sort (context grove tree) (val v) f = absurd f
 fits-is_sort (context grove forest) (val v) f = absurd f
 fits-is_sort (context grove tree) (trees r) f =
-    false≢true (f.holed.at_root (grove_root tree r f.holed))
+    false≢true (f.0.holed.at_root (grove_root tree r f.0.holed))
 fits-is_sort (context grove forest) (trees r) f =
-    false≢true (f.holed.at_root (grove_root forest r f.holed))
+    false≢true (f.0.holed.at_root (grove_root forest r f.0.holed))

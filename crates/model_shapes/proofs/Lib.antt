@@ -8,5 +8,6 @@ pub mod Cancelling
 pub mod Pulling
 pub mod ByConstruction
 pub mod Inhabited
+pub mod Representatives
 pub mod Reorders
 pub mod Worked

@@ -47,6 +47,18 @@ pub record Shaped (s : Sort) (trees : Trees) : Type 0 where
   pub width_fits : HasWidth (outer s) (width trees)
   pub holed : HasHoles s trees
 
+-- the first root is the hole, or has it below it
+abbrev pub HoleFirst : Trees → Type 0
+HoleFirst none = ⊥
+HoleFirst (node name number kids list rest) = holes kids ≡ 1
+HoleFirst (hole rest) = Unit
+
+-- A context that gives a grove is an inner part and the rest of the roots (POPL 2005), so its hole has
+-- no place among the roots. Written as a list, the inner part comes first.
+abbrev pub HolePlaced : DataSort → Trees → Type 0
+HolePlaced grove trees = HoleFirst trees
+HolePlaced k trees = Unit
+
 -- The roots of a grove have no order: two groves are the same where each tree stands as often
 -- among the roots of one as among those of the other. Trees and forests are the same where equal.
 abbrev pub SameAt : DataSort → Trees → Trees → Type 0

@@ -3,7 +3,7 @@ use mathlib.Core.HLevel.{Discrete}
 use Rattle.model_shapes.specs.Sorts.{Sort, value, shape, context}
 use Rattle.model_shapes.specs.Values.{Value, FitsValue, value_eq}
 use Rattle.model_shapes.specs.Trees.{Trees, trees_eq}
-use Rattle.model_shapes.specs.Shapes.{Shaped}
+use Rattle.model_shapes.specs.Shapes.{Shaped, HolePlaced}
 
 -- a value, or a shape or context
 pub data Thing : Type 0 where
@@ -11,14 +11,14 @@ pub data Thing : Type 0 where
   trees : Trees → Thing
   deriving Discrete as Thing-discrete
 
--- the one test: well formed and of the sort
+-- the one test: well formed and of the sort, with the hole of a grove's context in the first root
 abbrev pub Fits : Sort → Thing → Type 0
 Fits (value v) (val x) = FitsValue v x
 Fits (value v) (trees r) = ⊥
 Fits (shape k) (val x) = ⊥
 Fits (shape k) (trees r) = Shaped (shape k) r
 Fits (context h k) (val x) = ⊥
-Fits (context h k) (trees r) = Shaped (context h k) r
+Fits (context h k) (trees r) = Shaped (context h k) r × HolePlaced k r
 
 -- things are equal or not
 pub thing_eq : Discrete Thing

@@ -6,8 +6,8 @@
 ghost use Rattle.std.specs.Prelude.{◌≡◌, ◌↔◌, true};
 ghost use Rattle.model_shapes.specs.Sorts.{DataSort, tree, forest, grove, Sort, shape, context, giving, is_sort};
 ghost use Rattle.model_shapes.specs.Trees.{Trees, none, hole, beside, fill, WellFormed};
-ghost use Rattle.model_shapes.specs.Shapes.{holes, Shaped, SameAt};
-ghost use Rattle.model_shapes.specs.Things.{Thing, Fits};
+ghost use Rattle.model_shapes.specs.Shapes.{holes, Shaped, Same, SameAt};
+ghost use Rattle.model_shapes.specs.Things.{Thing, trees, Fits};
 ghost use Rattle.model_shapes.specs.Reordered.{Reordered};
 ghost use Rattle.model_shapes.specs.Contexts.{TreeContext, ForestContext, ForestInner, between, GroveContext, grove_hole, root_context, tree_thing, forest_thing, inner_thing, grove_thing, tree_hole_sort, forest_hole_sort, grove_hole_sort, TreeBare, ForestBare, GroveBare, SameContext};
 
@@ -15,6 +15,13 @@ ghost use Rattle.model_shapes.specs.Contexts.{TreeContext, ForestContext, Forest
 pub fn sorts_have_things()
     ensures inhabited { (s : Sort) → is_sort s ≡ true → (x : Thing) × Fits s x }
     ensures only { (s : Sort) (x : Thing) → Fits s x → is_sort s ≡ true }
+{}
+
+/// Each well-formed shape or context of a sort is the same as one that fits, and all that fit are such.
+pub fn a_thing_fits_up_to_sameness()
+    ensures found { (s : Sort) (r : Trees) → Shaped s r
+        → (t : Trees) × Same s r t × Fits s (trees t) }
+    ensures shaped { (s : Sort) (r : Trees) → Fits s (trees r) → Shaped s r }
 {}
 
 /// Two groves are the same exactly where the roots of one are those of the other in some order.
