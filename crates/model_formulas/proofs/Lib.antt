@@ -9,5 +9,6 @@ pub mod SortedTerms
 pub mod Environments
 pub mod Plainly
 pub mod Pure
+pub mod Beside
 pub mod FaultPlaces
 pub mod Worked

@@ -4,13 +4,13 @@
 #![tactic(auto)]
 
 ghost use Rattle.std.specs.Prelude.{◌≡◌, ◌↔◌, ◌<◌, ℕ, true, [], Some};
-ghost use Rattle.model_shapes.specs.Sorts.{Sort, value, ValueSort};
+ghost use Rattle.model_shapes.specs.Sorts.{Sort, value, shape, context, ValueSort, forest, grove};
 ghost use Rattle.model_shapes.specs.Shapes.{Same, Shaped};
 ghost use Rattle.model_shapes.specs.Trees.{Trees};
 ghost use Rattle.model_shapes.specs.Things.{Fits};
 ghost use Rattle.model_formulas.specs.Variables.{Var, var_sort};
 ghost use Rattle.model_formulas.specs.Terms.{Term, variable, Substitution};
-ghost use Rattle.model_formulas.specs.Formulas.{Formula, Named, truth, falsity, is_pure};
+ghost use Rattle.model_formulas.specs.Formulas.{Formula, Named, truth, falsity, conjunction, implication, equality, bare_hole, empty, grove_sum_hole, node_formula, one_root, value_meets, is_pure};
 ghost use Rattle.model_formulas.specs.Substitution.{formula_with, FreeIn, exists, forall, replacing};
 ghost use Rattle.model_formulas.specs.Nameless.{SameFormula, nameless};
 ghost use Rattle.model_formulas.specs.Walked.{walked};
@@ -94,6 +94,19 @@ pub fn a_proper_environment_exists()
 /// At no sort of formulas does truth entail falsity.
 pub fn truth_does_not_entail_falsity()
     ensures { (s : Sort) → is_form s ≡ true → Entails truth falsity s → ⊥ }
+{}
+
+/// The hole of a context that gives a grove has no place among the roots: where two variables stand for
+/// a hole beside one root with nothing below it, they stand for one thing.
+pub fn a_hole_has_no_place_among_roots()
+    ensures { (x y : Var) (name number list : Term) (p : Formula)
+        → var_sort x ≡ context grove grove → var_sort y ≡ context grove grove
+        → p ≡ grove_sum_hole (bare_hole grove)
+        (one_root (node_formula name number (empty forest) list))
+        → Entails truth (forall x (forall y (implication
+        (conjunction (value_meets (context grove grove) (variable x) p)
+        (value_meets (context grove grove) (variable y) p))
+        (equality (variable x) (variable y))))) (shape grove) }
 {}
 
 /// A pure formula says the same at every sort and of every shape and context.

@@ -1,12 +1,13 @@
 -- Each shape or context is the same as one that fits its sort: a context that gives a grove has its
 -- hole in the first root there. Contexts put into contexts, or with more behind them, keep it there.
-use Rattle.std.proofs.Common.{◌≡◌, ℕ, zero, suc, ◌*◌, refl, ap, arith}
+use Rattle.std.proofs.Common.{◌≡◌, ℕ, ◌≤◌, zero, suc, ◌*◌, refl, sym, ap, arith}
 use Rattle.model_shapes.specs.Sorts.{Sort, value, shape, context, DataSort, tree, forest, grove}
-use Rattle.model_shapes.specs.Trees.{Trees, none, node, hole, beside, fill}
+use Rattle.model_shapes.specs.Trees.{Trees, none, node, hole, beside, fill, width}
 use Rattle.model_shapes.specs.Shapes.{HoleFirst, SameAt, Same, Shaped, holes}
 use Rattle.model_shapes.specs.Things.{trees, Fits}
 use Rattle.model_shapes.proofs.Basics.{holes-fill}
-use Rattle.model_shapes.proofs.Shapes.{Same-refl, same-Shaped, root_holes-le}
+use Rattle.model_shapes.proofs.Narrow.{narrow}
+use Rattle.model_shapes.proofs.Shapes.{Same-refl, same-Shaped, same-root_holes, root_holes-le}
 use Rattle.model_shapes.proofs.Truth.{false≢true}
 
 -- the same roots, with that of the hole first
@@ -71,3 +72,18 @@ first-fill h tree (hole r) b wa f wb fb = first-beside b (fill r b) (one_first h
 first-fill h grove (hole r) b wa f wb fb = first-beside b (fill r b) fb.1
 first-fill h forest (hole r) b wa f wb fb =
     false≢true (wa.holed.at_root (omega (arith, wa.holed.one, root_holes-le (hole r))))
+
+-- a hole and one root beside it, with the hole first, is one list of roots
+pub first-alone : (r t : Trees) → holes r ≡ 1 → HoleFirst r → width t ≤ 1
+    → SameAt grove r (hole t) → r ≡ hole t
+first-alone none t o f w same = absurd f
+first-alone (hole q) t o f w same =
+    ap hole (sym (narrow t q w (λ u. omega (arith, same u))))
+first-alone (node s i k l q) t o f w same =
+    absurd (omega (
+      arith,
+      o,
+      f,
+      root_holes-le q,
+      same-root_holes grove (node s i k l q) (hole t) same,
+    ))
