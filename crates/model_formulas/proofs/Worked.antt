@@ -4,7 +4,7 @@ use Rattle.model_shapes.specs.Sorts.{value, shape, context, int_sort, node_sort,
 use Rattle.model_shapes.specs.Values.{null, nolist, int, str}
 use Rattle.model_formulas.specs.Variables.{Var, logic, prog, bound}
 use Rattle.model_formulas.specs.Terms.{Term, literal, variable, sum}
-use Rattle.model_formulas.specs.Formulas.{Named, truth, conjunction, negation, existential, universal, equality, bare_hole, node_formula, application, length_is, value_meets}
+use Rattle.model_formulas.specs.Formulas.{Named, truth, conjunction, negation, existential, universal, equality, empty, bare_hole, node_formula, application, length_is, value_meets, is_pure}
 use Rattle.model_formulas.specs.Substitution.{formula_with, replacing}
 use Rattle.model_formulas.specs.Nameless.{nameless}
 use Rattle.model_formulas.specs.Walked.{walked}
@@ -115,3 +115,11 @@ is_of_value = refl
 compared : first_fault (equality (variable (logic (120 ∷ []) (context tree grove)))
     (variable (logic (121 ∷ []) (context tree grove)))) (shape grove) 0 ≡ None
 compared = refl
+
+-- ($x is 0g) is pure, though 0g isn't
+is_of_empty : is_pure {Binder = Var}
+    (value_meets (shape grove) (variable (logic (120 ∷ []) (shape grove))) (empty grove)) ≡ true
+is_of_empty = refl
+
+empty_not_pure : is_pure {Binder = Var} (empty grove) ≡ false
+empty_not_pure = refl

@@ -57,7 +57,8 @@ Named = FormulaOf Var
 abbrev pub Formula : Type 0
 Formula = FormulaOf Sort
 
--- built from truth, connectives, quantifiers, comparisons and `is` alone
+-- Built from truth, connectives, quantifiers, comparisons and `is` alone. An `is` is pure whatever
+-- its part, as it speaks of its variable's value alone.
 abbrev pub is_pure : {Binder : Type 0} → FormulaOf Binder → Bool
 is_pure truth = true
 is_pure falsity = true
@@ -69,7 +70,7 @@ is_pure (existential x p) = is_pure p
 is_pure (universal x p) = is_pure p
 is_pure (equality a b) = true
 is_pure (at_most a b) = true
-is_pure (value_meets s a p) = is_pure p
+is_pure (value_meets s a p) = true
 is_pure p = false
 
 -- nameless formulas are equal or not

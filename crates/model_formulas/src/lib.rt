@@ -109,7 +109,8 @@ pub fn a_hole_has_no_place_among_roots()
         (equality (variable x) (variable y))))) (shape grove) }
 {}
 
-/// A pure formula says the same at every sort and of every shape and context.
+/// A pure formula says the same at every sort and of every shape and context. An `is` is one, whatever
+/// its part says: it speaks of its variable's value.
 pub fn pure_formulas_ignore_the_shape()
     ensures { (p : Formula) → is_pure p ≡ true → (e : Environment) (s t : Sort) (r w : Trees)
         → Meets p e s r → Meets p e t w }
