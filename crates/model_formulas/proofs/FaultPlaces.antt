@@ -1,90 +1,82 @@
--- The first part at fault is a part of the formula.
-use Rattle.std.proofs.Common.{◌≡◌, ℕ, ◌+◌, ◌≤◌, ◌<◌, Bool, true, false, Option, Some, None, arith}
+-- The flags of a formula, one a part, and the first of them that fails; and the same by a walk with
+-- places, formula by formula.
+use Rattle.std.proofs.Common.{◌≡◌, ℕ, suc, ◌+◌, ◌≤◌, ◌<◌, Bool, true, false, not, cond, Option, Some, None, List, [], ◌∷◌, ◌++◌, length, refl, sym, ap, ◌∙◌, subst, arith, length-append}
+use Rattle.std.specs.List.{position_from}
+use Rattle.std.specs.Option.{option_or}
+use Rattle.std.proofs.lemmas.Option.{same_Some, none-some}
 use Rattle.model_shapes.specs.Sorts.{Sort, shape, context, tree, forest, grove, outer, inner, giving}
-use Rattle.model_formulas.specs.Formulas.{Named, truth, falsity, conjunction, disjunction, implication, negation, existential, universal, equality, at_most, empty, bare_hole, node_formula, one_tree, one_root, concatenation, grove_sum, grove_sum_hole, application, hole_adjoint, context_adjoint, same_as, length_is, value_meets}
-use Rattle.model_formulas.specs.WellSorted.{first_fault, own, or_else, parts, left_at, right_at}
+use Rattle.model_formulas.specs.Formulas.{Named, truth, falsity, conjunction, disjunction, implication, negation, existential, universal, equality, at_most, empty, bare_hole, node_formula, one_tree, one_root, concatenation, grove_sum, grove_sum_hole, application, hole_adjoint, context_adjoint, same_as, length_is, value_meets, left_sort, right_sort}
+use Rattle.model_formulas.specs.WellSorted.{flags, parts}
 
--- the place is among this many from the first
-abbrev Within : ℕ → ℕ → ℕ → Type 0
-Within n m size = (n ≤ m) × (m < n + size)
+-- the first flag that fails is one of the list
+pub place-within : (xs : List Bool) (n m : ℕ) → position_from not n xs ≡ Some m
+    → (n ≤ m) × (m < n + length xs)
+place-within [] n m e = absurd (none-some m e)
+place-within (false ∷ xs) n m e =
+    let q : n ≡ m = same_Some n m e in (omega arith, omega arith)
+place-within (true ∷ xs) n m e =
+    let x : (n + 1 ≤ m) × (m < n + 1 + length xs) = place-within xs (n + 1) m e in
+    (omega arith, omega arith)
 
-some-is : (n m : ℕ) → Some n ≡ Some m → n ≡ m
-some-is n m e = cc
+-- the first of two lists, one behind the other
+pub place-append : (xs ys : List Bool) (n : ℕ) → position_from not n (xs ++ ys)
+    ≡ option_or (position_from not n xs) (position_from not (n + length xs) ys)
+place-append [] ys n = ap (λ m. position_from not m ys) (omega arith)
+place-append (false ∷ xs) ys n = refl
+place-append (true ∷ xs) ys n = place-append xs ys (n + 1)
+    ∙ ap (λ m. option_or (position_from not (n + 1) xs) (position_from not m ys)) (omega arith)
 
-here : (n m : ℕ) → Some n ≡ Some m → Within n m 1
-here n m e = let q : n ≡ m = some-is n m e in (omega arith, omega arith)
+-- where none fails, it is so wherever the places begin
+pub none-anywhere : (xs : List Bool) (n m : ℕ) → position_from not n xs ≡ None
+    → position_from not m xs ≡ None
+none-anywhere [] n m e = refl
+none-anywhere (false ∷ xs) n m e = cc
+none-anywhere (true ∷ xs) n m e = none-anywhere xs (n + 1) (m + 1) e
 
-leaf : (b : Bool) (n m : ℕ) → own b n None ≡ Some m → Within n m 1
-leaf true n m e = absurd (cc)
-leaf false n m e = here n m e
+one : (xs : List Bool) (m : ℕ) → length xs ≡ m → suc (length xs) ≡ 1 + m
+one xs m e = omega arith
 
-part : (b : Bool) (n m size : ℕ) (below : Option ℕ) → own b n below ≡ Some m
-    → (below ≡ Some m → Within (n + 1) m size) → Within n m (1 + size)
-part true n m size below e w = let x : Within (n + 1) m size = w e in (omega arith, omega arith)
-part false n m size below e w =
-    let q : n ≡ m = some-is n m e in (omega arith, omega arith)
+two : (xs ys : List Bool) (m n : ℕ) → length xs ≡ m → length ys ≡ n
+    → suc (length (xs ++ ys)) ≡ 1 + (m + n)
+two xs ys m n e f = omega (arith, length-append xs ys)
 
-either : (n m size size' : ℕ) (a b : Option ℕ) → or_else a b ≡ Some m
-    → (a ≡ Some m → Within (n + 1) m size) → (b ≡ Some m → Within (n + 1 + size) m size')
-    → Within (n + 1) m (size + size')
-either n m size size' None b e v w =
-    let x : Within (n + 1 + size) m size' = w e in (omega arith, omega arith)
-either n m size size' (Some k) b e v w =
-    let x : Within (n + 1) m size = v e in (omega arith, omega arith)
+-- there is a flag for each part
+pub flags-parts : (p : Named) (s : Sort) → length (flags p s) ≡ parts p
+flags-parts truth s = refl
+flags-parts falsity s = refl
+flags-parts (conjunction p q) s = two _ _ _ _ (flags-parts p s) (flags-parts q s)
+flags-parts (disjunction p q) s = two _ _ _ _ (flags-parts p s) (flags-parts q s)
+flags-parts (implication p q) s = two _ _ _ _ (flags-parts p s) (flags-parts q s)
+flags-parts (negation p) s = one _ _ (flags-parts p s)
+flags-parts (existential x p) s = one _ _ (flags-parts p s)
+flags-parts (universal x p) s = one _ _ (flags-parts p s)
+flags-parts (equality a b) s = refl
+flags-parts (at_most a b) s = refl
+flags-parts (empty tree) s = refl
+flags-parts (empty forest) s = refl
+flags-parts (empty grove) s = refl
+flags-parts (bare_hole h) s = refl
+flags-parts (node_formula i b p l) s = one _ _ (flags-parts p (giving forest s))
+flags-parts (one_tree p) s = one _ _ (flags-parts p (giving tree s))
+flags-parts (one_root p) s = one _ _ (flags-parts p (giving tree s))
+flags-parts (concatenation d p q) s =
+    two _ _ _ _ (flags-parts p (left_sort d s)) (flags-parts q (right_sort d s))
+flags-parts (grove_sum p q) s = two _ _ _ _ (flags-parts p s) (flags-parts q s)
+flags-parts (grove_sum_hole p q) s = two _ _ _ _ (flags-parts p s) (flags-parts q (shape grove))
+flags-parts (application h p q) s =
+    two _ _ _ _ (flags-parts p (context h (outer s))) (flags-parts q (giving h s))
+flags-parts (hole_adjoint p q) s =
+    two _ _ _ _ (flags-parts p (shape (inner s))) (flags-parts q (shape (outer s)))
+flags-parts (context_adjoint k p q) s =
+    two _ _ _ _ (flags-parts p (context (outer s) k)) (flags-parts q (shape k))
+flags-parts (same_as a) s = refl
+flags-parts (length_is a) s = refl
+flags-parts (value_meets u a p) s = one _ _ (flags-parts p u)
 
-both : (b : Bool) (n m size size' : ℕ) (x y : Option ℕ) → own b n (or_else x y) ≡ Some m
-    → (x ≡ Some m → Within (n + 1) m size) → (y ≡ Some m → Within (n + 1 + size) m size')
-    → Within n m (1 + (size + size'))
-both b n m size size' x y e v w =
-    part b n m (size + size') (or_else x y) e (λ q. either n m size size' x y q v w)
-
--- the place of the first fault is that of a part
-pub fault-within : (p : Named) (s : Sort) (n m : ℕ) → first_fault p s n ≡ Some m
-    → (n ≤ m) × (m < n + parts p)
-fault-within truth s n m e = leaf _ n m e
-fault-within falsity s n m e = leaf _ n m e
-fault-within (conjunction p q) s n m e =
-    both _ n m (parts p) (parts q) _ _ e (fault-within p s (n + 1) m)
-    (fault-within q s (n + 1 + parts p) m)
-fault-within (disjunction p q) s n m e =
-    both _ n m (parts p) (parts q) _ _ e (fault-within p s (n + 1) m)
-    (fault-within q s (n + 1 + parts p) m)
-fault-within (implication p q) s n m e =
-    both _ n m (parts p) (parts q) _ _ e (fault-within p s (n + 1) m)
-    (fault-within q s (n + 1 + parts p) m)
-fault-within (negation p) s n m e = part _ n m (parts p) _ e (fault-within p s (n + 1) m)
-fault-within (existential x p) s n m e = part _ n m (parts p) _ e (fault-within p s (n + 1) m)
-fault-within (universal x p) s n m e = part _ n m (parts p) _ e (fault-within p s (n + 1) m)
-fault-within (equality a b) s n m e = leaf _ n m e
-fault-within (at_most a b) s n m e = leaf _ n m e
-fault-within (empty tree) s n m e = here n m e
-fault-within (empty forest) s n m e = leaf _ n m e
-fault-within (empty grove) s n m e = leaf _ n m e
-fault-within (bare_hole h) s n m e = leaf _ n m e
-fault-within (node_formula i b p l) s n m e =
-    part _ n m (parts p) _ e (fault-within p (giving forest s) (n + 1) m)
-fault-within (one_tree p) s n m e =
-    part _ n m (parts p) _ e (fault-within p (giving tree s) (n + 1) m)
-fault-within (one_root p) s n m e =
-    part _ n m (parts p) _ e (fault-within p (giving tree s) (n + 1) m)
-fault-within (concatenation d p q) s n m e =
-    both _ n m (parts p) (parts q) _ _ e (fault-within p (left_at d s) (n + 1) m)
-    (fault-within q (right_at d s) (n + 1 + parts p) m)
-fault-within (grove_sum p q) s n m e =
-    both _ n m (parts p) (parts q) _ _ e (fault-within p s (n + 1) m)
-    (fault-within q s (n + 1 + parts p) m)
-fault-within (grove_sum_hole p q) s n m e =
-    both _ n m (parts p) (parts q) _ _ e (fault-within p s (n + 1) m)
-    (fault-within q (shape grove) (n + 1 + parts p) m)
-fault-within (application h p q) s n m e =
-    both _ n m (parts p) (parts q) _ _ e (fault-within p (context h (outer s)) (n + 1) m)
-    (fault-within q (giving h s) (n + 1 + parts p) m)
-fault-within (hole_adjoint p q) s n m e =
-    both _ n m (parts p) (parts q) _ _ e (fault-within p (shape (inner s)) (n + 1) m)
-    (fault-within q (shape (outer s)) (n + 1 + parts p) m)
-fault-within (context_adjoint k p q) s n m e =
-    both _ n m (parts p) (parts q) _ _ e (fault-within p (context (outer s) k) (n + 1) m)
-    (fault-within q (shape k) (n + 1 + parts p) m)
-fault-within (same_as a) s n m e = leaf _ n m e
-fault-within (length_is a) s n m e = leaf _ n m e
-fault-within (value_meets u a p) s n m e = part _ n m (parts p) _ e (fault-within p u (n + 1) m)
+-- a walk over two formulas, one behind the other
+pub place-two : (p q : Named) (s t : Sort) (n : ℕ)
+    → position_from not n (flags p s ++ flags q t)
+    ≡ option_or (position_from not n (flags p s)) (position_from not (n + parts p) (flags q t))
+place-two p q s t n = place-append (flags p s) (flags q t) n
+    ∙ ap (λ m. option_or (position_from not n (flags p s)) (position_from not (n + m) (flags q t)))
+    (flags-parts p s)

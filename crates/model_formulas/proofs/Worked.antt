@@ -4,7 +4,7 @@ use Rattle.model_shapes.specs.Sorts.{value, shape, context, int_sort, node_sort,
 use Rattle.model_shapes.specs.Values.{null, nolist, int, str}
 use Rattle.model_formulas.specs.Variables.{Var, logic, prog, bound}
 use Rattle.model_formulas.specs.Terms.{Term, literal, variable, sum}
-use Rattle.model_formulas.specs.Formulas.{Named, truth, conjunction, negation, existential, universal, equality, empty, bare_hole, node_formula, application, length_is, value_meets, is_pure}
+use Rattle.model_formulas.specs.Formulas.{Named, truth, conjunction, negation, existential, universal, equality, at_most, empty, bare_hole, same_as, node_formula, application, length_is, value_meets, is_pure}
 use Rattle.model_formulas.specs.Substitution.{formula_with, replacing}
 use Rattle.model_formulas.specs.Nameless.{nameless}
 use Rattle.model_formulas.specs.Walked.{walked}
@@ -75,45 +75,45 @@ abbrev at_node : Named → Named
 at_node p = node_formula (literal (str (115 ∷ []))) (literal null) p (literal nolist)
 
 -- a node whose children have the hole: judged at a context of trees
-node_with_hole : first_fault (at_node (bare_hole forest)) (context forest tree) 0 ≡ None
+node_with_hole : first_fault (at_node (bare_hole forest)) (context forest tree) ≡ None
 node_with_hole = refl
 
 -- the hole for a tree doesn't stand among its children at that sort: the second part is at fault
-node_with_other : first_fault (at_node (bare_hole forest)) (context tree tree) 0 ≡ Some 1
+node_with_other : first_fault (at_node (bare_hole forest)) (context tree tree) ≡ Some 1
 node_with_other = refl
 
 -- a formula isn't judged at a value sort, nor at the two sorts that are none
-at_value : first_fault truth (value int_sort) 0 ≡ Some 0
+at_value : first_fault truth (value int_sort) ≡ Some 0
 at_value = refl
 
-at_none : first_fault truth (context grove tree) 0 ≡ Some 0
+at_none : first_fault truth (context grove tree) ≡ Some 0
 at_none = refl
 
 -- (true @t true) has its first part at a context of trees: at groves with a hole for groves its
 -- second part would be judged at none, so the formula itself is at fault
-part_at_none : first_fault (application tree truth truth) (context grove grove) 0 ≡ Some 0
+part_at_none : first_fault (application tree truth truth) (context grove grove) ≡ Some 0
 part_at_none = refl
 
-part_at_sort : first_fault (application tree truth truth) (context tree grove) 0 ≡ None
+part_at_sort : first_fault (application tree truth truth) (context tree grove) ≡ None
 part_at_sort = refl
 
 -- a quantifier over a variable of a sort that is none
-bound_none : first_fault (universal (logic (120 ∷ []) (context grove forest)) truth) (shape tree) 0
+bound_none : first_fault (universal (logic (120 ∷ []) (context grove forest)) truth) (shape tree)
     ≡ Some 0
 bound_none = refl
 
 -- the parts are counted in order, a formula before its parts
-second_part : first_fault (conjunction (negation truth) (length_is (literal null))) (shape forest) 0
+second_part : first_fault (conjunction (negation truth) (length_is (literal null))) (shape forest)
     ≡ Some 3
 second_part = refl
 
 -- the variable of `is` has no value sort
-is_of_value : first_fault (value_meets (value int_sort) (variable m) truth) (shape grove) 0 ≡ Some 0
+is_of_value : first_fault (value_meets (value int_sort) (variable m) truth) (shape grove) ≡ Some 0
 is_of_value = refl
 
 -- two variables of one context sort may be compared
 compared : first_fault (equality (variable (logic (120 ∷ []) (context tree grove)))
-    (variable (logic (121 ∷ []) (context tree grove)))) (shape grove) 0 ≡ None
+    (variable (logic (121 ∷ []) (context tree grove)))) (shape grove) ≡ None
 compared = refl
 
 -- ($x is 0g) is pure, though 0g isn't
@@ -123,3 +123,15 @@ is_of_empty = refl
 
 empty_not_pure : is_pure {Binder = Var} (empty grove) ≡ false
 empty_not_pure = refl
+
+-- a bound variable can't be written
+bound_written : first_fault (at_most (variable (bound 0 (value int_sort))) (literal (int (pos 0))))
+    (shape tree) ≡ Some 0
+bound_written = refl
+
+bound_shape : first_fault (same_as (variable (bound 0 (shape tree)))) (shape tree) ≡ Some 0
+bound_shape = refl
+
+bound_compared : first_fault (equality (variable (bound 0 (shape tree)))
+    (variable (bound 0 (shape tree)))) (shape tree) ≡ Some 0
+bound_compared = refl

@@ -2,7 +2,7 @@
 -- equations and order of terms, length of forests, and `is`, which speaks of a variable's value.
 use Rattle.std.specs.Prelude.{Bool, true, false, ◌&&◌}
 use mathlib.Core.HLevel.{Discrete}
-use Rattle.model_shapes.specs.Sorts.{DataSort, DataSort-discrete, Sort, sort_eq}
+use Rattle.model_shapes.specs.Sorts.{DataSort, DataSort-discrete, Sort, shape, outer, sort_eq}
 use Rattle.model_formulas.specs.Variables.{Var}
 use Rattle.model_formulas.specs.Terms.{Term, term_eq}
 
@@ -10,6 +10,18 @@ use Rattle.model_formulas.specs.Terms.{Term, term_eq}
 pub data Side : Type 0 where
   whole hole_left hole_right : Side
   deriving Discrete as Side-discrete
+
+-- the sort of the left part of a concatenation: where one part has the hole, the other is a shape
+abbrev pub left_sort : Side → Sort → Sort
+left_sort whole s = s
+left_sort hole_left s = s
+left_sort hole_right s = shape (outer s)
+
+-- the sort of its right part
+abbrev pub right_sort : Side → Sort → Sort
+right_sort whole s = s
+right_sort hole_left s = shape (outer s)
+right_sort hole_right s = s
 
 -- A formula over `Binder`, what a quantifier holds of its variable.
 pub data FormulaOf (Binder : Type 0) : Type 0 where

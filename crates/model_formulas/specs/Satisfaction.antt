@@ -8,7 +8,7 @@ use Rattle.model_shapes.specs.Shapes.{Shaped, Same}
 use Rattle.model_shapes.specs.Things.{Thing, val, trees, Fits}
 use Rattle.model_formulas.specs.Variables.{Var, prog, logic, bound}
 use Rattle.model_formulas.specs.Terms.{Term, literal, variable, sum, difference, appended}
-use Rattle.model_formulas.specs.Formulas.{Side, whole, hole_left, hole_right, Formula, truth, falsity, conjunction, disjunction, implication, negation, existential, universal, equality, at_most, empty, bare_hole, node_formula, one_tree, one_root, concatenation, grove_sum, grove_sum_hole, application, hole_adjoint, context_adjoint, same_as, length_is, value_meets}
+use Rattle.model_formulas.specs.Formulas.{Side, whole, hole_left, hole_right, Formula, truth, falsity, conjunction, disjunction, implication, negation, existential, universal, equality, at_most, empty, bare_hole, node_formula, one_tree, one_root, concatenation, grove_sum, grove_sum_hole, application, hole_adjoint, context_adjoint, same_as, length_is, value_meets, left_sort, right_sort}
 
 -- What each variable stands for. One environment holds the store's values, those of the logic
 -- variables, and what the quantifiers passed have chosen.
@@ -76,18 +76,6 @@ IfNode r P = ⊥
 abbrev pub IfTrees : Thing → (Trees → Type 0) → Type 0
 IfTrees (val v) P = ⊥
 IfTrees (trees r) P = P r
-
--- the sort of the left part: where one part has the hole, the other is a shape
-abbrev pub left_sort : Side → Sort → Sort
-left_sort whole s = s
-left_sort hole_left s = s
-left_sort hole_right s = shape (outer s)
-
--- the sort of the right part
-abbrev pub right_sort : Side → Sort → Sort
-right_sort whole s = s
-right_sort hole_left s = shape (outer s)
-right_sort hole_right s = s
 
 -- the same as one part followed by another
 abbrev pub Splits : Side → Sort → Trees → (Sort → Trees → Type 0) → (Sort → Trees → Type 0)

@@ -3,7 +3,7 @@
 //! here, each with an empty body. Stands on model_shapes.
 #![tactic(auto)]
 
-ghost use Rattle.std.specs.Prelude.{◌≡◌, ◌↔◌, ◌<◌, ℕ, true, [], Some};
+ghost use Rattle.std.specs.Prelude.{◌≡◌, ◌↔◌, ◌<◌, ℕ, true, [], Some, length};
 ghost use Rattle.model_shapes.specs.Sorts.{Sort, value, shape, context, ValueSort, forest, grove};
 ghost use Rattle.model_shapes.specs.Shapes.{Same, Shaped};
 ghost use Rattle.model_shapes.specs.Trees.{Trees};
@@ -15,7 +15,7 @@ ghost use Rattle.model_formulas.specs.Substitution.{formula_with, FreeIn, exists
 ghost use Rattle.model_formulas.specs.Nameless.{SameFormula, nameless};
 ghost use Rattle.model_formulas.specs.Walked.{walked};
 ghost use Rattle.model_formulas.specs.SameFormulas.{same_formula};
-ghost use Rattle.model_formulas.specs.WellSorted.{is_form, has_sort, NamedAlone, first_fault, parts};
+ghost use Rattle.model_formulas.specs.WellSorted.{is_form, has_sort, flags, first_fault, parts};
 ghost use Rattle.model_formulas.specs.Setting.{setting};
 ghost use Rattle.model_formulas.specs.Satisfaction.{Environment, Meets, Entails, Proper, SomeThing, EachThing, Classically, meaning_of};
 
@@ -80,10 +80,10 @@ pub fn the_test_decides_sameness()
         → ((same_formula (walked [] p) (walked [] q) ≡ true) ↔ SameFormula p q) }
 {}
 
-/// A well-sorted term that names its variables stands for a thing of its sort.
+/// A well-sorted term stands for a thing of its sort.
 pub fn terms_stand_for_their_sort()
     ensures { (t : Term) (s : ValueSort) (e : Environment) → Proper e → has_sort s t ≡ true
-        → NamedAlone t → Fits (value s) (meaning_of e t) }
+        → Fits (value s) (meaning_of e t) }
 {}
 
 /// There is a proper environment, so no entailment holds for want of one.
@@ -118,5 +118,6 @@ pub fn pure_formulas_ignore_the_shape()
 
 /// The first part at fault is one of the formula's parts, which are counted from 0.
 pub fn faults_are_at_parts()
-    ensures { (p : Named) (s : Sort) (m : ℕ) → first_fault p s 0 ≡ Some m → m < parts p }
+    ensures counted { (p : Named) (s : Sort) → length (flags p s) ≡ parts p }
+    ensures within { (p : Named) (s : Sort) (m : ℕ) → first_fault p s ≡ Some m → m < parts p }
 {}
