@@ -1,10 +1,11 @@
--- Substitutions compose, and the two ways to a nameless form agree.
+-- Substitutions compose, and two ways to a nameless form agree: by a walk with the variables of the
+-- binders, and by closing over each quantifier's variable from the inside out.
 use Rattle.std.proofs.Common.{◌≡◌, zero, suc, sym, refl, ap, ◌∙◌, List, [], ◌∷◌}
 use mathlib.Core.Path.{fun_ext}
 use Rattle.model_formulas.specs.Formulas.{Named, Formula, truth, falsity, conjunction, disjunction, implication, negation, existential, universal, equality, at_most, empty, bare_hole, node_formula, one_tree, one_root, concatenation, grove_sum, grove_sum_hole, application, hole_adjoint, context_adjoint, same_as, length_is, value_meets}
 use Rattle.model_formulas.specs.Variables.{Var, prog, logic, bound, var_sort}
 use Rattle.model_formulas.specs.Terms.{Term, literal, variable, sum, difference, appended, raised, under_binder, Substitution, term_with, var_eq, raised_var}
-use Rattle.model_formulas.specs.Substitution.{formula_with, closing, closing_at}
+use Rattle.model_formulas.specs.Substitution.{formula_with, closing, closing_at, exists, forall}
 use Rattle.model_formulas.specs.Nameless.{nameless, walked, names, naming, name_or}
 
 raised-with : (g : Substitution) (t : Term) → term_with (under_binder g) (raised t)
@@ -90,8 +91,35 @@ names-closing xs x y = go (var_eq y x)
     go (yes e) = refl
     go (no n) = raised-with (naming xs) (variable y) ∙ raised-var (names xs y)
 
+-- the nameless form from the inside out: each quantifier closes over its variable
+abbrev pub closed_form : Named → Formula
+closed_form truth = truth
+closed_form falsity = falsity
+closed_form (conjunction p q) = conjunction (closed_form p) (closed_form q)
+closed_form (disjunction p q) = disjunction (closed_form p) (closed_form q)
+closed_form (implication p q) = implication (closed_form p) (closed_form q)
+closed_form (negation p) = negation (closed_form p)
+closed_form (existential x p) = exists x (closed_form p)
+closed_form (universal x p) = forall x (closed_form p)
+closed_form (equality a b) = equality a b
+closed_form (at_most a b) = at_most a b
+closed_form (empty k) = empty k
+closed_form (bare_hole h) = bare_hole h
+closed_form (node_formula name number p list) = node_formula name number (closed_form p) list
+closed_form (one_tree p) = one_tree (closed_form p)
+closed_form (one_root p) = one_root (closed_form p)
+closed_form (concatenation side p q) = concatenation side (closed_form p) (closed_form q)
+closed_form (grove_sum p q) = grove_sum (closed_form p) (closed_form q)
+closed_form (grove_sum_hole p q) = grove_sum_hole (closed_form p) (closed_form q)
+closed_form (application h p q) = application h (closed_form p) (closed_form q)
+closed_form (hole_adjoint p q) = hole_adjoint (closed_form p) (closed_form q)
+closed_form (context_adjoint k p q) = context_adjoint k (closed_form p) (closed_form q)
+closed_form (same_as a) = same_as a
+closed_form (length_is a) = length_is a
+closed_form (value_meets s a p) = value_meets s a (closed_form p)
+
 -- the walk below some binders is the nameless form with their names bound
-pub walked-names : (p : Named) (xs : List Var) → walked xs p ≡ formula_with (naming xs) (nameless p)
+pub walked-names : (p : Named) (xs : List Var) → walked xs p ≡ formula_with (naming xs) (closed_form p)
 walked-names truth xs = refl
 walked-names falsity xs = refl
 walked-names (conjunction p q) xs = λ j. conjunction (walked-names p xs j) (walked-names q xs j)
@@ -101,13 +129,13 @@ walked-names (negation p) xs = λ j. negation (walked-names p xs j)
 walked-names (existential s p) xs =
     λ j. existential (var_sort s)
     ((walked-names p (s ∷ xs)
-    ∙ (sym (formula-then (nameless p) (closing s) (under_binder (naming xs))
-    ∙ ap (λ h. formula_with h (nameless p)) (fun_ext (names-closing xs s))))) j)
+    ∙ (sym (formula-then (closed_form p) (closing s) (under_binder (naming xs))
+    ∙ ap (λ h. formula_with h (closed_form p)) (fun_ext (names-closing xs s))))) j)
 walked-names (universal s p) xs =
     λ j. universal (var_sort s)
     ((walked-names p (s ∷ xs)
-    ∙ (sym (formula-then (nameless p) (closing s) (under_binder (naming xs))
-    ∙ ap (λ h. formula_with h (nameless p)) (fun_ext (names-closing xs s))))) j)
+    ∙ (sym (formula-then (closed_form p) (closing s) (under_binder (naming xs))
+    ∙ ap (λ h. formula_with h (closed_form p)) (fun_ext (names-closing xs s))))) j)
 walked-names (equality a b) xs = λ j. equality (term_with (naming xs) a) (term_with (naming xs) b)
 walked-names (at_most a b) xs = λ j. at_most (term_with (naming xs) a) (term_with (naming xs) b)
 walked-names (empty k) xs = refl
@@ -137,7 +165,7 @@ under-variable (logic x s) = refl
 under-variable (bound zero s) = refl
 under-variable (bound (suc i) s) = refl
 
-term-variable : (t : Term) → term_with variable t ≡ t
+pub term-variable : (t : Term) → term_with variable t ≡ t
 term-variable (literal v) = refl
 term-variable (variable x) = refl
 term-variable (sum a b) = λ j. sum (term-variable a j) (term-variable b j)
@@ -181,6 +209,13 @@ formula-variable (same_as a) = λ j. same_as (term-variable a j)
 formula-variable (length_is a) = λ j. length_is (term-variable a j)
 formula-variable (value_meets s a p) = λ j. value_meets s (term-variable a j) (formula-variable p j)
 
--- so the walk from no binder is the nameless form
-pub walked-nameless : (p : Named) → walked [] p ≡ nameless p
-walked-nameless p = walked-names p [] ∙ formula-variable (nameless p)
+-- so the walk from no binder gives the same
+pub nameless-closed : (p : Named) → nameless p ≡ closed_form p
+nameless-closed p = walked-names p [] ∙ formula-variable (closed_form p)
+
+-- and a quantifier closes over its variable
+pub nameless-exists : (x : Var) (p : Named) → nameless (existential x p) ≡ exists x (nameless p)
+nameless-exists x p = nameless-closed (existential x p) ∙ ap (exists x) (sym (nameless-closed p))
+
+pub nameless-forall : (x : Var) (p : Named) → nameless (universal x p) ≡ forall x (nameless p)
+nameless-forall x p = nameless-closed (universal x p) ∙ ap (forall x) (sym (nameless-closed p))

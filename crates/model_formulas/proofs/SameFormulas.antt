@@ -1,13 +1,11 @@
 -- What the test of sameness of formulas says.
-use Rattle.std.proofs.Common.{◌≡◌, sym, refl, ap, ◌∙◌, subst, Bool, true, false, ◌&&◌, rules, ℤ, int_le, Decides, []}
+use Rattle.std.proofs.Common.{◌≡◌, sym, refl, ap, ◌∙◌, subst, Bool, true, false, ◌&&◌, rules, ℤ, int_le}
 use Rattle.std.proofs.lemmas.Int.{ints}
-use Rattle.model_formulas.specs.Formulas.{Formula, truth, falsity, conjunction, disjunction, implication, negation, existential, universal, equality, at_most, empty, bare_hole, node_formula, one_tree, one_root, concatenation, grove_sum, grove_sum_hole, application, hole_adjoint, context_adjoint, same_as, length_is, value_meets, Named, Side, whole, hole_left, hole_right}
+use Rattle.model_formulas.specs.Formulas.{Formula, truth, falsity, conjunction, disjunction, implication, negation, existential, universal, equality, at_most, empty, bare_hole, node_formula, one_tree, one_root, concatenation, grove_sum, grove_sum_hole, application, hole_adjoint, context_adjoint, same_as, length_is, value_meets, Side, whole, hole_left, hole_right}
 use Rattle.model_formulas.specs.Terms.{Term, literal, variable, sum, difference, appended}
-use Rattle.model_formulas.specs.Nameless.{nameless, walked}
 use Rattle.model_shapes.specs.Sorts.{same_data_sort, same_sort}
 use Rattle.model_formulas.specs.SameFormulas.{same_side, same_term, same_formula, same_value, same_bool, int_eq}
 use Rattle.model_shapes.specs.Values.{Value, null, nolist, node_number, list_number, int, str, boolean}
-use Rattle.model_formulas.proofs.Nameless.{walked-nameless}
 use Rattle.model_formulas.specs.VariableTests.{false≢true, both_true, same_data_sort-is, same_data_sort-refl, same_sort-is, same_sort-refl, bytes-is, bytes-refl, nat-is, nat-refl, same_var-is, same_var-refl}
 
 -- equal sides
@@ -203,13 +201,3 @@ pub same_formula-both : (p q : Formula) → (same_formula p q ≡ true → p ≡
     × (p ≡ q → same_formula p q ≡ true)
 same_formula-both p q =
     (same_formula-is p q, (λ e. subst (λ z. same_formula p z ≡ true) e (same_formula-refl p)))
-
--- the test of the walked forms decides whether the formulas are the same
-pub same_formula-Decides : (p q : Named)
-    → Decides (same_formula (walked [] p) (walked [] q)) (nameless p ≡ nameless q)
-same_formula-Decides p q = (
-  (λ e. sym (walked-nameless p) ∙ same_formula-is (walked [] p) (walked [] q) e
-      ∙ walked-nameless q),
-  (λ e. subst (λ z. same_formula (walked [] p) z ≡ true) (walked-nameless p ∙ e
-      ∙ sym (walked-nameless q)) (same_formula-refl (walked [] p))),
-)

@@ -7,7 +7,6 @@ use Rattle.model_formulas.specs.Terms.{Term, literal, variable, sum}
 use Rattle.model_formulas.specs.Formulas.{Named, truth, conjunction, negation, existential, universal, equality, at_most, empty, bare_hole, same_as, node_formula, application, length_is, value_meets, is_pure}
 use Rattle.model_formulas.specs.Substitution.{formula_with, replacing}
 use Rattle.model_formulas.specs.Nameless.{nameless}
-use Rattle.model_formulas.specs.Walked.{walked}
 use Rattle.model_formulas.specs.SameFormulas.{same_formula}
 use Rattle.model_formulas.specs.WellSorted.{first_fault}
 
@@ -34,7 +33,7 @@ differs x = negation (equality (variable n) (variable x))
 
 -- a test of sameness
 abbrev same : Named → Named → Bool
-same p q = same_formula (walked [] p) (walked [] q)
+same p q = same_formula (nameless p) (nameless q)
 
 -- the names of bound variables don't matter
 bound_names : same (existential m (next_is m)) (existential n (next_is n)) ≡ true

@@ -7,5 +7,4 @@ pub mod Nameless
 pub mod WellSorted
 pub mod SameFormulas
 pub mod Satisfaction
-pub mod Walked
 pub mod Setting

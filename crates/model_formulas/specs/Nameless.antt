@@ -1,37 +1,58 @@
--- The nameless form of a formula. Two formulas are the same where their nameless forms are equal:
--- that is, where they are equal up to the names of bound variables.
-use Rattle.std.specs.Prelude.{◌≡◌}
+-- The nameless form of a formula, by a walk with the variables of the binders passed, the nearest
+-- first. Two formulas are the same where their nameless forms are equal: that is, where they are equal
+-- up to the names of bound variables.
+use Rattle.std.specs.Prelude.{◌≡◌, zero, List, [], ◌∷◌}
+use Rattle.model_formulas.specs.Variables.{Var, bound, var_sort}
+use Rattle.model_formulas.specs.Terms.{variable, raised_var, Substitution, term_with, var_eq}
 use Rattle.model_formulas.specs.Formulas.{Named, Formula, truth, falsity, conjunction, disjunction, implication, negation, existential, universal, equality, at_most, empty, bare_hole, node_formula, one_tree, one_root, concatenation, grove_sum, grove_sum_hole, application, hole_adjoint, context_adjoint, same_as, length_is, value_meets}
-use Rattle.model_formulas.specs.Substitution.{exists, forall}
-pub use Rattle.model_formulas.specs.Walked.{name_or, names, naming, walked}
 
--- the nameless form: each quantifier closes over its variable
+-- a variable that the nearest binder binds, or one that is bound or free further out
+abbrev pub name_or : {x y : Var} → Var → Dec (y ≡ x) → Var
+name_or {x} {y} outside (yes e) = bound zero (var_sort x)
+name_or {x} {y} outside (no n) = raised_var outside
+
+-- what a variable becomes below binders of these variables
+abbrev pub names : List Var → Var → Var
+names [] y = y
+names (x ∷ xs) y = name_or (names xs y) (var_eq y x)
+
+-- the same as a substitution
+abbrev pub naming : List Var → Substitution
+naming xs y = variable (names xs y)
+
+-- the nameless form below binders of these variables
+abbrev pub walked : List Var → Named → Formula
+walked xs truth = truth
+walked xs falsity = falsity
+walked xs (conjunction p q) = conjunction (walked xs p) (walked xs q)
+walked xs (disjunction p q) = disjunction (walked xs p) (walked xs q)
+walked xs (implication p q) = implication (walked xs p) (walked xs q)
+walked xs (negation p) = negation (walked xs p)
+walked xs (existential x p) = existential (var_sort x) (walked (x ∷ xs) p)
+walked xs (universal x p) = universal (var_sort x) (walked (x ∷ xs) p)
+walked xs (equality a b) = equality (term_with (naming xs) a) (term_with (naming xs) b)
+walked xs (at_most a b) = at_most (term_with (naming xs) a) (term_with (naming xs) b)
+walked xs (empty k) = empty k
+walked xs (bare_hole h) = bare_hole h
+walked xs (node_formula name number p list) =
+    node_formula (term_with (naming xs) name) (term_with (naming xs) number) (walked xs p)
+    (term_with (naming xs) list)
+walked xs (one_tree p) = one_tree (walked xs p)
+walked xs (one_root p) = one_root (walked xs p)
+walked xs (concatenation side p q) = concatenation side (walked xs p) (walked xs q)
+walked xs (grove_sum p q) = grove_sum (walked xs p) (walked xs q)
+walked xs (grove_sum_hole p q) = grove_sum_hole (walked xs p) (walked xs q)
+walked xs (application h p q) = application h (walked xs p) (walked xs q)
+walked xs (hole_adjoint p q) = hole_adjoint (walked xs p) (walked xs q)
+walked xs (context_adjoint k p q) = context_adjoint k (walked xs p) (walked xs q)
+walked xs (same_as a) = same_as (term_with (naming xs) a)
+walked xs (length_is a) = length_is (term_with (naming xs) a)
+walked xs (value_meets s a p) = value_meets s (term_with (naming xs) a) (walked xs p)
+
+-- the nameless form: no binder passed
 abbrev pub nameless : Named → Formula
-nameless truth = truth
-nameless falsity = falsity
-nameless (conjunction p q) = conjunction (nameless p) (nameless q)
-nameless (disjunction p q) = disjunction (nameless p) (nameless q)
-nameless (implication p q) = implication (nameless p) (nameless q)
-nameless (negation p) = negation (nameless p)
-nameless (existential x p) = exists x (nameless p)
-nameless (universal x p) = forall x (nameless p)
-nameless (equality a b) = equality a b
-nameless (at_most a b) = at_most a b
-nameless (empty k) = empty k
-nameless (bare_hole h) = bare_hole h
-nameless (node_formula name number p list) = node_formula name number (nameless p) list
-nameless (one_tree p) = one_tree (nameless p)
-nameless (one_root p) = one_root (nameless p)
-nameless (concatenation side p q) = concatenation side (nameless p) (nameless q)
-nameless (grove_sum p q) = grove_sum (nameless p) (nameless q)
-nameless (grove_sum_hole p q) = grove_sum_hole (nameless p) (nameless q)
-nameless (application h p q) = application h (nameless p) (nameless q)
-nameless (hole_adjoint p q) = hole_adjoint (nameless p) (nameless q)
-nameless (context_adjoint k p q) = context_adjoint k (nameless p) (nameless q)
-nameless (same_as a) = same_as a
-nameless (length_is a) = length_is a
-nameless (value_meets s a p) = value_meets s a (nameless p)
+nameless p = walked [] p
 
--- Equal up to the names of bound variables.
+-- equal up to the names of bound variables
 abbrev pub SameFormula : Named → Named → Type 0
 SameFormula p q = nameless p ≡ nameless q

@@ -3,17 +3,16 @@
 //! here, each with an empty body. Stands on model_shapes.
 #![tactic(auto)]
 
-ghost use Rattle.std.specs.Prelude.{◌≡◌, ◌↔◌, ◌<◌, ℕ, true, [], Some, length};
+ghost use Rattle.std.specs.Prelude.{◌≡◌, ◌↔◌, ◌<◌, ℕ, true, Some, length};
 ghost use Rattle.model_shapes.specs.Sorts.{Sort, value, shape, context, ValueSort, forest, grove};
 ghost use Rattle.model_shapes.specs.Shapes.{Same, Shaped};
 ghost use Rattle.model_shapes.specs.Trees.{Trees};
 ghost use Rattle.model_shapes.specs.Things.{Fits};
 ghost use Rattle.model_formulas.specs.Variables.{Var, var_sort};
 ghost use Rattle.model_formulas.specs.Terms.{Term, variable, Substitution};
-ghost use Rattle.model_formulas.specs.Formulas.{Formula, Named, truth, falsity, conjunction, implication, equality, bare_hole, empty, grove_sum_hole, node_formula, one_root, value_meets, is_pure};
+ghost use Rattle.model_formulas.specs.Formulas.{Formula, Named, truth, falsity, conjunction, implication, existential, universal, equality, bare_hole, empty, grove_sum_hole, node_formula, one_root, value_meets, is_pure};
 ghost use Rattle.model_formulas.specs.Substitution.{formula_with, FreeIn, exists, forall, replacing};
 ghost use Rattle.model_formulas.specs.Nameless.{SameFormula, nameless};
-ghost use Rattle.model_formulas.specs.Walked.{walked};
 ghost use Rattle.model_formulas.specs.SameFormulas.{same_formula};
 ghost use Rattle.model_formulas.specs.WellSorted.{is_form, has_sort, flags, first_fault, parts};
 ghost use Rattle.model_formulas.specs.Setting.{setting};
@@ -68,16 +67,17 @@ pub fn same_formulas_have_one_meaning()
         → (Meets (nameless p) e s r ↔ Meets (nameless q) e s r) }
 {}
 
-/// The walk with the names of the binders gives the nameless form.
-pub fn walked_is_nameless()
-    ensures { (p : Named) → walked [] p ≡ nameless p }
+/// The nameless form of a quantifier is that of its part, closed over its variable.
+pub fn quantifiers_close_over_their_variable()
+    ensures some { (x : Var) (p : Named) → nameless (existential x p) ≡ exists x (nameless p) }
+    ensures each { (x : Var) (p : Named) → nameless (universal x p) ≡ forall x (nameless p) }
 {}
 
 /// The test decides whether two formulas are the same, with names and without.
 pub fn the_test_decides_sameness()
     ensures nameless { (p q : Formula) → ((same_formula p q ≡ true) ↔ (p ≡ q)) }
     ensures named { (p q : Named)
-        → ((same_formula (walked [] p) (walked [] q) ≡ true) ↔ SameFormula p q) }
+        → ((same_formula (nameless p) (nameless q) ≡ true) ↔ SameFormula p q) }
 {}
 
 /// A well-sorted term stands for a thing of its sort.
