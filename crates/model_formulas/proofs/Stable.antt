@@ -69,8 +69,7 @@ stable-WidthOf grove n = λ h. tt
 pub stable-OneHole : {h k : DataSort} {r : Trees} → Stable (OneHole h k r)
 stable-OneHole n = record {
   one = stable-ℕ (λ m. n (λ w. m w.one));
-  at_root = λ z. stable-Bool (λ m. n (λ w. m (w.at_root z)));
-  below = λ z. stable-Bool (λ m. n (λ w. m (w.below z)));
+  stands = stable-Bool (λ m. n (λ w. m w.stands));
 }
 
 -- the holes that the sort asks for

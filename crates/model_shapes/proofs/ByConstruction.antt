@@ -8,7 +8,7 @@ use Rattle.model_shapes.specs.Contexts.{TreeContext, tree_hole, around_node, For
 use Rattle.model_shapes.proofs.Truth.{false≢true}
 use Rattle.model_shapes.proofs.Basics.{holes-beside, root_holes-beside, root_uses-beside, fill-beside, fill-no_hole}
 use Rattle.model_shapes.proofs.Sameness.{SameGrove, picked, tally_self}
-use Rattle.model_shapes.proofs.Shapes.{root_holes-le}
+use Rattle.model_shapes.proofs.Shapes.{root_holes-le, hole-root, hole-below, one-hole}
 use Rattle.model_shapes.proofs.Narrow.{alone}
 use Rattle.model_shapes.proofs.Cancelling.{node-kids, node-rest, node-head}
 
@@ -57,16 +57,12 @@ pub tree-plain : (c : TreeContext) → TreeBare c → WellFormed (tree_thing c)
 tree-plain tree_hole b w = record {
   well_formed = w;
   width_fits = refl;
-  holed = record { one = refl; at_root = λ z. refl; below = λ z. refl };
+  holed = record { one = refl; stands = refl };
 }
 tree-plain (around_node s i f l) b w = record {
   well_formed = w;
   width_fits = refl;
-  holed = record {
-    one = tree-holes (around_node s i f l) b;
-    at_root = λ z. absurd (omega (arith, z));
-    below = λ z. forest-stands f;
-  };
+  holed = record { one = tree-holes (around_node s i f l) b; stands = forest-stands f };
 }
 
 -- a forest context is a plain one
@@ -75,11 +71,8 @@ pub forest-plain : (c : ForestContext) → ForestBare c → WellFormed (forest_t
 forest-plain c b w = record {
   well_formed = w;
   width_fits = tt;
-  holed = record {
-    one = forest-holes c b;
-    at_root = λ z. forest-stands c;
-    below = λ z. forest-stands c;
-  };
+  holed =
+      one-hole _ _ _ (forest-holes c b) (λ z. forest-stands c) (λ z. forest-stands c);
 }
 
 tree-in_grove : (c : TreeContext) (r : Trees) → holes r ≡ 0
@@ -93,20 +86,14 @@ pub grove-plain : (c : GroveContext) → GroveBare c → WellFormed (grove_thing
 grove-plain (grove_hole r) b w = record {
   well_formed = w;
   width_fits = tt;
-  holed = record {
-    one = omega (arith, b);
-    at_root = λ z. refl;
-    below = λ z. absurd (omega (arith, z));
-  };
+  holed = record { one = omega (arith, b); stands = refl };
 }
 grove-plain (root_context c r) b w = record {
   well_formed = w;
   width_fits = tt;
-  holed = record {
-    one = omega (arith, holes-beside (tree_thing c) r, tree-holes c b.0, b.1);
-    at_root = λ z. tree-in_grove c r b.1 z;
-    below = λ z. tree-stands c;
-  };
+  holed =
+      one-hole _ _ _ (omega (arith, holes-beside (tree_thing c) r, tree-holes c b.0, b.1))
+      (λ z. tree-in_grove c r b.1 z) (λ z. tree-stands c);
 }
 
 -- EACH PLAIN ONE COMES FROM ONE
@@ -155,14 +142,14 @@ pub from_forest : (h : DataSort) (r : Trees) → Shaped (context h forest) r →
 from_forest h r w = in_forest h r (stands (root_holes r) refl) w.holed.one
   where
     stands : (n : ℕ) → root_holes r ≡ n → may_stand h forest ≡ true
-    stands zero e = w.holed.below e
-    stands (suc n) e = w.holed.at_root (omega (arith, e, w.holed.one, root_holes-le r))
+    stands zero e = hole-below w.holed e
+    stands (suc n) e = hole-root w.holed (omega (arith, e, w.holed.one, root_holes-le r))
 
 -- a plain tree context comes from a tree context
 pub in_tree : (h : DataSort) (r : Trees) → Shaped (context h tree) r
     → (c : TreeContext) × (tree_thing c ≡ r) × (tree_hole_sort c ≡ h) × TreeBare c
 in_tree h none w = absurd (omega (arith, w.width_fits))
-in_tree h (hole none) w = go h (w.holed.at_root refl)
+in_tree h (hole none) w = go h w.holed.stands
   where
     go : (h : DataSort) → may_stand h tree ≡ true
         → (c : TreeContext) × (tree_thing c ≡ hole none) × (tree_hole_sort c ≡ h) × TreeBare c
@@ -172,7 +159,7 @@ in_tree h (hole none) w = go h (w.holed.at_root refl)
 in_tree h (hole (node s i k l r)) w = absurd (omega (arith, w.width_fits))
 in_tree h (hole (hole r)) w = absurd (omega (arith, w.width_fits))
 in_tree h (node s i k l none) w =
-    let c : InForest h k = in_forest h k (w.holed.below refl) (omega (arith, w.holed.one)) in
+    let c : InForest h k = in_forest h k w.holed.stands (omega (arith, w.holed.one)) in
     (around_node s i c.0 l, ap (λ z. node s i z l none) c.1, c.2, c.3)
 in_tree h (node s i k l (hole r)) w = absurd (omega (arith, w.width_fits))
 in_tree h (node s i k l (node s' i' k' l' r)) w = absurd (omega (arith, w.width_fits))
@@ -246,7 +233,7 @@ InGrove h r =
 
 grove_from : (h : DataSort) (r a t b : Trees) → OneHole h grove r → Marked t
     → (r ≡ beside a (beside t b)) → holes a ≡ 0 → holes b ≡ 0 → InGrove h r
-grove_from h r a (hole none) b o m e za zb = go h (o.at_root root)
+grove_from h r a (hole none) b o m e za zb = go h (hole-root o root)
   where
     root : root_holes r ≡ 1
     root =
@@ -277,7 +264,7 @@ grove_from h r a (node s i k l none) b o zk e za zb =
       root_holes-le a,
       root_holes-le b,
     ) in
-    let c : InForest h k = in_forest h k (o.below none_at_root) zk in (
+    let c : InForest h k = in_forest h k (hole-below o none_at_root) zk in (
       root_context (around_node s i c.0 l) (beside a b),
       (λ u. ap (root_uses u) e ∙ fronted a (node s i k l none) b u
           ∙ ap (λ z. root_uses u (node s i z l (beside a b))) (sym c.1)),

@@ -6,7 +6,7 @@ use Rattle.model_shapes.specs.Sorts.{DataSort, tree, forest, grove}
 use Rattle.model_shapes.proofs.Basics.{width-beside, root_uses-beside, fill-no_hole}
 use Rattle.model_shapes.proofs.Truth.{false≢true}
 use Rattle.model_shapes.proofs.Sameness.{SameGrove}
-use Rattle.model_shapes.proofs.Shapes.{root_holes-le}
+use Rattle.model_shapes.proofs.Shapes.{root_holes-le, hole-root}
 use Rattle.model_shapes.proofs.Narrow.{narrow}
 use Rattle.model_shapes.proofs.Filling.{swap_in, grove_hole, grove_root}
 
@@ -111,9 +111,9 @@ cancel tree grove c a b o w e = fill-cancel-grove c a b o.one (λ z. omega (arit
 cancel forest tree c a b o w e = fill-cancel c a b o.one e
 cancel forest forest c a b o w e = fill-cancel c a b o.one e
 cancel forest grove c a b o w e =
-    fill-cancel-grove c a b o.one (λ z. false≢true (o.at_root z)) e
-cancel grove tree c a b o w e = false≢true (o.at_root (grove_root tree c o))
-cancel grove forest c a b o w e = false≢true (o.at_root (grove_root forest c o))
+    fill-cancel-grove c a b o.one (λ z. false≢true (hole-root o z)) e
+cancel grove tree c a b o w e = false≢true (hole-root o (grove_root tree c o))
+cancel grove forest c a b o w e = false≢true (hole-root o (grove_root forest c o))
 cancel grove grove c a b o w e = λ t.
     let z : root_holes c ≡ 1 = grove_root grove c o in
     omega (

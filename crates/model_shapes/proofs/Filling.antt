@@ -7,7 +7,7 @@ use Rattle.model_shapes.specs.Sorts.{Sort, value, shape, context, giving, DataSo
 use Rattle.model_shapes.proofs.Basics.{root_uses-beside, fill-beside, fill-no_hole, holes-fill, root_holes-fill, width-fill, fill-fill, node_uses-fill, list_uses-fill}
 use Rattle.model_shapes.proofs.Truth.{false≢true}
 use Rattle.model_shapes.proofs.Sameness.{same-count}
-use Rattle.model_shapes.proofs.Shapes.{SameAt-eq, root_holes-le}
+use Rattle.model_shapes.proofs.Shapes.{SameAt-eq, root_holes-le, hole-root, hole-below, one-hole}
 
 -- the same contexts, filled, are the same
 pub fill-left : (k : DataSort) (a b d : Trees) → SameAt k a b → SameAt k (fill a d) (fill b d)
@@ -45,7 +45,7 @@ pub grove_hole : (k : DataSort) (c : Trees) → OneHole grove k c → holes c �
 grove_hole k c o = go (root_holes c) refl
   where
     go : (n : ℕ) → root_holes c ≡ n → holes c ≡ root_holes c
-    go zero e = absurd (false≢true (o.below e))
+    go zero e = absurd (false≢true (hole-below o e))
     go (suc n) e = omega (arith, o.one, root_holes-le c)
 
 -- so it is among the roots
@@ -54,8 +54,8 @@ grove_root k c o = omega (arith, grove_hole k c o, o.one)
 
 fill-right-grove : (k : DataSort) (c a b : Trees) → OneHole grove k c → SameAt grove a b
     → SameAt k (fill c a) (fill c b)
-fill-right-grove tree c a b o h = false≢true (o.at_root (grove_root tree c o))
-fill-right-grove forest c a b o h = false≢true (o.at_root (grove_root forest c o))
+fill-right-grove tree c a b o h = false≢true (hole-root o (grove_root tree c o))
+fill-right-grove forest c a b o h = false≢true (hole-root o (grove_root forest c o))
 fill-right-grove grove c a b o h = λ t.
     omega (arith, swap_in t c a b (grove_hole grove c o), ap (λ x. root_holes c * x) (h t))
 
@@ -73,7 +73,7 @@ no_root h c o not = go (root_holes c) refl
   where
     go : (m : ℕ) → root_holes c ≡ m → root_holes c ≡ 0
     go zero e = e
-    go (suc m) e = false≢true (sym not ∙ o.at_root (omega (arith, o.one, root_holes-le c)))
+    go (suc m) e = false≢true (sym not ∙ hole-root o (omega (arith, o.one, root_holes-le c)))
 
 below-width : (c d : Trees) → root_holes c ≡ 0 → width c ≡ 1 → width (fill c d) ≡ 1
 below-width c d z w = omega (arith, width-fill c d, z, ap (λ n. n * width d) z, w)
@@ -129,25 +129,25 @@ stand-trans grove grove l a b = b
 
 compose-OneHole : (h j l : DataSort) (c k : Trees) → OneHole j l c → OneHole h j k
     → OneHole h l (fill c k)
-compose-OneHole h j l c k oc ok = record {
-  one = omega (arith, holes-fill c k, oc.one, ok.one, ap (λ n. n * holes k) oc.one);
-  at_root = λ z. at_root z (root_holes c) refl;
-  below = λ z. below z (root_holes c) refl (root_holes k) refl;
-}
+compose-OneHole h j l c k oc ok =
+    one-hole h l (fill c k)
+    (omega (arith, holes-fill c k, oc.one, ok.one, ap (λ n. n * holes k) oc.one))
+    (λ z. at_root z (root_holes c) refl)
+    (λ z. below z (root_holes c) refl (root_holes k) refl)
   where
     at_root : root_holes (fill c k) ≡ 1 → (n : ℕ) → root_holes c ≡ n → may_stand h l ≡ true
     at_root z zero e = absurd (omega (arith, z, root_holes-fill c k, ap (λ n. n * root_holes k) e))
     at_root z (suc n) e =
         let y : root_holes c ≡ 1 = omega (arith, oc.one, root_holes-le c) in
         stand-trans h j l
-        (ok.at_root (omega (arith, z, root_holes-fill c k, ap (λ n. n * root_holes k) y)))
-        (oc.at_root y)
+        (hole-root ok (omega (arith, z, root_holes-fill c k, ap (λ n. n * root_holes k) y)))
+        (hole-root oc y)
 
     below : root_holes (fill c k) ≡ 0 → (n : ℕ) → root_holes c ≡ n → (m : ℕ) → root_holes k ≡ m
         → may_stand h forest ≡ true
-    below z n e zero f = ok.below f
+    below z n e zero f = hole-below ok f
     below z zero e (suc m) f =
-        stand-trans h j forest (ok.at_root (omega (arith, ok.one, root_holes-le k))) (oc.below e)
+        stand-trans h j forest (hole-root ok (omega (arith, ok.one, root_holes-le k))) (hole-below oc e)
     below z (suc n) e (suc m) f =
         let y : root_holes c ≡ 1 = omega (arith, oc.one, root_holes-le c) in
         absurd (omega (arith, z, f, root_holes-fill c k, ap (λ n. n * root_holes k) y))

@@ -1,11 +1,13 @@
 -- Each of the fifteen sorts has a thing, and nothing else has one.
 use Rattle.std.proofs.Common.{◌≡◌, ℕ, ◌≤◌, refl, arith, true, false, [], pos}
 use Rattle.std.proofs.Math.Decide.{ℕ_discrete}
-use Rattle.model_shapes.specs.Trees.{Trees, none, node, hole, tally, WellFormed}
-use Rattle.model_shapes.specs.Sorts.{Sort, value, shape, context, node_sort, list_sort, int_sort, str_sort, bool_sort, tree, forest, grove, is_sort}
+use Rattle.model_shapes.specs.Trees.{Trees, none, node, hole, width, tally, node_uses, list_uses, WellFormed}
+use Rattle.model_shapes.specs.Shapes.{may_stand, HasWidth, OneHole, HolePlaced}
+use Rattle.model_shapes.specs.Sorts.{Sort, value, shape, context, node_sort, list_sort, int_sort, str_sort, bool_sort, DataSort, tree, forest, grove, is_sort}
 use Rattle.model_shapes.specs.Things.{Thing, val, trees, Fits}
 use Rattle.model_shapes.specs.Values.{null, nolist, int, str, boolean}
 use Rattle.model_shapes.proofs.Filling.{grove_root}
+use Rattle.model_shapes.proofs.Shapes.{hole-root}
 use Rattle.model_shapes.proofs.Truth.{false≢true}
 
 -- an answer counts at most once
@@ -40,27 +42,36 @@ only_hole =
 abbrev lone : Trees → Trees
 lone kids = node [] 1 kids 1 none
 
-lone_none : WellFormed (lone none)
-lone_none = record {
-  nodes_once = λ n. omega (arith, tally-le (ℕ_discrete n 1));
-  lists_once = λ n. omega (arith, tally-le (ℕ_discrete n 1));
-  no_node_zero = omega (arith, tally-no (ℕ_discrete 0 1));
-  no_list_zero = omega (arith, tally-no (ℕ_discrete 0 1));
+lone_formed : (kids : Trees) → ((n : ℕ) → node_uses n kids ≡ 0) → ((n : ℕ) → list_uses n kids ≡ 0)
+    → WellFormed (lone kids)
+lone_formed kids nodes lists = record {
+  nodes_once = λ n. omega (arith, tally-le (ℕ_discrete n 1), nodes n);
+  lists_once = λ n. omega (arith, tally-le (ℕ_discrete n 1), lists n);
+  no_node_zero = omega (arith, tally-no (ℕ_discrete 0 1), nodes 0);
+  no_list_zero = omega (arith, tally-no (ℕ_discrete 0 1), lists 0);
 }
 
-lone_hole : WellFormed (lone (hole none))
-lone_hole = record {
-  nodes_once = λ n. omega (arith, tally-le (ℕ_discrete n 1));
-  lists_once = λ n. omega (arith, tally-le (ℕ_discrete n 1));
-  no_node_zero = omega (arith, tally-no (ℕ_discrete 0 1));
-  no_list_zero = omega (arith, tally-no (ℕ_discrete 0 1));
-}
+some_context : (h k : DataSort) (r : Trees) → WellFormed r → HasWidth k (width r) → OneHole h k r
+    → HolePlaced k r → (x : Thing) × Fits (context h k) x
+some_context h k r w n o f =
+    (trees r, (record { well_formed = w; width_fits = n; holed = o }, f))
 
-one≢zero : {P : Type 0} → ◌≡◌ {A = ℕ} 1 0 → P
-one≢zero e = absurd (omega arith)
+here : (h k : DataSort) → may_stand h k ≡ true → HasWidth k 1 → (x : Thing) × Fits (context h k) x
+here h k e n = at k e n
+  where
+    one : (k : DataSort) → may_stand h k ≡ true → OneHole h k (hole none)
+    one k e = record { one = refl; stands = e }
 
-zero≢one : {P : Type 0} → ◌≡◌ {A = ℕ} 0 1 → P
-zero≢one e = absurd (omega arith)
+    at : (k : DataSort) → may_stand h k ≡ true → HasWidth k 1 → (x : Thing) × Fits (context h k) x
+    at tree e n = some_context h tree (hole none) only_hole n (one tree e) tt
+    at forest e n = some_context h forest (hole none) only_hole n (one forest e) tt
+    at grove e n = some_context h grove (hole none) only_hole n (one grove e) tt
+
+inside : (k : DataSort) → HasWidth k 1 → HolePlaced k (lone (hole none))
+    → (x : Thing) × Fits (context forest k) x
+inside k n f =
+    some_context forest k (lone (hole none))
+    (lone_formed (hole none) (λ n. refl) (λ n. refl)) n (record { one = refl; stands = refl }) f
 
 -- a thing of each sort
 pub some_thing : (s : Sort) → is_sort s ≡ true → (x : Thing) × Fits s x
@@ -70,123 +81,25 @@ some_thing (value int_sort) e = (val (int (pos 0)), tt)
 some_thing (value str_sort) e = (val (str []), tt)
 some_thing (value bool_sort) e = (val (boolean false), tt)
 some_thing (shape tree) e =
-    (trees (lone none), record { well_formed = lone_none; width_fits = refl; holed = refl })
+    (
+      trees (lone none),
+      record {
+        well_formed = lone_formed none (λ n. refl) (λ n. refl);
+        width_fits = refl;
+        holed = refl;
+      },
+    )
 some_thing (shape forest) e =
     (trees none, record { well_formed = nothing; width_fits = tt; holed = refl })
 some_thing (shape grove) e =
     (trees none, record { well_formed = nothing; width_fits = tt; holed = refl })
-some_thing (context tree tree) e = (
-  trees (hole none),
-  (
-    record {
-      well_formed = only_hole;
-      width_fits = refl;
-      holed = record {
-        one = refl;
-        at_root = λ z.
-            refl;
-        below = λ z. refl;
-      };
-    },
-    tt,
-  ),
-)
-some_thing (context tree forest) e = (
-  trees (hole none),
-  (
-    record {
-      well_formed = only_hole;
-      width_fits = tt;
-      holed = record {
-        one = refl;
-        at_root = λ z.
-            refl;
-        below = λ z. refl;
-      };
-    },
-    tt,
-  ),
-)
-some_thing (context tree grove) e = (
-  trees (hole none),
-  (
-    record {
-      well_formed = only_hole;
-      width_fits = tt;
-      holed = record {
-        one = refl;
-        at_root = λ z.
-            refl;
-        below = λ z. refl;
-      };
-    },
-    tt,
-  ),
-)
-some_thing (context forest tree) e = (
-  trees (lone (hole none)),
-  (
-    record {
-      well_formed = lone_hole;
-      width_fits = refl;
-      holed = record {
-        one = refl;
-        at_root = λ z.
-            zero≢one z;
-        below = λ z. refl;
-      };
-    },
-    tt,
-  ),
-)
-some_thing (context forest forest) e = (
-  trees (hole none),
-  (
-    record {
-      well_formed = only_hole;
-      width_fits = tt;
-      holed = record {
-        one = refl;
-        at_root = λ z.
-            refl;
-        below = λ z. refl;
-      };
-    },
-    tt,
-  ),
-)
-some_thing (context forest grove) e = (
-  trees (lone (hole none)),
-  (
-    record {
-      well_formed = lone_hole;
-      width_fits = tt;
-      holed = record {
-        one = refl;
-        at_root = λ z.
-            zero≢one z;
-        below = λ z. refl;
-      };
-    },
-    refl,
-  ),
-)
-some_thing (context grove grove) e = (
-  trees (hole none),
-  (
-    record {
-      well_formed = only_hole;
-      width_fits = tt;
-      holed = record {
-        one = refl;
-        at_root = λ z.
-            refl;
-        below = λ z. one≢zero z;
-      };
-    },
-    tt,
-  ),
-)
+some_thing (context tree tree) e = here tree tree refl refl
+some_thing (context tree forest) e = here tree forest refl tt
+some_thing (context tree grove) e = here tree grove refl tt
+some_thing (context forest tree) e = inside tree refl tt
+some_thing (context forest forest) e = here forest forest refl tt
+some_thing (context forest grove) e = inside grove tt refl
+some_thing (context grove grove) e = here grove grove refl tt
 some_thing (context grove tree) e = absurd (false≢true e)
 some_thing (context grove forest) e = absurd (false≢true e)
 
@@ -200,6 +113,6 @@ fits-is_sort (context grove grove) x f = refl
 fits-is_sort (context grove tree) (val v) f = absurd f
 fits-is_sort (context grove forest) (val v) f = absurd f
 fits-is_sort (context grove tree) (trees r) f =
-    false≢true (f.0.holed.at_root (grove_root tree r f.0.holed))
+    false≢true (hole-root f.0.holed (grove_root tree r f.0.holed))
 fits-is_sort (context grove forest) (trees r) f =
-    false≢true (f.0.holed.at_root (grove_root forest r f.0.holed))
+    false≢true (hole-root f.0.holed (grove_root forest r f.0.holed))

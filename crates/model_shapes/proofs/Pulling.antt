@@ -6,7 +6,7 @@ use Rattle.model_shapes.specs.Sorts.{shape, context, DataSort, tree, forest, gro
 use Rattle.model_shapes.proofs.Basics.{beside-none, width-beside, root_uses-beside, fill-no_hole}
 use Rattle.model_shapes.proofs.Truth.{false≢true}
 use Rattle.model_shapes.proofs.Sameness.{SameGrove, tally_self}
-use Rattle.model_shapes.proofs.Shapes.{root_holes-le}
+use Rattle.model_shapes.proofs.Shapes.{root_holes-le, hole-root}
 use Rattle.model_shapes.proofs.Narrow.{narrow}
 use Rattle.model_shapes.proofs.Filling.{grove_hole}
 
@@ -182,7 +182,7 @@ pub pulled-same : (d : DataSort) (c g b : Trees) → Shaped (context d grove) c 
 pulled-same tree c g b wc wb h =
     sym (pulled c g b wc.holed.one (λ z. omega (arith, wb.width_fits)) h)
 pulled-same forest c g b wc wb h =
-    sym (pulled c g b wc.holed.one (λ z. absurd (false≢true (wc.holed.at_root z))) h)
+    sym (pulled c g b wc.holed.one (λ z. absurd (false≢true (hole-root wc.holed z))) h)
 pulled-same grove c g b wc wb h =
     λ u. sym
     (pulled-grove c g b wc.holed.one (omega (arith, grove_hole grove c wc.holed, wc.holed.one)) h u)

@@ -7,7 +7,7 @@ use Rattle.model_shapes.specs.Shapes.{HoleFirst, SameAt, Same, Shaped, holes}
 use Rattle.model_shapes.specs.Things.{trees, Fits}
 use Rattle.model_shapes.proofs.Basics.{holes-fill}
 use Rattle.model_shapes.proofs.Narrow.{narrow}
-use Rattle.model_shapes.proofs.Shapes.{Same-refl, same-Shaped, same-root_holes, root_holes-le}
+use Rattle.model_shapes.proofs.Shapes.{Same-refl, same-Shaped, same-root_holes, root_holes-le, hole-root}
 use Rattle.model_shapes.proofs.Truth.{false≢true}
 
 -- the same roots, with that of the hole first
@@ -71,7 +71,7 @@ first-fill h j (node s i k l r) b wa f wb fb =
 first-fill h tree (hole r) b wa f wb fb = first-beside b (fill r b) (one_first h b wb)
 first-fill h grove (hole r) b wa f wb fb = first-beside b (fill r b) fb.1
 first-fill h forest (hole r) b wa f wb fb =
-    false≢true (wa.holed.at_root (omega (arith, wa.holed.one, root_holes-le (hole r))))
+    false≢true (hole-root wa.holed (omega (arith, wa.holed.one, root_holes-le (hole r))))
 
 -- a hole and one root beside it, with the hole first, is one list of roots
 pub first-alone : (r t : Trees) → holes r ≡ 1 → HoleFirst r → width t ≤ 1

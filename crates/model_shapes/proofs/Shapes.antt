@@ -1,7 +1,7 @@
 -- Well-formedness of parts, of wholes and of same groves.
-use Rattle.std.proofs.Common.{◌≡◌, ℕ, ◌≤◌, ◌+◌, sym, refl, ap, arith, ◌∙◌, subst}
+use Rattle.std.proofs.Common.{◌≡◌, ℕ, zero, suc, ◌≤◌, ◌+◌, true, sym, refl, ap, arith, ◌∙◌, subst}
 use Rattle.model_shapes.specs.Trees.{Trees, none, node, hole, beside, width, node_uses, list_uses, WellFormed}
-use Rattle.model_shapes.specs.Shapes.{holes, root_holes, Same, SameAt, Shaped, HasWidth, HasHoles}
+use Rattle.model_shapes.specs.Shapes.{holes, root_holes, may_stand, around_hole, OneHole, Same, SameAt, Shaped, HasWidth, HasHoles}
 use Rattle.model_shapes.specs.Sorts.{Sort, value, shape, context, DataSort, tree, forest, grove, outer, giving}
 use Rattle.model_shapes.proofs.Basics.{holes-beside, root_holes-beside, width-beside, node_uses-beside, list_uses-beside, root_uses-beside}
 use Rattle.model_shapes.proofs.Sameness.{same-count}
@@ -82,15 +82,59 @@ same-WellFormed k a b h w = record {
   no_list_zero = omega (arith, w.no_list_zero, same-list_uses 0 k a b h);
 }
 
+-- a hole among the roots stands in the whole
+around-root : (k : DataSort) (r : Trees) → root_holes r ≡ 1 → around_hole k r ≡ k
+around-root k none z = absurd (omega (arith, z))
+around-root k (node s i c l r) z = around-root k r z
+around-root k (hole r) z = refl
+
+-- and one below them in a forest
+around-below : (k : DataSort) (r : Trees) → root_holes r ≡ 0 → around_hole k r ≡ forest
+around-below k none z = refl
+around-below k (node s i c l r) z = around-below k r z
+around-below k (hole r) z = absurd (omega (arith, z))
+
+-- a hole among the roots may stand in the whole
+pub hole-root : {h k : DataSort} {r : Trees} → OneHole h k r → root_holes r ≡ 1
+    → may_stand h k ≡ true
+hole-root {h} {k} {r} o z = subst (λ x. may_stand h x ≡ true) (around-root k r z) o.stands
+
+-- and one below them in a forest
+pub hole-below : {h k : DataSort} {r : Trees} → OneHole h k r → root_holes r ≡ 0
+    → may_stand h forest ≡ true
+hole-below {h} {k} {r} o z = subst (λ x. may_stand h x ≡ true) (around-below k r z) o.stands
+
+-- a hole among the roots is a hole
+pub root_holes-le : (a : Trees) → root_holes a ≤ holes a
+root_holes-le none = omega arith
+root_holes-le (node s i k l r) = omega (arith, root_holes-le r)
+root_holes-le (hole r) = omega (arith, root_holes-le r)
+
+-- one hole, by where it stands
+pub one-hole : (h k : DataSort) (r : Trees) → holes r ≡ 1 → (root_holes r ≡ 1 → may_stand h k ≡ true)
+    → (root_holes r ≡ 0 → may_stand h forest ≡ true) → OneHole h k r
+one-hole h k r o at_root below = at (root_holes r) refl
+  where
+    at : (n : ℕ) → root_holes r ≡ n → OneHole h k r
+    at zero e = record {
+      one = o;
+      stands = subst (λ x. may_stand h x ≡ true) (sym (around-below k r e)) (below e);
+    }
+    at (suc n) e =
+        let z : root_holes r ≡ 1 = omega (arith, o, e, root_holes-le r) in
+        record {
+          one = o;
+          stands = subst (λ x. may_stand h x ≡ true) (sym (around-root k r z)) (at_root z);
+        }
+
 -- the hole is as the sort asks
 same-Holed : (s : Sort) (a b : Trees) → Same s a b → HasHoles s a → HasHoles s b
 same-Holed (value v) a b h o = o
 same-Holed (shape k) a b h o = omega (arith, same-holes k a b h)
-same-Holed (context j k) a b h o = record {
-  one = omega (arith, o.one, same-holes k a b h);
-  at_root = λ z. o.at_root (omega (arith, same-root_holes k a b h));
-  below = λ z. o.below (omega (arith, same-root_holes k a b h));
-}
+same-Holed (context j k) a b h o =
+    one-hole j k b (omega (arith, o.one, same-holes k a b h))
+    (λ z. hole-root o (omega (arith, same-root_holes k a b h)))
+    (λ z. hole-below o (omega (arith, same-root_holes k a b h)))
 
 -- of the sort
 pub same-Shaped : (s : Sort) (a b : Trees) → Same s a b → Shaped s a → Shaped s b
@@ -133,17 +177,10 @@ left-Holed : (s : Sort) (a b : Trees) → holes b ≡ 0 → root_holes b ≡ 0 �
     → HasHoles s a
 left-Holed (value v) a b z y o = o
 left-Holed (shape k) a b z y o = omega (arith, holes-beside a b)
-left-Holed (context j k) a b z y o = record {
-  one = omega (arith, o.one, holes-beside a b);
-  at_root = λ x. o.at_root (omega (arith, root_holes-beside a b));
-  below = λ x. o.below (omega (arith, root_holes-beside a b));
-}
-
--- a hole among the roots is a hole
-pub root_holes-le : (a : Trees) → root_holes a ≤ holes a
-root_holes-le none = omega arith
-root_holes-le (node s i k l r) = omega (arith, root_holes-le r)
-root_holes-le (hole r) = omega (arith, root_holes-le r)
+left-Holed (context j k) a b z y o =
+    one-hole j k a (omega (arith, o.one, holes-beside a b))
+    (λ x. hole-root o (omega (arith, root_holes-beside a b)))
+    (λ x. hole-below o (omega (arith, root_holes-beside a b)))
 
 -- the list in front, with the hole if there is one
 pub left-Shaped : (s : Sort) (a b : Trees) → IsList (outer s) → holes b ≡ 0 → Shaped s (beside a b)

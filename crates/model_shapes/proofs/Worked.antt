@@ -33,10 +33,10 @@ composed = refl
 
 -- a context with a hole for a forest is one of forests, and none of trees or groves
 of_forests : OneHole forest forest after_a
-of_forests = record { one = refl; at_root = λ z. refl; below = λ z. refl }
+of_forests = record { one = refl; stands = refl }
 
 of_no_groves : OneHole forest grove after_a → ⊥
-of_no_groves o = false≢true (o.at_root refl)
+of_no_groves o = false≢true o.stands
 
 -- the order of the roots of a grove means nothing
 reordered : Reordered (leaf (codes "a") 1 (leaf (codes "b") 2 none))

@@ -29,11 +29,16 @@ HasWidth tree n = n ≡ 1
 HasWidth forest n = Unit
 HasWidth grove n = Unit
 
--- one hole, which may stand where it stands: among the roots, or in the forest of a node's children
+-- what the hole stands in: a hole among the roots in the whole, and one below them in a forest
+abbrev pub around_hole : DataSort → Trees → DataSort
+around_hole k none = forest
+around_hole k (node name number kids list rest) = around_hole k rest
+around_hole k (hole rest) = k
+
+-- one hole, which may stand where it stands
 pub record OneHole (h k : DataSort) (trees : Trees) : Type 0 where
   pub one : holes trees ≡ 1
-  pub at_root : root_holes trees ≡ 1 → may_stand h k ≡ true
-  pub below : root_holes trees ≡ 0 → may_stand h forest ≡ true
+  pub stands : may_stand h (around_hole k trees) ≡ true
 
 -- a shape has no hole, and a context has one
 abbrev pub HasHoles : Sort → Trees → Type 0
