@@ -61,9 +61,10 @@ module _ (name number list : Term) where
         by_number = met.1;
         by_list = met.2;
         is =
-            first-alone r (node s i none l none) f.0.holed.one f.1 (omega arith)
+            first-alone r (node s i none l none) f.0.holes_fit.one f.1 (omega arith)
             (λ t. b.2.0 t
-                ∙ ap (root_uses t) (λ j. beside (b.2.1 j) ((is ∙ ap (λ z. node s i z l none) met.3) j)));
+                ∙ ap (root_uses t)
+                (λ j. beside (b.2.1 j) ((is ∙ ap (λ z. node s i z l none) met.3) j)));
       })))
 
   -- so two are equal
@@ -104,7 +105,8 @@ beside-entailed x y name number list p sx sy is e pr r w m =
         let e' : Environment = setting y u (setting x v e) in
         things-one name number list e' (e' x) (e' y)
         (subst (λ s. Fits s (e' x)) sx
-        (set-fits y u (setting x v e) x fu (λ n. set-fits x v e x fv (λ other. absurd (other refl)))))
+        (set-fits y u (setting x v e) x fu
+        (λ n. set-fits x v e x fv (λ other. absurd (other refl)))))
         (subst (λ s. Fits s (e' y)) sy
         (set-fits y u (setting x v e) y fu (λ other. absurd (other refl))))
         (subst (λ q. IfTrees (e' x) (Meets q e' (context grove grove))) is m.0)

@@ -3,7 +3,7 @@
 use Rattle.std.proofs.Common.{◌≡◌, ℕ, sym, ap, arith, ◌∙◌, subst, inl, inr, ⊎_elim, pos, List}
 use Rattle.model_shapes.specs.Trees.{Trees, none, node, hole, beside, fill, width}
 use Rattle.model_shapes.specs.Shapes.{Same, SameAt, Shaped, HasWidth}
-use Rattle.model_shapes.specs.Sorts.{Sort, value, shape, context, DataSort, tree, outer, giving}
+use Rattle.model_shapes.specs.Sorts.{Sort, value, shape, context, DataSort, tree, outer, with_outer}
 use Rattle.model_shapes.specs.Things.{Thing, val, trees}
 use Rattle.model_shapes.specs.Values.{int}
 use Rattle.model_formulas.specs.Formulas.{Formula, truth, falsity, conjunction, disjunction, implication, negation, existential, universal, equality, at_most, empty, bare_hole, node_formula, one_tree, one_root, concatenation, grove_sum, grove_sum_hole, application, hole_adjoint, context_adjoint, same_as, length_is, value_meets, Side, whole, hole_left}
@@ -42,16 +42,16 @@ IfTrees-closed : (x : Thing) (P Q : Trees → Type 0) → ((r : Trees) → P r �
 IfTrees-closed (val v) P Q f m = absurd m
 IfTrees-closed (trees r) P Q f m = f r m
 
-one_width : (s : Sort) (n : ℕ) → HasWidth (outer (giving tree s)) n → n ≡ 1
+one_width : (s : Sort) (n : ℕ) → HasWidth (outer (with_outer tree s)) n → n ≡ 1
 one_width (value v) n h = h
 one_width (shape k) n h = h
 one_width (context j k) n h = h
 
 one_closed : (s : Sort) (a b : Trees) → Same s a b → (P : Trees → Type 0)
-    → Shaped (giving tree s) a × P a → Shaped (giving tree s) b × P b
+    → Shaped (with_outer tree s) a × P a → Shaped (with_outer tree s) b × P b
 one_closed s a b h P m =
     let w : width a ≡ 1 = one_width s (width a) m.0.width_fits in
-    subst (λ x. Shaped (giving tree s) x × P x) (narrow-at (outer s) a b (omega arith) h) m
+    subst (λ x. Shaped (with_outer tree s) x × P x) (narrow-at (outer s) a b (omega arith) h) m
 
 -- what meets a formula does so for all that is the same
 pub closed : (p : Formula) (e : Environment) (s : Sort) (a b : Trees) → Same s a b → Meets p e s a
@@ -72,8 +72,8 @@ closed (at_most x y) e s a b h m = m
 closed (empty k) e s a b h m = sym (narrow-at (outer s) a b (omega (arith, ap width m)) h) ∙ m
 closed (bare_hole k) e s a b h m = sym (narrow-at (outer s) a b (omega (arith, ap width m)) h) ∙ m
 closed (node_formula n i p l) e s a b h m = IfNode-closed (outer s) a b _ h m
-closed (one_tree p) e s a b h m = one_closed s a b h (λ x. Meets p e (giving tree s) x) m
-closed (one_root p) e s a b h m = one_closed s a b h (λ x. Meets p e (giving tree s) x) m
+closed (one_tree p) e s a b h m = one_closed s a b h (λ x. Meets p e (with_outer tree s) x) m
+closed (one_root p) e s a b h m = one_closed s a b h (λ x. Meets p e (with_outer tree s) x) m
 closed (concatenation side p q) e s a b h m = Splits-closed side s (Meets p e) (Meets q e) a b h m
 closed (grove_sum p q) e s a b h m = Splits-closed whole s (Meets p e) (Meets q e) a b h m
 closed (grove_sum_hole p q) e s a b h m = Splits-closed hole_left s (Meets p e) (Meets q e) a b h m
@@ -92,7 +92,7 @@ closed (hole_adjoint p q) e s a b h m = λ d wd md wf.
     (same-Shaped (shape (outer s)) (fill b d) (fill a d)
     (SameAt-sym (outer s) (fill a d) (fill b d) (fill-left (outer s) a b d h)) wf))
 closed (context_adjoint k p q) e s a b h m = λ c wc mc wf.
-    let same : SameAt k (fill c a) (fill c b) = fill-right (outer s) k c a b wc.holed h in
+    let same : SameAt k (fill c a) (fill c b) = fill-right (outer s) k c a b wc.holes_fit h in
     closed q e (shape k) (fill c a) (fill c b) same
     (m c wc mc
     (same-Shaped (shape k) (fill c b) (fill c a) (SameAt-sym k (fill c a) (fill c b) same) wf))

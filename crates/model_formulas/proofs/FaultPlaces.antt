@@ -4,7 +4,7 @@ use Rattle.std.proofs.Common.{◌≡◌, ℕ, suc, ◌+◌, ◌≤◌, ◌<◌, 
 use Rattle.std.specs.List.{position_from}
 use Rattle.std.specs.Option.{option_or}
 use Rattle.std.proofs.lemmas.Option.{same_Some, none-some}
-use Rattle.model_shapes.specs.Sorts.{Sort, shape, context, tree, forest, grove, outer, inner, giving}
+use Rattle.model_shapes.specs.Sorts.{Sort, shape, context, tree, forest, grove, outer, inner, with_outer}
 use Rattle.model_formulas.specs.Formulas.{Named, truth, falsity, conjunction, disjunction, implication, negation, existential, universal, equality, at_most, empty, bare_hole, node_formula, one_tree, one_root, concatenation, grove_sum, grove_sum_hole, application, hole_adjoint, context_adjoint, same_as, length_is, value_meets, left_sort, right_sort}
 use Rattle.model_formulas.specs.WellSorted.{flags, parts}
 
@@ -56,15 +56,15 @@ flags-parts (empty tree) s = refl
 flags-parts (empty forest) s = refl
 flags-parts (empty grove) s = refl
 flags-parts (bare_hole h) s = refl
-flags-parts (node_formula i b p l) s = one _ _ (flags-parts p (giving forest s))
-flags-parts (one_tree p) s = one _ _ (flags-parts p (giving tree s))
-flags-parts (one_root p) s = one _ _ (flags-parts p (giving tree s))
+flags-parts (node_formula i b p l) s = one _ _ (flags-parts p (with_outer forest s))
+flags-parts (one_tree p) s = one _ _ (flags-parts p (with_outer tree s))
+flags-parts (one_root p) s = one _ _ (flags-parts p (with_outer tree s))
 flags-parts (concatenation d p q) s =
     two _ _ _ _ (flags-parts p (left_sort d s)) (flags-parts q (right_sort d s))
 flags-parts (grove_sum p q) s = two _ _ _ _ (flags-parts p s) (flags-parts q s)
 flags-parts (grove_sum_hole p q) s = two _ _ _ _ (flags-parts p s) (flags-parts q (shape grove))
 flags-parts (application h p q) s =
-    two _ _ _ _ (flags-parts p (context h (outer s))) (flags-parts q (giving h s))
+    two _ _ _ _ (flags-parts p (context h (outer s))) (flags-parts q (with_outer h s))
 flags-parts (hole_adjoint p q) s =
     two _ _ _ _ (flags-parts p (shape (inner s))) (flags-parts q (shape (outer s)))
 flags-parts (context_adjoint k p q) s =

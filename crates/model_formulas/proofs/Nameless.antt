@@ -119,7 +119,8 @@ closed_form (length_is a) = length_is a
 closed_form (value_meets s a p) = value_meets s a (closed_form p)
 
 -- the walk below some binders is the nameless form with their names bound
-pub walked-names : (p : Named) (xs : List Var) → walked xs p ≡ formula_with (naming xs) (closed_form p)
+pub walked-names : (p : Named) (xs : List Var)
+    → walked xs p ≡ formula_with (naming xs) (closed_form p)
 walked-names truth xs = refl
 walked-names falsity xs = refl
 walked-names (conjunction p q) xs = λ j. conjunction (walked-names p xs j) (walked-names q xs j)

@@ -6,7 +6,7 @@ use Rattle.model_shapes.specs.Shapes.{SameAt, Shaped}
 use Rattle.model_shapes.specs.Values.{Value}
 use Rattle.model_shapes.specs.Sorts.{ValueSort, shape, context, DataSort, grove}
 use Rattle.model_formulas.specs.Formulas.{Formula}
-use Rattle.model_formulas.specs.Satisfaction.{Environment, Meets, SomeShape, joint}
+use Rattle.model_formulas.specs.Satisfaction.{Environment, Meets, SomeShape, with_store}
 use Rattle.model_shapes.proofs.Shapes.{SameAt-trans, same-Shaped}
 use Rattle.model_shapes.proofs.Filling.{fill-right}
 use Rattle.model_shapes.proofs.Pulling.{pull_root, pulled-same}
@@ -20,9 +20,9 @@ stable-part s f m = s (λ n. m (λ a. n (f a)))
 pub plain_end : (d : DataSort) (c : Trees) (q : Formula) (e : Environment) (st : List ℕ → ValueSort
     → Value) (g : Trees) → Shaped (context d grove) c
     → SomeShape (shape d) (λ b. Shaped (shape grove) (fill c b) × SameAt grove g (fill c b)
-    × Meets q (joint st e) (shape d) b)
+    × Meets q (with_store st e) (shape d) b)
     → (b : Trees) × Shaped (shape d) b × Shaped (shape grove) (fill c b)
-    × SameAt grove g (fill c b) × Meets q (joint st e) (shape d) b
+    × SameAt grove g (fill c b) × Meets q (with_store st e) (shape d) b
 plain_end d c q e st g wc m = (b, is-shaped, is-whole, is-same, meets)
   where
     b : Trees
@@ -36,7 +36,7 @@ plain_end d c q e st g wc m = (b, is-shaped, is-whole, is-same, meets)
     whole-same : (x : Trees) → Shaped (shape d) x → SameAt grove g (fill c x)
         → SameAt grove (fill c x) (fill c (pull_root c g))
     whole-same x wx h =
-        fill-right d grove c x (pull_root c g) wc.holed (pulled-same d c g x wc wx h)
+        fill-right d grove c x (pull_root c g) wc.holes_fit (pulled-same d c g x wc wx h)
 
     is-whole : Shaped (shape grove) (fill c (pull_root c g))
     is-whole =
@@ -50,7 +50,7 @@ plain_end d c q e st g wc m = (b, is-shaped, is-whole, is-same, meets)
         (λ x. SameAt-trans grove g (fill c x.0) (fill c (pull_root c g)) x.2.1
         (whole-same x.0 x.1 x.2.1)) m
 
-    meets : Meets q (joint st e) (shape d) (pull_root c g)
-    meets = stable-part (stable q (joint st e) (shape d) (pull_root c g))
-        (λ x. closed q (joint st e) (shape d) x.0 (pull_root c g)
+    meets : Meets q (with_store st e) (shape d) (pull_root c g)
+    meets = stable-part (stable q (with_store st e) (shape d) (pull_root c g))
+        (λ x. closed q (with_store st e) (shape d) x.0 (pull_root c g)
         (pulled-same d c g x.0 wc x.1 x.2.1) x.2.2) m

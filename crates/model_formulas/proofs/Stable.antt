@@ -3,7 +3,7 @@ use Rattle.std.proofs.Common.{◌≡◌, ℕ, ◌≤◌, Bool, List, IsTrue}
 use Rattle.std.proofs.Math.Decide.{ℕ_discrete, dec_le}
 use Rattle.std.proofs.Math.Bool.{Bool-discrete}
 use mathlib.Core.HLevel.{Stable, dec→stable}
-use Rattle.model_shapes.specs.Sorts.{Sort, value, shape, context, DataSort, tree, forest, grove, outer, giving}
+use Rattle.model_shapes.specs.Sorts.{Sort, value, shape, context, DataSort, tree, forest, grove, outer, with_outer}
 use Rattle.model_shapes.specs.Trees.{Trees, none, node, hole, width, root_uses, node_uses, list_uses, WellFormed, trees_eq}
 use Rattle.model_shapes.specs.Shapes.{OneHole, HasWidth, HasHoles, Shaped, SameAt}
 use Rattle.model_shapes.specs.Things.{Thing, val, trees, thing_eq}
@@ -83,7 +83,7 @@ pub stable-Shaped : {s : Sort} {r : Trees} → Stable (Shaped s r)
 stable-Shaped {s} {r} h = record {
   well_formed = stable-WellFormed (λ m. h (λ w. m w.well_formed));
   width_fits = stable-WidthOf (outer s) (width r) (λ m. h (λ w. m w.width_fits));
-  holed = stable-Holed s r (λ m. h (λ w. m w.holed));
+  holes_fit = stable-Holed s r (λ m. h (λ w. m w.holes_fit));
 }
 
 -- the same
@@ -126,10 +126,10 @@ stable (node_formula n i p l) e s r =
       stable-thing (λ m. h (λ w. m w.0)),
       stable-thing (λ m. h (λ w. m w.1)),
       stable-thing (λ m. h (λ w. m w.2)),
-      stable p e (giving forest s) kids (λ m. h (λ w. m w.3)),
+      stable p e (with_outer forest s) kids (λ m. h (λ w. m w.3)),
     ))
-stable (one_tree p) e s r = stable-pair stable-Shaped (stable p e (giving tree s) r)
-stable (one_root p) e s r = stable-pair stable-Shaped (stable p e (giving tree s) r)
+stable (one_tree p) e s r = stable-pair stable-Shaped (stable p e (with_outer tree s) r)
+stable (one_root p) e s r = stable-pair stable-Shaped (stable p e (with_outer tree s) r)
 stable (concatenation side p q) e s r = stable-not
 stable (grove_sum p q) e s r = stable-not
 stable (grove_sum_hole k q) e s r = stable-not

@@ -2,7 +2,7 @@
 use Rattle.std.proofs.Common.{◌≡◌, ◌⊎◌, zero, suc, sym, refl, ap, ◌∙◌, subst, inl, inr, ◌+ℤ◌, ◌-ℤ◌, ◌++◌, IsTrue, int_le}
 use mathlib.Core.Path.{fun_ext}
 use Rattle.model_shapes.specs.Trees.{Trees, fill, width}
-use Rattle.model_shapes.specs.Sorts.{Sort, shape, context, tree, forest, outer, inner, giving}
+use Rattle.model_shapes.specs.Sorts.{Sort, shape, context, tree, forest, outer, inner, with_outer}
 use Rattle.model_shapes.specs.Shapes.{Same, Shaped}
 use Rattle.model_shapes.specs.Things.{Thing, val}
 use Rattle.model_shapes.specs.Values.{int, str, node_number, list_number}
@@ -79,20 +79,20 @@ with-meets (bare_hole h) f e = refl
 with-meets (node_formula n i p l) f e = λ j s r.
     IfNode r (λ name number kids list.
     (val (str name) ≡ term-with f e n j) × (val (node_number number) ≡ term-with f e i j)
-    × (val (list_number list) ≡ term-with f e l j) × with-meets p f e j (giving forest s) kids)
-with-meets (one_tree p) f e = λ i s r. Shaped (giving tree s) r
-    × with-meets p f e i (giving tree s) r
-with-meets (one_root p) f e = λ i s r. Shaped (giving tree s) r
-    × with-meets p f e i (giving tree s) r
+    × (val (list_number list) ≡ term-with f e l j) × with-meets p f e j (with_outer forest s) kids)
+with-meets (one_tree p) f e = λ i s r. Shaped (with_outer tree s) r
+    × with-meets p f e i (with_outer tree s) r
+with-meets (one_root p) f e = λ i s r. Shaped (with_outer tree s) r
+    × with-meets p f e i (with_outer tree s) r
 with-meets (concatenation side p q) f e =
     λ i s r. Splits side s r (with-meets p f e i) (with-meets q f e i)
 with-meets (grove_sum p q) f e = λ i s r. Splits whole s r (with-meets p f e i) (with-meets q f e i)
 with-meets (grove_sum_hole p q) f e =
     λ i s r. Splits hole_left s r (with-meets p f e i) (with-meets q f e i)
 with-meets (application h k p) f e = λ i s r.
-    SomeShape (context h (outer s)) λ c. SomeShape (giving h s) λ d.
+    SomeShape (context h (outer s)) λ c. SomeShape (with_outer h s) λ d.
     Same s r (fill c d) × with-meets k f e i (context h (outer s)) c
-    × with-meets p f e i (giving h s) d
+    × with-meets p f e i (with_outer h s) d
 with-meets (hole_adjoint p q) f e = λ i s r.
     EachShape (shape (inner s)) λ d. with-meets p f e i (shape (inner s)) d
     → Shaped (shape (outer s)) (fill r d)
@@ -165,9 +165,11 @@ agrees (node_formula n i p l) e e' h = λ j s r.
     (val (str name) ≡ term-agrees n e e' (λ x m. h x (inl m)) j)
     × (val (node_number number) ≡ term-agrees i e e' (λ x m. h x (inr (inl m))) j)
     × (val (list_number list) ≡ term-agrees l e e' (λ x m. h x (inr (inr (inr m)))) j)
-    × agrees p e e' (λ x m. h x (inr (inr (inl m)))) j (giving forest s) kids)
-agrees (one_tree p) e e' h = λ i s r. Shaped (giving tree s) r × agrees p e e' h i (giving tree s) r
-agrees (one_root p) e e' h = λ i s r. Shaped (giving tree s) r × agrees p e e' h i (giving tree s) r
+    × agrees p e e' (λ x m. h x (inr (inr (inl m)))) j (with_outer forest s) kids)
+agrees (one_tree p) e e' h =
+    λ i s r. Shaped (with_outer tree s) r × agrees p e e' h i (with_outer tree s) r
+agrees (one_root p) e e' h =
+    λ i s r. Shaped (with_outer tree s) r × agrees p e e' h i (with_outer tree s) r
 agrees (concatenation side p q) e e' h =
     λ i s r. Splits side s r (agrees p e e' (λ x m. h x (inl m)) i)
     (agrees q e e' (λ x m. h x (inr m)) i)
@@ -178,9 +180,9 @@ agrees (grove_sum_hole p q) e e' h =
     λ i s r. Splits hole_left s r (agrees p e e' (λ x m. h x (inl m)) i)
     (agrees q e e' (λ x m. h x (inr m)) i)
 agrees (application u k p) e e' h = λ i s r.
-    SomeShape (context u (outer s)) λ c. SomeShape (giving u s) λ d.
+    SomeShape (context u (outer s)) λ c. SomeShape (with_outer u s) λ d.
     Same s r (fill c d) × agrees k e e' (λ x m. h x (inl m)) i (context u (outer s)) c
-    × agrees p e e' (λ x m. h x (inr m)) i (giving u s) d
+    × agrees p e e' (λ x m. h x (inr m)) i (with_outer u s) d
 agrees (hole_adjoint p q) e e' h = λ i s r.
     EachShape (shape (inner s)) λ d. agrees p e e' (λ x m. h x (inl m)) i (shape (inner s)) d
     → Shaped (shape (outer s)) (fill r d)

@@ -1,6 +1,6 @@
 -- The nameless form of a formula, by a walk with the variables of the binders passed, the nearest
--- first. Two formulas are the same where their nameless forms are equal: that is, where they are equal
--- up to the names of bound variables.
+-- first. Two formulas are the same where their nameless forms are equal: that is, where they are
+-- equal up to the names of bound variables.
 use Rattle.std.specs.Prelude.{◌≡◌, zero, List, [], ◌∷◌}
 use Rattle.model_formulas.specs.Variables.{Var, bound, var_sort}
 use Rattle.model_formulas.specs.Terms.{variable, raised_var, Substitution, term_with, var_eq}

@@ -1,8 +1,8 @@
 -- Which shapes and contexts meet a formula, and entailment: the satisfaction of POPL 2005 over the
 -- trees, forests and groves of PODS 2008, read classically.
-use Rattle.std.specs.Prelude.{◌≡◌, ◌⊎◌, ℕ, zero, suc, ◌++◌, [], ℤ, pos, ◌+ℤ◌, ◌-ℤ◌, int_le, true, List, IsTrue}
-use Rattle.model_shapes.specs.Sorts.{Sort, value, shape, context, ValueSort, tree, forest, outer, inner, giving, is_sort}
-use Rattle.model_shapes.specs.Values.{Value, node_number, list_number, int, str}
+use Rattle.std.specs.Prelude.{◌≡◌, ◌⊎◌, ℕ, zero, suc, ◌++◌, [], ℤ, pos, ◌+ℤ◌, ◌-ℤ◌, int_le, true, IsTrue}
+use Rattle.model_shapes.specs.Sorts.{Sort, value, shape, context, ValueSort, tree, forest, outer, inner, with_outer, is_sort}
+use Rattle.model_shapes.specs.Values.{Name, Text, Value, node_number, list_number, int, str}
 use Rattle.model_shapes.specs.Trees.{Trees, none, node, hole, beside, fill, width}
 use Rattle.model_shapes.specs.Shapes.{Shaped, Same}
 use Rattle.model_shapes.specs.Things.{Thing, val, trees, Fits}
@@ -23,10 +23,10 @@ choosing chosen e (bound zero s) = chosen
 choosing chosen e (bound (suc i) s) = e (bound i s)
 
 -- the environment with the values of a store for its program variables
-abbrev pub joint : (List ℕ → ValueSort → Value) → Environment → Environment
-joint store e (prog name s) = val (store name s)
-joint store e (logic name s) = e (logic name s)
-joint store e (bound i s) = e (bound i s)
+abbrev pub with_store : (Name → ValueSort → Value) → Environment → Environment
+with_store store e (prog name s) = val (store name s)
+with_store store e (logic name s) = e (logic name s)
+with_store store e (bound i s) = e (bound i s)
 
 -- the integer that a thing is, and 0 where it is none
 abbrev pub number_of : Thing → ℤ
@@ -34,7 +34,7 @@ number_of (val (int z)) = z
 number_of x = pos 0
 
 -- the text that a thing is, and the empty text where it is none
-abbrev pub text_of : Thing → List ℕ
+abbrev pub text_of : Thing → Text
 text_of (val (str s)) = s
 text_of x = []
 
@@ -68,7 +68,7 @@ abbrev pub EachShape : Sort → (Trees → Type 0) → Type 0
 EachShape s P = (r : Trees) → Shaped s r → P r
 
 -- one node with nothing beside it
-abbrev pub IfNode : Trees → (List ℕ → ℕ → Trees → ℕ → Type 0) → Type 0
+abbrev pub IfNode : Trees → (Name → ℕ → Trees → ℕ → Type 0) → Type 0
 IfNode (node name number kids list none) P = P name number kids list
 IfNode r P = ⊥
 
@@ -103,15 +103,15 @@ Meets (bare_hole h) e s r = r ≡ hole none
 Meets (node_formula name number p list) e s r =
     IfNode r (λ called n kids l.
     (val (str called) ≡ meaning_of e name) × (val (node_number n) ≡ meaning_of e number)
-    × (val (list_number l) ≡ meaning_of e list) × Meets p e (giving forest s) kids)
-Meets (one_tree p) e s r = Shaped (giving tree s) r × Meets p e (giving tree s) r
-Meets (one_root p) e s r = Shaped (giving tree s) r × Meets p e (giving tree s) r
+    × (val (list_number l) ≡ meaning_of e list) × Meets p e (with_outer forest s) kids)
+Meets (one_tree p) e s r = Shaped (with_outer tree s) r × Meets p e (with_outer tree s) r
+Meets (one_root p) e s r = Shaped (with_outer tree s) r × Meets p e (with_outer tree s) r
 Meets (concatenation side p q) e s r = Splits side s r (Meets p e) (Meets q e)
 Meets (grove_sum p q) e s r = Splits whole s r (Meets p e) (Meets q e)
 Meets (grove_sum_hole p q) e s r = Splits hole_left s r (Meets p e) (Meets q e)
 Meets (application h k p) e s r =
-    SomeShape (context h (outer s)) λ c. SomeShape (giving h s) λ d.
-    Same s r (fill c d) × Meets k e (context h (outer s)) c × Meets p e (giving h s) d
+    SomeShape (context h (outer s)) λ c. SomeShape (with_outer h s) λ d.
+    Same s r (fill c d) × Meets k e (context h (outer s)) c × Meets p e (with_outer h s) d
 Meets (hole_adjoint p q) e s r =
     EachShape (shape (inner s)) λ d. Meets p e (shape (inner s)) d
     → Shaped (shape (outer s)) (fill r d) → Meets q e (shape (outer s)) (fill r d)
@@ -125,9 +125,9 @@ Meets (value_meets u a p) e s r = IfTrees (meaning_of e a) (λ t. Meets p e u t)
 -- each variable that has a name stands for a thing of its sort
 pub record Proper (e : Environment) : Type 0 where
   -- program variables
-  pub programs : (name : List ℕ) (s : ValueSort) → Fits (value s) (e (prog name s))
+  pub programs : (name : Name) (s : ValueSort) → Fits (value s) (e (prog name s))
   -- logic variables, at the sorts that are sorts
-  pub logics : (name : List ℕ) (s : Sort) → is_sort s ≡ true → Fits s (e (logic name s))
+  pub logics : (name : Name) (s : Sort) → is_sort s ≡ true → Fits s (e (logic name s))
 
 -- whatever well-formed shape or context of the sort meets the first meets the second
 abbrev pub Entails : Formula → Formula → Sort → Type 0

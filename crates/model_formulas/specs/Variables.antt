@@ -1,13 +1,14 @@
 -- Variables of programs, of the logic, and bound ones: names as in PODS 2008, here with sorts.
 -- A variable is its name and its sort, so one name at two sorts is two variables.
-use Rattle.std.specs.Prelude.{ℕ, Bool, false, ◌&&◌, ◌==◌, List, bytes_eq}
+use Rattle.std.specs.Prelude.{ℕ, Bool, false, ◌&&◌, ◌==◌, bytes_eq}
 use Rattle.model_shapes.specs.Sorts.{Sort, value, ValueSort, same_value_sort, same_sort}
+use Rattle.model_shapes.specs.Values.{Name}
 
 -- A program variable, a logic variable, or a bound one with the number of binders between it and
 -- its binder.
 pub data Var : Type 0 where
-  prog : List ℕ → ValueSort → Var
-  logic : List ℕ → Sort → Var
+  prog : Name → ValueSort → Var
+  logic : Name → Sort → Var
   bound : ℕ → Sort → Var
 
 -- the sort of a variable

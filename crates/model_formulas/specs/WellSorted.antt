@@ -2,7 +2,7 @@
 -- Parts are formulas, counted from 0, a formula before its parts; a term at fault is its formula's.
 use Rattle.std.specs.Prelude.{ℕ, ◌+◌, Bool, true, false, ◌&&◌, ◌||◌, not, Option, List, [], ◌∷◌, ◌++◌}
 use Rattle.std.specs.List.{position_from}
-use Rattle.model_shapes.specs.Sorts.{Sort, value, shape, context, ValueSort, node_sort, list_sort, int_sort, str_sort, bool_sort, DataSort, tree, forest, grove, is_sort, outer, inner, giving, same_value_sort, same_data_sort, same_sort}
+use Rattle.model_shapes.specs.Sorts.{Sort, value, shape, context, ValueSort, node_sort, list_sort, int_sort, str_sort, bool_sort, DataSort, tree, forest, grove, is_sort, outer, inner, with_outer, same_value_sort, same_data_sort, same_sort}
 use Rattle.model_shapes.specs.Values.{Value, node_number, list_number, value_sort}
 use Rattle.model_formulas.specs.Variables.{Var, prog, logic, bound}
 use Rattle.model_formulas.specs.Terms.{Term, literal, variable, sum, difference, appended}
@@ -38,15 +38,15 @@ is_form (shape k) = true
 is_form (context h k) = is_sort (context h k)
 
 -- two logic variables of one data or context sort
-abbrev pub alike : Term → Term → Bool
-alike (variable (logic x s)) (variable (logic y u)) = is_form s && same_sort s u
-alike a b = false
+abbrev pub both_logic_of_one_sort : Term → Term → Bool
+both_logic_of_one_sort (variable (logic x s)) (variable (logic y u)) = is_form s && same_sort s u
+both_logic_of_one_sort a b = false
 
 -- two terms of one sort
 abbrev pub one_sort : Term → Term → Bool
 one_sort a b =
     both_have node_sort a b || (both_have list_sort a b || (both_have int_sort a b
-    || (both_have str_sort a b || (both_have bool_sort a b || alike a b))))
+    || (both_have str_sort a b || (both_have bool_sort a b || both_logic_of_one_sort a b))))
 
 -- a data sort
 abbrev pub is_shape : Sort → Bool
@@ -58,9 +58,9 @@ abbrev pub is_context : Sort → Bool
 is_context (context h k) = true
 is_context s = false
 
--- the sort gives this data sort
-abbrev pub gives : Sort → DataSort → Bool
-gives s k = is_form s && same_data_sort (outer s) k
+-- a sort of formulas that gives this data sort
+abbrev pub has_outer : Sort → DataSort → Bool
+has_outer s k = is_form s && same_data_sort (outer s) k
 
 -- a concatenation of this side stands at the sort
 abbrev pub side_fits : Side → Sort → Bool
@@ -95,18 +95,21 @@ flags (empty tree) s = false ∷ []
 flags (empty k) s = same_sort s (shape k) ∷ []
 flags (bare_hole h) s = same_sort s (context h h) ∷ []
 flags (node_formula name number p list) s =
-    (gives s tree && (is_sort (giving forest s) && (has_sort str_sort name
-    && (has_sort node_sort number && has_sort list_sort list)))) ∷ flags p (giving forest s)
-flags (one_tree p) s = (gives s forest && is_sort (giving tree s)) ∷ flags p (giving tree s)
-flags (one_root p) s = (gives s grove && is_sort (giving tree s)) ∷ flags p (giving tree s)
+    (has_outer s tree && (is_sort (with_outer forest s) && (has_sort str_sort name
+    && (has_sort node_sort number && has_sort list_sort list)))) ∷ flags p (with_outer forest s)
+flags (one_tree p) s =
+    (has_outer s forest && is_sort (with_outer tree s)) ∷ flags p (with_outer tree s)
+flags (one_root p) s =
+    (has_outer s grove && is_sort (with_outer tree s)) ∷ flags p (with_outer tree s)
 flags (concatenation side p q) s =
-    (gives s forest && side_fits side s) ∷ flags p (left_sort side s) ++ flags q (right_sort side s)
+    (has_outer s forest && side_fits side s)
+    ∷ flags p (left_sort side s) ++ flags q (right_sort side s)
 flags (grove_sum p q) s = same_sort s (shape grove) ∷ flags p s ++ flags q s
 flags (grove_sum_hole p q) s =
-    (gives s grove && is_context s) ∷ flags p s ++ flags q (shape grove)
+    (has_outer s grove && is_context s) ∷ flags p s ++ flags q (shape grove)
 flags (application h p q) s =
-    (is_form s && (is_sort (context h (outer s)) && is_sort (giving h s)))
-    ∷ flags p (context h (outer s)) ++ flags q (giving h s)
+    (is_form s && (is_sort (context h (outer s)) && is_sort (with_outer h s)))
+    ∷ flags p (context h (outer s)) ++ flags q (with_outer h s)
 flags (hole_adjoint p q) s =
     (is_form s && is_context s) ∷ flags p (shape (inner s)) ++ flags q (shape (outer s))
 flags (context_adjoint k p q) s =

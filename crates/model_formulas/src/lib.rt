@@ -96,8 +96,8 @@ pub fn truth_does_not_entail_falsity()
     ensures { (s : Sort) → is_form s ≡ true → Entails truth falsity s → ⊥ }
 {}
 
-/// The hole of a context that gives a grove has no place among the roots: where two variables stand for
-/// a hole beside one root with nothing below it, they stand for one thing.
+/// The hole of a context that gives a grove has no place among the roots: where two variables stand
+/// for a hole beside one root with nothing below it, they stand for one thing.
 pub fn a_hole_has_no_place_among_roots()
     ensures { (x y : Var) (name number list : Term) (p : Formula)
         → var_sort x ≡ context grove grove → var_sort y ≡ context grove grove
@@ -109,8 +109,8 @@ pub fn a_hole_has_no_place_among_roots()
         (equality (variable x) (variable y))))) (shape grove) }
 {}
 
-/// A pure formula says the same at every sort and of every shape and context. An `is` is one, whatever
-/// its part says: it speaks of its variable's value.
+/// A pure formula says the same at every sort and of every shape and context. An `is` is one,
+/// whatever its part says: it speaks of its variable's value.
 pub fn pure_formulas_ignore_the_shape()
     ensures { (p : Formula) → is_pure p ≡ true → (e : Environment) (s t : Sort) (r w : Trees)
         → Meets p e s r → Meets p e t w }

@@ -7,7 +7,7 @@ use Rattle.model_shapes.specs.Sorts.{context, DataSort, tree, forest, grove}
 use Rattle.model_shapes.specs.Contexts.{TreeContext, tree_hole, around_node, ForestContext, between, ForestInner, forest_hole, one_context, GroveContext, grove_hole, root_context, tree_thing, forest_thing, inner_thing, grove_thing, tree_hole_sort, forest_hole_sort, inner_hole_sort, grove_hole_sort, TreeBare, ForestBare, InnerBare, GroveBare, SameContext}
 use Rattle.model_shapes.proofs.Truth.{false≢true}
 use Rattle.model_shapes.proofs.Basics.{holes-beside, root_holes-beside, root_uses-beside, fill-beside, fill-no_hole}
-use Rattle.model_shapes.proofs.Sameness.{SameGrove, picked, tally_self}
+use Rattle.model_shapes.proofs.Sameness.{SameGrove, picked, one_if_self}
 use Rattle.model_shapes.proofs.Shapes.{root_holes-le, hole-root, hole-below, one-hole}
 use Rattle.model_shapes.proofs.Narrow.{alone}
 use Rattle.model_shapes.proofs.Cancelling.{node-kids, node-rest, node-head}
@@ -57,12 +57,12 @@ pub tree-plain : (c : TreeContext) → TreeBare c → WellFormed (tree_thing c)
 tree-plain tree_hole b w = record {
   well_formed = w;
   width_fits = refl;
-  holed = record { one = refl; stands = refl };
+  holes_fit = record { one = refl; stands = refl };
 }
 tree-plain (around_node s i f l) b w = record {
   well_formed = w;
   width_fits = refl;
-  holed = record { one = tree-holes (around_node s i f l) b; stands = forest-stands f };
+  holes_fit = record { one = tree-holes (around_node s i f l) b; stands = forest-stands f };
 }
 
 -- a forest context is a plain one
@@ -71,7 +71,7 @@ pub forest-plain : (c : ForestContext) → ForestBare c → WellFormed (forest_t
 forest-plain c b w = record {
   well_formed = w;
   width_fits = tt;
-  holed =
+  holes_fit =
       one-hole _ _ _ (forest-holes c b) (λ z. forest-stands c) (λ z. forest-stands c);
 }
 
@@ -86,12 +86,12 @@ pub grove-plain : (c : GroveContext) → GroveBare c → WellFormed (grove_thing
 grove-plain (grove_hole r) b w = record {
   well_formed = w;
   width_fits = tt;
-  holed = record { one = omega (arith, b); stands = refl };
+  holes_fit = record { one = omega (arith, b); stands = refl };
 }
 grove-plain (root_context c r) b w = record {
   well_formed = w;
   width_fits = tt;
-  holed =
+  holes_fit =
       one-hole _ _ _ (omega (arith, holes-beside (tree_thing c) r, tree-holes c b.0, b.1))
       (λ z. tree-in_grove c r b.1 z) (λ z. tree-stands c);
 }
@@ -139,17 +139,17 @@ in_forest h (node s i k l r) e o = go (holes k) refl (in_forest h k e) (in_fores
 
 -- a plain forest context comes from a forest context
 pub from_forest : (h : DataSort) (r : Trees) → Shaped (context h forest) r → InForest h r
-from_forest h r w = in_forest h r (stands (root_holes r) refl) w.holed.one
+from_forest h r w = in_forest h r (stands (root_holes r) refl) w.holes_fit.one
   where
     stands : (n : ℕ) → root_holes r ≡ n → may_stand h forest ≡ true
-    stands zero e = hole-below w.holed e
-    stands (suc n) e = hole-root w.holed (omega (arith, e, w.holed.one, root_holes-le r))
+    stands zero e = hole-below w.holes_fit e
+    stands (suc n) e = hole-root w.holes_fit (omega (arith, e, w.holes_fit.one, root_holes-le r))
 
 -- a plain tree context comes from a tree context
 pub in_tree : (h : DataSort) (r : Trees) → Shaped (context h tree) r
     → (c : TreeContext) × (tree_thing c ≡ r) × (tree_hole_sort c ≡ h) × TreeBare c
 in_tree h none w = absurd (omega (arith, w.width_fits))
-in_tree h (hole none) w = go h w.holed.stands
+in_tree h (hole none) w = go h w.holes_fit.stands
   where
     go : (h : DataSort) → may_stand h tree ≡ true
         → (c : TreeContext) × (tree_thing c ≡ hole none) × (tree_hole_sort c ≡ h) × TreeBare c
@@ -159,7 +159,7 @@ in_tree h (hole none) w = go h w.holed.stands
 in_tree h (hole (node s i k l r)) w = absurd (omega (arith, w.width_fits))
 in_tree h (hole (hole r)) w = absurd (omega (arith, w.width_fits))
 in_tree h (node s i k l none) w =
-    let c : InForest h k = in_forest h k w.holed.stands (omega (arith, w.holed.one)) in
+    let c : InForest h k = in_forest h k w.holes_fit.stands (omega (arith, w.holes_fit.one)) in
     (around_node s i c.0 l, ap (λ z. node s i z l none) c.1, c.2, c.3)
 in_tree h (node s i k l (hole r)) w = absurd (omega (arith, w.width_fits))
 in_tree h (node s i k l (node s' i' k' l' r)) w = absurd (omega (arith, w.width_fits))
@@ -276,8 +276,8 @@ grove_from h r a t b o m e za zb = absurd m
 -- a plain grove context comes from a grove context, up to the order of roots
 pub in_grove : (h : DataSort) (r : Trees) → Shaped (context h grove) r → InGrove h r
 in_grove h r w =
-    let m : Marking r = marking r w.holed.one in
-    grove_from h r m.before m.root m.after w.holed m.marked m.is m.none_before m.none_after
+    let m : Marking r = marking r w.holes_fit.one in
+    grove_from h r m.before m.root m.after w.holes_fit m.marked m.is m.none_before m.none_after
 
 -- AND FROM ONE ONLY
 -- the root with the hole is found in one way
@@ -408,8 +408,8 @@ same-root t t' r r' w w' o z same self = go (root_uses t r') refl
         alone t x.0 x.1 t' w x.2 w'
 
 marked-self : (t : Trees) → Marked t → root_uses t t ≡ 1
-marked-self (hole none) m = omega (arith, tally_self (hole none))
-marked-self (node s i k l none) m = omega (arith, tally_self (node s i k l none))
+marked-self (hole none) m = omega (arith, one_if_self (hole none))
+marked-self (node s i k l none) m = omega (arith, one_if_self (node s i k l none))
 marked-self t m = absurd m
 
 -- grove contexts with holes of one sort are the same exactly where their plain ones are

@@ -1,6 +1,6 @@
 -- What stands in a context is determined up to sameness by the whole.
 use Rattle.std.proofs.Common.{◌≡◌, ℕ, zero, suc, ◌≤◌, ◌*◌, sym, refl, ap, arith, ◌∙◌, List}
-use Rattle.model_shapes.specs.Trees.{Trees, none, node, hole, beside, fill, width, root_uses, tally, trees_eq}
+use Rattle.model_shapes.specs.Trees.{Trees, none, node, hole, beside, fill, width, root_uses, one_if, trees_eq}
 use Rattle.model_shapes.specs.Shapes.{holes, root_holes, SameAt, OneHole, HasWidth}
 use Rattle.model_shapes.specs.Sorts.{DataSort, tree, forest, grove}
 use Rattle.model_shapes.proofs.Basics.{width-beside, root_uses-beside, fill-no_hole}
@@ -86,8 +86,8 @@ fill-cancel-grove (node s i k l r) a b o one e = go (holes k) refl (fill-cancel-
     go zero z rec = rec (omega arith) one (λ t. omega (
       arith,
       e t,
-      ap (λ x. tally (trees_eq t (node s i x l none))) (fill-no_hole k a z),
-      ap (λ x. tally (trees_eq t (node s i x l none))) (fill-no_hole k b z),
+      ap (λ x. one_if (trees_eq t (node s i x l none))) (fill-no_hole k a z),
+      ap (λ x. one_if (trees_eq t (node s i x l none))) (fill-no_hole k b z),
     ))
     go (suc n) z rec =
         let y : holes r ≡ 0 = omega arith in

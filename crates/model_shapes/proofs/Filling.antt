@@ -1,9 +1,9 @@
 -- Filling keeps sameness, and gives something well formed of the right sort.
 -- A hole for a grove stands among the roots, and nowhere else.
 use Rattle.std.proofs.Common.{◌≡◌, ℕ, zero, suc, ◌*◌, ◌+◌, sym, refl, ap, arith, ◌∙◌, subst, true, false}
-use Rattle.model_shapes.specs.Trees.{Trees, none, node, hole, beside, fill, width, root_uses, node_uses, list_uses, tally, trees_eq, WellFormed}
+use Rattle.model_shapes.specs.Trees.{Trees, none, node, hole, beside, fill, width, root_uses, node_uses, list_uses, one_if, trees_eq, WellFormed}
 use Rattle.model_shapes.specs.Shapes.{holes, root_holes, SameAt, Shaped, OneHole, HasWidth, may_stand}
-use Rattle.model_shapes.specs.Sorts.{Sort, value, shape, context, giving, DataSort, tree, forest, grove}
+use Rattle.model_shapes.specs.Sorts.{Sort, value, shape, context, with_outer, DataSort, tree, forest, grove}
 use Rattle.model_shapes.proofs.Basics.{root_uses-beside, fill-beside, fill-no_hole, holes-fill, root_holes-fill, width-fill, fill-fill, node_uses-fill, list_uses-fill}
 use Rattle.model_shapes.proofs.Truth.{false≢true}
 use Rattle.model_shapes.proofs.Sameness.{same-count}
@@ -30,7 +30,7 @@ swap_in t (node s i k l r) d d' h =
     omega (
       arith,
       swap_in t r d d' (omega (arith, root_holes-le r)),
-      ap (λ x. tally (trees_eq t (node s i x l none))) e,
+      ap (λ x. one_if (trees_eq t (node s i x l none))) e,
     )
 swap_in t (hole r) d d' h =
     omega (
@@ -93,8 +93,8 @@ pub put-Shaped : (h k : DataSort) (c d : Trees) → Shaped (context h k) c → S
     → WellFormed (fill c d) → Shaped (shape k) (fill c d)
 put-Shaped h k c d wc wd wf = record {
   well_formed = wf;
-  width_fits = fill-width h k c d wc.holed wc.width_fits wd.width_fits;
-  holed = omega (arith, holes-fill c d, ap (λ n. holes c * n) wd.holed);
+  width_fits = fill-width h k c d wc.holes_fit wc.width_fits wd.width_fits;
+  holes_fit = omega (arith, holes-fill c d, ap (λ n. holes c * n) wd.holes_fit);
 }
 
 -- the parts of what is well formed are well formed
@@ -147,7 +147,8 @@ compose-OneHole h j l c k oc ok =
         → may_stand h forest ≡ true
     below z n e zero f = hole-below ok f
     below z zero e (suc m) f =
-        stand-trans h j forest (hole-root ok (omega (arith, ok.one, root_holes-le k))) (hole-below oc e)
+        stand-trans h j forest (hole-root ok (omega (arith, ok.one, root_holes-le k)))
+        (hole-below oc e)
     below z (suc n) e (suc m) f =
         let y : root_holes c ≡ 1 = omega (arith, oc.one, root_holes-le c) in
         absurd (omega (arith, z, f, root_holes-fill c k, ap (λ n. n * root_holes k) y))
@@ -157,14 +158,14 @@ pub compose-Shaped : (h j l : DataSort) (c k : Trees) → Shaped (context j l) c
     → Shaped (context h j) k → WellFormed (fill c k) → Shaped (context h l) (fill c k)
 compose-Shaped h j l c k wc wk wf = record {
   well_formed = wf;
-  width_fits = fill-width j l c k wc.holed wc.width_fits wk.width_fits;
-  holed = compose-OneHole h j l c k wc.holed wk.holed;
+  width_fits = fill-width j l c k wc.holes_fit wc.width_fits wk.width_fits;
+  holes_fit = compose-OneHole h j l c k wc.holes_fit wk.holes_fit;
 }
 
 -- a piece of either kind, in a context
 pub fill-Shaped : (h k : DataSort) (s : Sort) (c d : Trees) → Shaped (context h k) c
-    → Shaped (giving h s) d → WellFormed (fill c d) → Shaped (giving k s) (fill c d)
-fill-Shaped h k (value v) c d wc wd wf = absurd wd.holed
+    → Shaped (with_outer h s) d → WellFormed (fill c d) → Shaped (with_outer k s) (fill c d)
+fill-Shaped h k (value v) c d wc wd wf = absurd wd.holes_fit
 fill-Shaped h k (shape j) c d wc wd wf = put-Shaped h k c d wc wd wf
 fill-Shaped h k (context i j) c d wc wd wf = compose-Shaped i h k c d wc wd wf
 
@@ -178,8 +179,8 @@ composed-defined h j k c b d wc wb w =
 
 -- filling first is defined
 pub filled-defined : (h j k : DataSort) (s : Sort) (c b d : Trees) → Shaped (context j k) c
-    → Shaped (context h j) b → Shaped (giving h s) d → WellFormed (fill (fill c b) d)
-    → Shaped (giving j s) (fill b d) × WellFormed (fill c (fill b d))
+    → Shaped (context h j) b → Shaped (with_outer h s) d → WellFormed (fill (fill c b) d)
+    → Shaped (with_outer j s) (fill b d) × WellFormed (fill c (fill b d))
 filled-defined h j k s c b d wc wb wd w =
     let wf : WellFormed (fill c (fill b d)) = subst WellFormed (fill-fill c b d) w in
-    (fill-Shaped h j s b d wb wd (inner-WellFormed c (fill b d) wc.holed.one wf), wf)
+    (fill-Shaped h j s b d wb wd (inner-WellFormed c (fill b d) wc.holes_fit.one wf), wf)

@@ -1,7 +1,7 @@
 -- Each of the fifteen sorts has a thing, and nothing else has one.
 use Rattle.std.proofs.Common.{◌≡◌, ℕ, ◌≤◌, refl, arith, true, false, [], pos}
 use Rattle.std.proofs.Math.Decide.{ℕ_discrete}
-use Rattle.model_shapes.specs.Trees.{Trees, none, node, hole, width, tally, node_uses, list_uses, WellFormed}
+use Rattle.model_shapes.specs.Trees.{Trees, none, node, hole, width, one_if, node_uses, list_uses, WellFormed}
 use Rattle.model_shapes.specs.Shapes.{may_stand, HasWidth, OneHole, HolePlaced}
 use Rattle.model_shapes.specs.Sorts.{Sort, value, shape, context, node_sort, list_sort, int_sort, str_sort, bool_sort, DataSort, tree, forest, grove, is_sort}
 use Rattle.model_shapes.specs.Things.{Thing, val, trees, Fits}
@@ -11,13 +11,13 @@ use Rattle.model_shapes.proofs.Shapes.{hole-root}
 use Rattle.model_shapes.proofs.Truth.{false≢true}
 
 -- an answer counts at most once
-pub tally-le : {A : Type 0} (d : Dec A) → tally d ≤ 1
-tally-le (yes a) = omega arith
-tally-le (no n) = omega arith
+pub one_if-le : {A : Type 0} (d : Dec A) → one_if d ≤ 1
+one_if-le (yes a) = omega arith
+one_if-le (no n) = omega arith
 
-tally-no : (d : Dec (◌≡◌ {A = ℕ} 0 1)) → tally d ≡ 0
-tally-no (yes e) = absurd (omega arith)
-tally-no (no n) = refl
+one_if-no : (d : Dec (◌≡◌ {A = ℕ} 0 1)) → one_if d ≡ 0
+one_if-no (yes e) = absurd (omega arith)
+one_if-no (no n) = refl
 
 nothing : WellFormed none
 nothing =
@@ -45,16 +45,16 @@ lone kids = node [] 1 kids 1 none
 lone_formed : (kids : Trees) → ((n : ℕ) → node_uses n kids ≡ 0) → ((n : ℕ) → list_uses n kids ≡ 0)
     → WellFormed (lone kids)
 lone_formed kids nodes lists = record {
-  nodes_once = λ n. omega (arith, tally-le (ℕ_discrete n 1), nodes n);
-  lists_once = λ n. omega (arith, tally-le (ℕ_discrete n 1), lists n);
-  no_node_zero = omega (arith, tally-no (ℕ_discrete 0 1), nodes 0);
-  no_list_zero = omega (arith, tally-no (ℕ_discrete 0 1), lists 0);
+  nodes_once = λ n. omega (arith, one_if-le (ℕ_discrete n 1), nodes n);
+  lists_once = λ n. omega (arith, one_if-le (ℕ_discrete n 1), lists n);
+  no_node_zero = omega (arith, one_if-no (ℕ_discrete 0 1), nodes 0);
+  no_list_zero = omega (arith, one_if-no (ℕ_discrete 0 1), lists 0);
 }
 
 some_context : (h k : DataSort) (r : Trees) → WellFormed r → HasWidth k (width r) → OneHole h k r
     → HolePlaced k r → (x : Thing) × Fits (context h k) x
 some_context h k r w n o f =
-    (trees r, (record { well_formed = w; width_fits = n; holed = o }, f))
+    (trees r, (record { well_formed = w; width_fits = n; holes_fit = o }, f))
 
 here : (h k : DataSort) → may_stand h k ≡ true → HasWidth k 1 → (x : Thing) × Fits (context h k) x
 here h k e n = at k e n
@@ -86,13 +86,13 @@ some_thing (shape tree) e =
       record {
         well_formed = lone_formed none (λ n. refl) (λ n. refl);
         width_fits = refl;
-        holed = refl;
+        holes_fit = refl;
       },
     )
 some_thing (shape forest) e =
-    (trees none, record { well_formed = nothing; width_fits = tt; holed = refl })
+    (trees none, record { well_formed = nothing; width_fits = tt; holes_fit = refl })
 some_thing (shape grove) e =
-    (trees none, record { well_formed = nothing; width_fits = tt; holed = refl })
+    (trees none, record { well_formed = nothing; width_fits = tt; holes_fit = refl })
 some_thing (context tree tree) e = here tree tree refl refl
 some_thing (context tree forest) e = here tree forest refl tt
 some_thing (context tree grove) e = here tree grove refl tt
@@ -113,6 +113,6 @@ fits-is_sort (context grove grove) x f = refl
 fits-is_sort (context grove tree) (val v) f = absurd f
 fits-is_sort (context grove forest) (val v) f = absurd f
 fits-is_sort (context grove tree) (trees r) f =
-    false≢true (hole-root f.0.holed (grove_root tree r f.0.holed))
+    false≢true (hole-root f.0.holes_fit (grove_root tree r f.0.holes_fit))
 fits-is_sort (context grove forest) (trees r) f =
-    false≢true (hole-root f.0.holed (grove_root forest r f.0.holed))
+    false≢true (hole-root f.0.holes_fit (grove_root forest r f.0.holes_fit))

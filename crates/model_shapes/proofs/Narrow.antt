@@ -5,7 +5,7 @@ use Rattle.model_shapes.specs.Trees.{Trees, none, node, hole, beside, width}
 use Rattle.model_shapes.specs.Shapes.{SameAt}
 use Rattle.model_shapes.specs.Sorts.{DataSort, tree, forest, grove}
 use Rattle.model_shapes.proofs.Basics.{beside-none, width-beside}
-use Rattle.model_shapes.proofs.Sameness.{SameGrove, picked, tally_self}
+use Rattle.model_shapes.proofs.Sameness.{SameGrove, picked, one_if_self}
 use Rattle.model_shapes.proofs.Shapes.{same-width}
 
 -- one root has no order
@@ -30,14 +30,14 @@ narrow none b w h = sym (no_roots b (sym (same-width grove none b h)))
 narrow (node s i k l none) b w h =
     let x : (l' : Trees) × (r : Trees) × (b ≡ beside l' (beside (node s i k l none) r)) =
     picked (node s i k l none) b
-    (omega (arith, h (node s i k l none), tally_self (node s i k l none))) in
+    (omega (arith, h (node s i k l none), one_if_self (node s i k l none))) in
     let y : width (node s i k l none) ≡ width b = same-width grove (node s i k l none) b h in
     alone (node s i k l none) x.0 x.1 b (omega arith) x.2 (omega arith)
 narrow (node s i k l (node s' i' k' l' r)) b w h = absurd (omega arith)
 narrow (node s i k l (hole r)) b w h = absurd (omega arith)
 narrow (hole none) b w h =
     let x : (l' : Trees) × (r : Trees) × (b ≡ beside l' (beside (hole none) r)) =
-    picked (hole none) b (omega (arith, h (hole none), tally_self (hole none))) in
+    picked (hole none) b (omega (arith, h (hole none), one_if_self (hole none))) in
     let y : width (hole none) ≡ width b = same-width grove (hole none) b h in
     alone (hole none) x.0 x.1 b (omega arith) x.2 (omega arith)
 narrow (hole (node s i k l r)) b w h = absurd (omega arith)

@@ -1,11 +1,11 @@
 -- What stands in a context can be computed from the context and the whole grove.
 use Rattle.std.proofs.Common.{◌≡◌, ℕ, zero, suc, ◌≤◌, ◌+◌, ◌-◌, refl, sym, ap, ◌∙◌, arith}
-use Rattle.model_shapes.specs.Trees.{Trees, none, node, hole, beside, fill, width, root_uses, tally, trees_eq}
+use Rattle.model_shapes.specs.Trees.{Trees, none, node, hole, beside, fill, width, root_uses, one_if, trees_eq}
 use Rattle.model_shapes.specs.Shapes.{holes, root_holes, SameAt, Shaped}
 use Rattle.model_shapes.specs.Sorts.{shape, context, DataSort, tree, forest, grove}
 use Rattle.model_shapes.proofs.Basics.{beside-none, width-beside, root_uses-beside, fill-no_hole}
 use Rattle.model_shapes.proofs.Truth.{false≢true}
-use Rattle.model_shapes.proofs.Sameness.{SameGrove, tally_self}
+use Rattle.model_shapes.proofs.Sameness.{SameGrove, one_if_self}
 use Rattle.model_shapes.proofs.Shapes.{root_holes-le, hole-root}
 use Rattle.model_shapes.proofs.Narrow.{narrow}
 use Rattle.model_shapes.proofs.Filling.{grove_hole}
@@ -28,7 +28,7 @@ unfolding remove_one
 removed t none u h = absurd (omega arith)
 removed t (node s i k l r) u h = go (trees_eq t (node s i k l none)) h (removed t r u)
   where
-    go : (d : Dec (t ≡ node s i k l none)) → 1 ≤ tally d + root_uses t r
+    go : (d : Dec (t ≡ node s i k l none)) → 1 ≤ one_if d + root_uses t r
         → (1 ≤ root_uses t r → root_uses u (remove_one t r) + root_uses u t ≡ root_uses u r)
         → root_uses u (keep_unless d r (node s i k l (remove_one t r))) + root_uses u t
         ≡ root_uses u (node s i k l r)
@@ -36,7 +36,7 @@ removed t (node s i k l r) u h = go (trees_eq t (node s i k l none)) h (removed 
     go (no n) h rec = omega (arith, rec (omega arith))
 removed t (hole r) u h = go (trees_eq t (hole none)) h (removed t r u)
   where
-    go : (d : Dec (t ≡ hole none)) → 1 ≤ tally d + root_uses t r
+    go : (d : Dec (t ≡ hole none)) → 1 ≤ one_if d + root_uses t r
         → (1 ≤ root_uses t r → root_uses u (remove_one t r) + root_uses u t ≡ root_uses u r)
         → root_uses u (keep_unless d r (hole (remove_one t r))) + root_uses u t
         ≡ root_uses u (hole r)
@@ -59,7 +59,7 @@ minus-beside : (r g b : Trees) → SameGrove g (beside b r) → SameGrove (minus
 unfolding minus
 minus-beside none g b h = λ u. h u ∙ ap (root_uses u) (beside-none b)
 minus-beside (node s i k l r) g b h = minus-beside r (remove_one (node s i k l none) g) b
-    (less_one (node s i k l none) g (beside b r) (omega (arith, tally_self (node s i k l none)))
+    (less_one (node s i k l none) g (beside b r) (omega (arith, one_if_self (node s i k l none)))
     (λ u. omega (
       arith,
       h u,
@@ -68,7 +68,7 @@ minus-beside (node s i k l r) g b h = minus-beside r (remove_one (node s i k l n
       root_uses-beside u b r,
     )))
 minus-beside (hole r) g b h = minus-beside r (remove_one (hole none) g) b
-    (less_one (hole none) g (beside b r) (omega (arith, tally_self (hole none)))
+    (less_one (hole none) g (beside b r) (omega (arith, one_if_self (hole none)))
     (λ u. omega (
       arith,
       h u,
@@ -143,7 +143,7 @@ pulled-grove (node s i k l r) g b o z h =
         (pick n (pull_root r (remove_one (node s i k l none) g))
         (pull (node s i k l none) (minus g r))) b
     go zero e rec = rec (omega arith) (omega arith)
-        (less_one (node s i k l none) g (fill r b) (omega (arith, tally_self (node s i k l none)))
+        (less_one (node s i k l none) g (fill r b) (omega (arith, one_if_self (node s i k l none)))
         (λ u. h u ∙ ap (λ x. root_uses u (node s i x l (fill r b))) (fill-no_hole k b e)))
     go (suc n) e rec = absurd (omega (arith, root_holes-le r))
 
@@ -166,7 +166,7 @@ pulled (node s i k l r) g b o z h =
         → pick n (pull_root r (remove_one (node s i k l none) g))
         (pull (node s i k l none) (minus g r)) ≡ b
     go zero e rec = rec (omega arith) z
-        (less_one (node s i k l none) g (fill r b) (omega (arith, tally_self (node s i k l none)))
+        (less_one (node s i k l none) g (fill r b) (omega (arith, one_if_self (node s i k l none)))
         (λ u. h u ∙ ap (λ x. root_uses u (node s i x l (fill r b))) (fill-no_hole k b e)))
     go (suc n) e rec =
         let w : SameGrove (minus g r) (node s i (fill k b) l none) =
@@ -180,9 +180,10 @@ pulled (node s i k l r) g b o z h =
 pub pulled-same : (d : DataSort) (c g b : Trees) → Shaped (context d grove) c → Shaped (shape d) b
     → SameAt grove g (fill c b) → SameAt d b (pull_root c g)
 pulled-same tree c g b wc wb h =
-    sym (pulled c g b wc.holed.one (λ z. omega (arith, wb.width_fits)) h)
+    sym (pulled c g b wc.holes_fit.one (λ z. omega (arith, wb.width_fits)) h)
 pulled-same forest c g b wc wb h =
-    sym (pulled c g b wc.holed.one (λ z. absurd (false≢true (hole-root wc.holed z))) h)
+    sym (pulled c g b wc.holes_fit.one (λ z. absurd (false≢true (hole-root wc.holes_fit z))) h)
 pulled-same grove c g b wc wb h =
     λ u. sym
-    (pulled-grove c g b wc.holed.one (omega (arith, grove_hole grove c wc.holed, wc.holed.one)) h u)
+    (pulled-grove c g b wc.holes_fit.one
+    (omega (arith, grove_hole grove c wc.holes_fit, wc.holes_fit.one)) h u)

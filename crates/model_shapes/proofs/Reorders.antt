@@ -5,7 +5,7 @@ use Rattle.model_shapes.specs.Shapes.{SameAt}
 use Rattle.model_shapes.specs.Sorts.{DataSort, tree, forest, grove}
 use Rattle.model_shapes.specs.Reordered.{Reordered, nothing, moved_node, moved_hole}
 use Rattle.model_shapes.proofs.Basics.{root_uses-beside}
-use Rattle.model_shapes.proofs.Sameness.{SameGrove, picked, tally_self, moved}
+use Rattle.model_shapes.proofs.Sameness.{SameGrove, picked, one_if_self, moved}
 use Rattle.model_shapes.proofs.Pulling.{remove_one, removed, less_one}
 
 -- an equal list is reordered as well
@@ -16,18 +16,18 @@ to a b b' e r = subst (Reordered a) e r
 pub same-reordered : (a b : Trees) → SameGrove a b → Reordered a b
 same-reordered none none h = nothing
 same-reordered none (node s i k l r) h =
-    absurd (omega (arith, h (node s i k l none), tally_self (node s i k l none)))
-same-reordered none (hole r) h = absurd (omega (arith, h (hole none), tally_self (hole none)))
+    absurd (omega (arith, h (node s i k l none), one_if_self (node s i k l none)))
+same-reordered none (hole r) h = absurd (omega (arith, h (hole none), one_if_self (hole none)))
 same-reordered (node s i k l a) b h =
     let x : (p : Trees) × (q : Trees) × (b ≡ beside p (beside (node s i k l none) q)) =
     picked (node s i k l none) b
-    (omega (arith, h (node s i k l none), tally_self (node s i k l none))) in
+    (omega (arith, h (node s i k l none), one_if_self (node s i k l none))) in
     to (node s i k l a) b (beside x.0 (node s i k l x.1)) (sym x.2)
     (moved_node s i k l a x.0 x.1
     (same-reordered a (beside x.0 x.1) (moved (node s i k l none) a b x.0 x.1 x.2 h)))
 same-reordered (hole a) b h =
     let x : (p : Trees) × (q : Trees) × (b ≡ beside p (beside (hole none) q)) =
-    picked (hole none) b (omega (arith, h (hole none), tally_self (hole none))) in
+    picked (hole none) b (omega (arith, h (hole none), one_if_self (hole none))) in
     to (hole a) b (beside x.0 (hole x.1)) (sym x.2)
     (moved_hole a x.0 x.1 (same-reordered a (beside x.0 x.1) (moved (hole none) a b x.0 x.1 x.2 h)))
 
@@ -59,13 +59,13 @@ root-decided t a b self rec = go (root_uses t b) refl
 pub grove-decided : (a b : Trees) → Dec (SameGrove a b)
 grove-decided none none = yes (λ u. refl)
 grove-decided none (node s i k l r) =
-    no (λ h. omega (arith, h (node s i k l none), tally_self (node s i k l none)))
-grove-decided none (hole r) = no (λ h. omega (arith, h (hole none), tally_self (hole none)))
+    no (λ h. omega (arith, h (node s i k l none), one_if_self (node s i k l none)))
+grove-decided none (hole r) = no (λ h. omega (arith, h (hole none), one_if_self (hole none)))
 grove-decided (node s i k l a) b =
     root-decided (node s i k l none) a b
-    (omega (arith, tally_self (node s i k l none))) (λ c. grove-decided a c)
+    (omega (arith, one_if_self (node s i k l none))) (λ c. grove-decided a c)
 grove-decided (hole a) b =
-    root-decided (hole none) a b (omega (arith, tally_self (hole none))) (λ c. grove-decided a c)
+    root-decided (hole none) a b (omega (arith, one_if_self (hole none))) (λ c. grove-decided a c)
 
 -- and so it is at every sort
 pub same-decided : (k : DataSort) (a b : Trees) → Dec (SameAt k a b)

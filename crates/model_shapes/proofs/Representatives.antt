@@ -1,5 +1,5 @@
 -- Each shape or context is the same as one that fits its sort: a context that gives a grove has its
--- hole in the first root there. Contexts put into contexts, or with more behind them, keep it there.
+-- hole in the first root there. Contexts put into contexts, or with more behind, keep it there.
 use Rattle.std.proofs.Common.{◌≡◌, ℕ, ◌≤◌, zero, suc, ◌*◌, refl, sym, ap, arith}
 use Rattle.model_shapes.specs.Sorts.{Sort, value, shape, context, DataSort, tree, forest, grove}
 use Rattle.model_shapes.specs.Trees.{Trees, none, node, hole, beside, fill, width}
@@ -34,12 +34,12 @@ to_front (node s i k l r) o = at (holes k) refl (λ z. to_front r (omega (arith,
 -- the one that fits
 pub representative : (s : Sort) (r : Trees) → Shaped s r
     → (r' : Trees) × Same s r r' × Fits s (trees r')
-representative (value v) r w = absurd w.holed
+representative (value v) r w = absurd w.holes_fit
 representative (shape k) r w = (r, Same-refl (shape k) r, w)
 representative (context h tree) r w = (r, refl, (w, tt))
 representative (context h forest) r w = (r, refl, (w, tt))
 representative (context h grove) r w =
-    let (r', same, first) = to_front r w.holed.one in
+    let (r', same, first) = to_front r w.holes_fit.one in
     (r', same, (same-Shaped (context h grove) r r' same w, first))
 
 -- what fits is well formed and of the sort
@@ -58,7 +58,7 @@ first-beside (hole r) b f = tt
 one_first : (h : DataSort) (b : Trees) → Shaped (context h tree) b → HoleFirst b
 one_first h none w = absurd (omega (arith, w.width_fits))
 one_first h (hole r) w = tt
-one_first h (node s i k l none) w = omega (arith, w.holed.one)
+one_first h (node s i k l none) w = omega (arith, w.holes_fit.one)
 one_first h (node s i k l (hole r)) w = absurd (omega (arith, w.width_fits))
 one_first h (node s i k l (node s' i' k' l' r)) w = absurd (omega (arith, w.width_fits))
 
@@ -67,11 +67,11 @@ pub first-fill : (h j : DataSort) (a b : Trees) → Shaped (context j grove) a �
     → Shaped (context h j) b → Fits (context h j) (trees b) → HoleFirst (fill a b)
 first-fill h j none b wa f wb fb = absurd f
 first-fill h j (node s i k l r) b wa f wb fb =
-    omega (arith, holes-fill k b, f, wb.holed.one, ap (λ z. z * holes b) f)
+    omega (arith, holes-fill k b, f, wb.holes_fit.one, ap (λ z. z * holes b) f)
 first-fill h tree (hole r) b wa f wb fb = first-beside b (fill r b) (one_first h b wb)
 first-fill h grove (hole r) b wa f wb fb = first-beside b (fill r b) fb.1
 first-fill h forest (hole r) b wa f wb fb =
-    false≢true (hole-root wa.holed (omega (arith, wa.holed.one, root_holes-le (hole r))))
+    false≢true (hole-root wa.holes_fit (omega (arith, wa.holes_fit.one, root_holes-le (hole r))))
 
 -- a hole and one root beside it, with the hole first, is one list of roots
 pub first-alone : (r t : Trees) → holes r ≡ 1 → HoleFirst r → width t ≤ 1

@@ -1,6 +1,6 @@
 -- Sameness of groves, by how often each tree stands among the roots.
 use Rattle.std.proofs.Common.{◌≡◌, ℕ, ◌≤◌, ◌+◌, sym, refl, ap, arith}
-use Rattle.model_shapes.specs.Trees.{Trees, none, node, hole, beside, root_uses, tally, trees_eq}
+use Rattle.model_shapes.specs.Trees.{Trees, none, node, hole, beside, root_uses, one_if, trees_eq}
 use Rattle.model_shapes.proofs.Basics.{root_uses-beside}
 
 -- sameness at groves
@@ -8,10 +8,10 @@ abbrev pub SameGrove : Trees → Trees → Type 0
 SameGrove a b = (t : Trees) → root_uses t a ≡ root_uses t b
 
 -- a tree is itself
-pub tally_self : (t : Trees) → tally (trees_eq t t) ≡ 1
-tally_self t = go (trees_eq t t)
+pub one_if_self : (t : Trees) → one_if (trees_eq t t) ≡ 1
+one_if_self t = go (trees_eq t t)
   where
-    go : (d : Dec (t ≡ t)) → tally d ≡ 1
+    go : (d : Dec (t ≡ t)) → one_if d ≡ 1
     go (yes e) = refl
     go (no n) = absurd (n refl)
 
@@ -21,7 +21,7 @@ pub picked : (t b : Trees) → 1 ≤ root_uses t b → (l : Trees) × (r : Trees
 picked t none h = absurd (omega arith)
 picked t (node s i k l rest) h = go (trees_eq t (node s i k l none)) h (picked t rest)
   where
-    go : (d : Dec (t ≡ node s i k l none)) → 1 ≤ tally d + root_uses t rest
+    go : (d : Dec (t ≡ node s i k l none)) → 1 ≤ one_if d + root_uses t rest
         → (1 ≤ root_uses t rest → (l' : Trees) × (r : Trees) × (rest ≡ beside l' (beside t r)))
         → (l' : Trees) × (r : Trees) × (node s i k l rest ≡ beside l' (beside t r))
     go (yes e) h rec = (none, rest, ap (λ z. beside z rest) (sym e))
@@ -29,7 +29,7 @@ picked t (node s i k l rest) h = go (trees_eq t (node s i k l none)) h (picked t
         rec (omega arith) in (node s i k l x.0, x.1, ap (node s i k l) x.2)
 picked t (hole rest) h = go (trees_eq t (hole none)) h (picked t rest)
   where
-    go : (d : Dec (t ≡ hole none)) → 1 ≤ tally d + root_uses t rest
+    go : (d : Dec (t ≡ hole none)) → 1 ≤ one_if d + root_uses t rest
         → (1 ≤ root_uses t rest → (l' : Trees) × (r : Trees) × (rest ≡ beside l' (beside t r)))
         → (l' : Trees) × (r : Trees) × (hole rest ≡ beside l' (beside t r))
     go (yes e) h rec = (none, rest, ap (λ z. beside z rest) (sym e))
@@ -60,16 +60,16 @@ module _ (f : Trees → ℕ) (adds : (a b : Trees) → f (beside a b) ≡ f a + 
   pub same-count : (a b : Trees) → SameGrove a b → f a ≡ f b
   same-count none none h = refl
   same-count none (node s i k l r) h =
-      absurd (omega (arith, h (node s i k l none), tally_self (node s i k l none)))
-  same-count none (hole r) h = absurd (omega (arith, h (hole none), tally_self (hole none)))
+      absurd (omega (arith, h (node s i k l none), one_if_self (node s i k l none)))
+  same-count none (hole r) h = absurd (omega (arith, h (hole none), one_if_self (hole none)))
   same-count (node s i k l rest) b h =
       let x : (l' : Trees) × (r : Trees) × (b ≡ beside l' (beside (node s i k l none) r)) =
       picked (node s i k l none) b
-      (omega (arith, h (node s i k l none), tally_self (node s i k l none))) in
+      (omega (arith, h (node s i k l none), one_if_self (node s i k l none))) in
       counted (node s i k l none) rest b x.0 x.1 x.2
       (same-count rest (beside x.0 x.1) (moved (node s i k l none) rest b x.0 x.1 x.2 h))
   same-count (hole rest) b h =
       let x : (l' : Trees) × (r : Trees) × (b ≡ beside l' (beside (hole none) r)) =
-      picked (hole none) b (omega (arith, h (hole none), tally_self (hole none))) in
+      picked (hole none) b (omega (arith, h (hole none), one_if_self (hole none))) in
       counted (hole none) rest b x.0 x.1 x.2
       (same-count rest (beside x.0 x.1) (moved (hole none) rest b x.0 x.1 x.2 h))

@@ -2,7 +2,7 @@
 use Rattle.std.proofs.Common.{◌≡◌, ℕ, zero, suc, ◌≤◌, ◌+◌, true, sym, refl, ap, arith, ◌∙◌, subst}
 use Rattle.model_shapes.specs.Trees.{Trees, none, node, hole, beside, width, node_uses, list_uses, WellFormed}
 use Rattle.model_shapes.specs.Shapes.{holes, root_holes, may_stand, around_hole, OneHole, Same, SameAt, Shaped, HasWidth, HasHoles}
-use Rattle.model_shapes.specs.Sorts.{Sort, value, shape, context, DataSort, tree, forest, grove, outer, giving}
+use Rattle.model_shapes.specs.Sorts.{Sort, value, shape, context, DataSort, tree, forest, grove, outer, with_outer}
 use Rattle.model_shapes.proofs.Basics.{holes-beside, root_holes-beside, width-beside, node_uses-beside, list_uses-beside, root_uses-beside}
 use Rattle.model_shapes.proofs.Sameness.{same-count}
 
@@ -111,8 +111,8 @@ root_holes-le (node s i k l r) = omega (arith, root_holes-le r)
 root_holes-le (hole r) = omega (arith, root_holes-le r)
 
 -- one hole, by where it stands
-pub one-hole : (h k : DataSort) (r : Trees) → holes r ≡ 1 → (root_holes r ≡ 1 → may_stand h k ≡ true)
-    → (root_holes r ≡ 0 → may_stand h forest ≡ true) → OneHole h k r
+pub one-hole : (h k : DataSort) (r : Trees) → holes r ≡ 1
+    → (root_holes r ≡ 1 → may_stand h k ≡ true) → (root_holes r ≡ 0 → may_stand h forest ≡ true) → OneHole h k r
 one-hole h k r o at_root below = at (root_holes r) refl
   where
     at : (n : ℕ) → root_holes r ≡ n → OneHole h k r
@@ -141,13 +141,13 @@ pub same-Shaped : (s : Sort) (a b : Trees) → Same s a b → Shaped s a → Sha
 same-Shaped s a b h w = record {
   well_formed = same-WellFormed (outer s) a b h w.well_formed;
   width_fits = subst (HasWidth (outer s)) (same-width (outer s) a b h) w.width_fits;
-  holed = same-Holed s a b h w.holed;
+  holes_fit = same-Holed s a b h w.holes_fit;
 }
 
 -- the same, where the sort of the whole is named apart
 pub same-Shaped-at : (s : Sort) (k : DataSort) (a b : Trees) → SameAt k a b
-    → Shaped (giving k s) a → Shaped (giving k s) b
-same-Shaped-at (value v) k a b h w = absurd w.holed
+    → Shaped (with_outer k s) a → Shaped (with_outer k s) b
+same-Shaped-at (value v) k a b h w = absurd w.holes_fit
 same-Shaped-at (shape j) k a b h w = same-Shaped (shape k) a b h w
 same-Shaped-at (context j i) k a b h w = same-Shaped (context j k) a b h w
 
@@ -188,7 +188,7 @@ pub left-Shaped : (s : Sort) (a b : Trees) → IsList (outer s) → holes b ≡ 
 left-Shaped s a b n z w = record {
   well_formed = left-WellFormed a b w.well_formed;
   width_fits = n (width a);
-  holed = left-Holed s a b z (omega (arith, root_holes-le b)) w.holed;
+  holes_fit = left-Holed s a b z (omega (arith, root_holes-le b)) w.holes_fit;
 }
 
 -- the list behind, as a shape
@@ -197,7 +197,7 @@ pub right-Shaped-shape : (k : DataSort) (a b : Trees) → IsList k → holes b �
 right-Shaped-shape k a b n z w = record {
   well_formed = right-WellFormed a b w;
   width_fits = n (width b);
-  holed = z;
+  holes_fit = z;
 }
 
 -- the list in front, as a shape
@@ -206,5 +206,5 @@ pub left-Shaped-shape : (k : DataSort) (a b : Trees) → IsList k → holes a �
 left-Shaped-shape k a b n z w = record {
   well_formed = left-WellFormed a b w;
   width_fits = n (width a);
-  holed = z;
+  holes_fit = z;
 }

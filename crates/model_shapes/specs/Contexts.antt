@@ -1,7 +1,8 @@
 -- Contexts with one hole by construction, as POPL 2005 has them, and the plain ones that they stand
 -- for. Only laws speak of them: each plain context comes from one of these, and from one only.
-use Rattle.std.specs.Prelude.{◌≡◌, ℕ, List}
+use Rattle.std.specs.Prelude.{◌≡◌, ℕ}
 use Rattle.model_shapes.specs.Sorts.{DataSort, tree, forest, grove}
+use Rattle.model_shapes.specs.Values.{Name}
 use Rattle.model_shapes.specs.Trees.{Trees, none, node, hole, beside}
 use Rattle.model_shapes.specs.Shapes.{holes, SameAt}
 
@@ -9,7 +10,7 @@ mutual
   -- the hole, or a node round a forest context
   pub data TreeContext : Type 0 where
     tree_hole : TreeContext
-    around_node : List ℕ → ℕ → ForestContext → ℕ → TreeContext
+    around_node : Name → ℕ → ForestContext → ℕ → TreeContext
 
   -- a left forest, an inner part and a right forest
   pub data ForestContext : Type 0 where

@@ -50,7 +50,7 @@ HasHoles (context h k) trees = OneHole h k trees
 pub record Shaped (s : Sort) (trees : Trees) : Type 0 where
   pub well_formed : WellFormed trees
   pub width_fits : HasWidth (outer s) (width trees)
-  pub holed : HasHoles s trees
+  pub holes_fit : HasHoles s trees
 
 -- the first root is the hole, or has it below it
 abbrev pub HoleFirst : Trees → Type 0
@@ -58,8 +58,8 @@ HoleFirst none = ⊥
 HoleFirst (node name number kids list rest) = holes kids ≡ 1
 HoleFirst (hole rest) = Unit
 
--- A context that gives a grove is an inner part and the rest of the roots (POPL 2005), so its hole has
--- no place among the roots. Written as a list, the inner part comes first.
+-- A context that gives a grove is an inner part and the rest of the roots, so its hole has no place
+-- among the roots. In the list of its roots the inner part is the first.
 abbrev pub HolePlaced : DataSort → Trees → Type 0
 HolePlaced grove trees = HoleFirst trees
 HolePlaced k trees = Unit

@@ -42,11 +42,11 @@ inner (value v) = tree
 inner (shape k) = k
 inner (context h k) = h
 
--- the same sort but for the data sort that it gives
-abbrev pub giving : DataSort → Sort → Sort
-giving k (value v) = value v
-giving k (shape j) = shape k
-giving k (context h j) = context h k
+-- the same sort with this for the data sort that it gives
+abbrev pub with_outer : DataSort → Sort → Sort
+with_outer k (value v) = value v
+with_outer k (shape j) = shape k
+with_outer k (context h j) = context h k
 
 -- the tests of equality: of value sorts
 abbrev pub same_value_sort : ValueSort → ValueSort → Bool

@@ -3,13 +3,13 @@
 use Rattle.std.specs.Prelude.{◌≡◌, ℕ, ◌+◌, ◌≤◌, List}
 use Rattle.std.proofs.Math.Decide.{ℕ_discrete}
 use mathlib.Core.HLevel.{Discrete}
-use Rattle.model_shapes.specs.Values.{text_eq}
+use Rattle.model_shapes.specs.Values.{Name, text_eq}
 
 -- A list of roots. A node has its name, its node number, its children, its list number and the
 -- roots that follow it; a hole has the roots that follow it.
 pub data Trees : Type 0 where
   none : Trees
-  node : List ℕ → ℕ → Trees → ℕ → Trees → Trees
+  node : Name → ℕ → Trees → ℕ → Trees → Trees
   hole : Trees → Trees
   deriving Discrete as Trees-discrete
 
@@ -37,30 +37,30 @@ width (node name number kids list rest) = 1 + width rest
 width (hole rest) = 1 + width rest
 
 -- one where the answer is yes
-abbrev pub tally {ℓ} : {A : Type ℓ} → Dec A → ℕ
-tally (yes a) = 1
-tally (no a) = 0
+abbrev pub one_if {ℓ} : {A : Type ℓ} → Dec A → ℕ
+one_if (yes a) = 1
+one_if (no a) = 0
 
 -- how often a number is the number of a node
 abbrev pub node_uses : ℕ → Trees → ℕ
 node_uses n none = 0
 node_uses n (node name number kids list rest) =
-    tally (ℕ_discrete n number) + (node_uses n kids + node_uses n rest)
+    one_if (ℕ_discrete n number) + (node_uses n kids + node_uses n rest)
 node_uses n (hole rest) = node_uses n rest
 
 -- how often a number is the number of a children list
 abbrev pub list_uses : ℕ → Trees → ℕ
 list_uses n none = 0
 list_uses n (node name number kids list rest) =
-    tally (ℕ_discrete n list) + (list_uses n kids + list_uses n rest)
+    one_if (ℕ_discrete n list) + (list_uses n kids + list_uses n rest)
 list_uses n (hole rest) = list_uses n rest
 
 -- how often a tree stands among the roots
 abbrev pub root_uses : Trees → Trees → ℕ
 root_uses tree none = 0
 root_uses tree (node name number kids list rest) =
-    tally (trees_eq tree (node name number kids list none)) + root_uses tree rest
-root_uses tree (hole rest) = tally (trees_eq tree (hole none)) + root_uses tree rest
+    one_if (trees_eq tree (node name number kids list none)) + root_uses tree rest
+root_uses tree (hole rest) = one_if (trees_eq tree (hole none)) + root_uses tree rest
 
 -- no number is 0, and no number of one kind stands twice
 pub record WellFormed (trees : Trees) : Type 0 where

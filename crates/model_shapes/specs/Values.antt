@@ -8,12 +8,20 @@ use mathlib.Core.HLevel.{Discrete}
 use mathlib.Core.List.{List-discrete}
 use Rattle.model_shapes.specs.Sorts.{ValueSort, node_sort, list_sort, int_sort, str_sort, bool_sort}
 
--- a value; a text is the list of its bytes
+-- a text: any list of numbers; those of the program are the ones that are UTF-8 among them
+abbrev pub Text : Type 0
+Text = List ℕ
+
+-- the name of a node, a variable or a procedure
+abbrev pub Name : Type 0
+Name = Text
+
+-- a value
 pub data Value : Type 0 where
   null nolist : Value
   node_number list_number : ℕ → Value
   int : ℤ → Value
-  str : List ℕ → Value
+  str : Text → Value
   boolean : Bool → Value
   deriving Discrete as Value-discrete
 
@@ -39,7 +47,7 @@ FitsValue bool_sort (boolean b) = Unit
 FitsValue s x = ⊥
 
 -- texts are equal or not
-pub text_eq : Discrete (List ℕ)
+pub text_eq : Discrete Text
 text_eq = List-discrete ℕ_discrete
 
 -- values are equal or not

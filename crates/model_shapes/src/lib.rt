@@ -4,7 +4,7 @@
 #![tactic(auto)]
 
 ghost use Rattle.std.specs.Prelude.{◌≡◌, ◌↔◌, true};
-ghost use Rattle.model_shapes.specs.Sorts.{DataSort, tree, forest, grove, Sort, shape, context, giving, is_sort};
+ghost use Rattle.model_shapes.specs.Sorts.{DataSort, tree, forest, grove, Sort, shape, context, with_outer, is_sort};
 ghost use Rattle.model_shapes.specs.Trees.{Trees, none, hole, beside, fill, WellFormed};
 ghost use Rattle.model_shapes.specs.Shapes.{holes, Shaped, Same, SameAt};
 ghost use Rattle.model_shapes.specs.Things.{Thing, trees, Fits};
@@ -17,7 +17,8 @@ pub fn sorts_have_things()
     ensures only { (s : Sort) (x : Thing) → Fits s x → is_sort s ≡ true }
 {}
 
-/// Each well-formed shape or context of a sort is the same as one that fits, and all that fit are such.
+/// Each well-formed shape or context of a sort is the same as one that fits, and whatever fits is well
+/// formed and of the sort.
 pub fn a_thing_fits_up_to_sameness()
     ensures found { (s : Sort) (r : Trees) → Shaped s r
         → (t : Trees) × Same s r t × Fits s (trees t) }
@@ -36,16 +37,17 @@ pub fn sameness_is_decided()
 
 /// What is the same as something well formed of a sort is well formed and of that sort.
 pub fn the_same_has_the_sort()
-    ensures { (s : Sort) (k : DataSort) (a b : Trees) → SameAt k a b → Shaped (giving k s) a
-        → Shaped (giving k s) b }
+    ensures { (s : Sort) (k : DataSort) (a b : Trees) → SameAt k a b → Shaped (with_outer k s) a
+        → Shaped (with_outer k s) b }
 {}
 
 /// A context filled with a shape, or with a context, has the sort that it should, once it is well
 /// formed; and a part of what is well formed is well formed.
 pub fn filling_gives_the_sort()
     ensures whole { (h k : DataSort) (s : Sort) (outside piece : Trees)
-        → Shaped (context h k) outside → Shaped (giving h s) piece → WellFormed (fill outside piece)
-        → Shaped (giving k s) (fill outside piece) }
+        → Shaped (context h k) outside → Shaped (with_outer h s) piece
+        → WellFormed (fill outside piece)
+        → Shaped (with_outer k s) (fill outside piece) }
     ensures parts { (outside piece : Trees) → holes outside ≡ 1 → WellFormed (fill outside piece)
         → WellFormed outside × WellFormed piece }
 {}
@@ -62,9 +64,9 @@ pub fn filling_twice_is_defined_together()
         → Shaped (context h j) inner → WellFormed (fill outer (fill inner piece))
         → Shaped (context h k) (fill outer inner) × WellFormed (fill (fill outer inner) piece) }
     ensures filled { (h j k : DataSort) (s : Sort) (outer inner piece : Trees)
-        → Shaped (context j k) outer → Shaped (context h j) inner → Shaped (giving h s) piece
+        → Shaped (context j k) outer → Shaped (context h j) inner → Shaped (with_outer h s) piece
         → WellFormed (fill (fill outer inner) piece)
-        → Shaped (giving j s) (fill inner piece) × WellFormed (fill outer (fill inner piece)) }
+        → Shaped (with_outer j s) (fill inner piece) × WellFormed (fill outer (fill inner piece)) }
 {}
 
 /// The same contexts filled with the same pieces are the same.

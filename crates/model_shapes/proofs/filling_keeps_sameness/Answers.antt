@@ -5,4 +5,4 @@ pub returns-clause-contexts : goal.returns-clause-contexts
 returns-clause-contexts c = fill-left
 
 pub returns-clause-pieces : goal.returns-clause-pieces
-returns-clause-pieces c = λ h k o a b w e. fill-right h k o a b w.holed e
+returns-clause-pieces c = λ h k o a b w e. fill-right h k o a b w.holes_fit e
