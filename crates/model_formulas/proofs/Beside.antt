@@ -1,6 +1,6 @@
 -- Two contexts with a hole for a grove beside one root, and nothing else, are one thing.
 use Rattle.std.proofs.Common.{◌≡◌, ℕ, List, refl, sym, ap, arith, ◌∙◌, subst}
-use Rattle.model_shapes.specs.Sorts.{Sort, context, shape, forest, grove}
+use Rattle.model_shapes.specs.Sorts.{context, shape, forest, grove}
 use Rattle.model_shapes.specs.Values.{str, node_number, list_number}
 use Rattle.model_shapes.specs.Trees.{Trees, none, node, hole, beside, root_uses}
 use Rattle.model_shapes.specs.Things.{Thing, val, trees, Fits}
@@ -63,8 +63,8 @@ module _ (name number list : Term) where
         is =
             first-alone r (node s i none l none) f.0.holes_fit.one f.1 (omega arith)
             (λ t. b.2.0 t
-                ∙ ap (root_uses t)
-                (λ j. beside (b.2.1 j) ((is ∙ ap (λ z. node s i z l none) met.3) j)));
+            ∙ ap (root_uses t)
+            (λ j. beside (b.2.1 j) ((is ∙ ap (λ z. node s i z l none) met.3) j)));
       })))
 
   -- so two are equal

@@ -1,12 +1,14 @@
 -- What the test of sameness of formulas says.
-use Rattle.std.proofs.Common.{◌≡◌, sym, refl, ap, ◌∙◌, subst, Bool, true, false, ◌&&◌, rules, ℤ, int_le}
+use Rattle.std.proofs.Common.{◌≡◌, refl, ap, subst, Bool, true, false, ◌&&◌, rules, ℤ, int_le}
 use Rattle.std.proofs.lemmas.Int.{ints}
 use Rattle.model_formulas.specs.Formulas.{Formula, truth, falsity, conjunction, disjunction, implication, negation, existential, universal, equality, at_most, empty, bare_hole, node_formula, one_tree, one_root, concatenation, grove_sum, grove_sum_hole, application, hole_adjoint, context_adjoint, same_as, length_is, value_meets, Side, whole, hole_left, hole_right}
 use Rattle.model_formulas.specs.Terms.{Term, literal, variable, sum, difference, appended}
 use Rattle.model_shapes.specs.Sorts.{same_data_sort, same_sort}
-use Rattle.model_formulas.specs.SameFormulas.{same_side, same_term, same_formula, same_value, same_bool, int_eq}
-use Rattle.model_shapes.specs.Values.{Value, null, nolist, node_number, list_number, int, str, boolean}
-use Rattle.model_formulas.specs.VariableTests.{false≢true, both_true, same_data_sort-is, same_data_sort-refl, same_sort-is, same_sort-refl, bytes-is, bytes-refl, nat-is, nat-refl, same_var-is, same_var-refl}
+use Rattle.model_formulas.specs.SameFormulas.{same_side, same_term, same_formula}
+use Rattle.model_shapes.specs.Values.{same_value, same_bool, int_eq, Value, null, nolist, node_number, list_number, int, str, boolean}
+use Rattle.model_shapes.proofs.Truth.{false≢true, both_true}
+use Rattle.model_shapes.proofs.Tests.{same_data_sort-is, same_data_sort-refl, same_sort-is, same_sort-refl, bytes-is, bytes-refl, nat-is, nat-refl}
+use Rattle.model_formulas.specs.VariableTests.{same_var-is, same_var-refl}
 
 -- equal sides
 pub same_side-is : (a b : Side) → same_side a b ≡ true → a ≡ b

@@ -5,7 +5,7 @@ use Rattle.model_shapes.specs.Values.{Value, null, nolist, node_number, list_num
 use Rattle.model_shapes.specs.Things.{Fits}
 use Rattle.model_shapes.proofs.Truth.{false≢true, both_true}
 use Rattle.model_formulas.specs.Variables.{prog, logic, bound}
-use Rattle.model_formulas.specs.VariableTests.{same_value_sort-is, same_sort-is}
+use Rattle.model_shapes.proofs.Tests.{same_value_sort-is, same_sort-is}
 use Rattle.model_formulas.specs.Terms.{Term, literal, variable, sum, difference, appended}
 use Rattle.model_formulas.specs.WellSorted.{has_sort, is_literal}
 use Rattle.model_formulas.specs.Satisfaction.{Environment, Proper, meaning_of}

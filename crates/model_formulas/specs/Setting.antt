@@ -1,5 +1,5 @@
--- An environment with one variable set to a thing: how the laws about quantifiers speak of named
--- variables. Nothing else rests on it.
+-- Needn't be believed: no definition rests on it. An environment with one variable set to a thing: how
+-- the laws about quantifiers speak of named variables.
 use Rattle.std.specs.Prelude.{◌≡◌}
 use Rattle.model_shapes.specs.Things.{Thing}
 use Rattle.model_formulas.specs.Variables.{Var}

@@ -80,15 +80,14 @@ some_thing (value list_sort) e = (val nolist, tt)
 some_thing (value int_sort) e = (val (int (pos 0)), tt)
 some_thing (value str_sort) e = (val (str []), tt)
 some_thing (value bool_sort) e = (val (boolean false), tt)
-some_thing (shape tree) e =
-    (
-      trees (lone none),
-      record {
-        well_formed = lone_formed none (λ n. refl) (λ n. refl);
-        width_fits = refl;
-        holes_fit = refl;
-      },
-    )
+some_thing (shape tree) e = (
+  trees (lone none),
+  record {
+    well_formed = lone_formed none (λ n. refl) (λ n. refl);
+    width_fits = refl;
+    holes_fit = refl;
+  },
+)
 some_thing (shape forest) e =
     (trees none, record { well_formed = nothing; width_fits = tt; holes_fit = refl })
 some_thing (shape grove) e =

@@ -1,4 +1,5 @@
 pub mod Truth
+pub mod Tests
 pub mod Basics
 pub mod Sameness
 pub mod Shapes

@@ -112,7 +112,8 @@ root_holes-le (hole r) = omega (arith, root_holes-le r)
 
 -- one hole, by where it stands
 pub one-hole : (h k : DataSort) (r : Trees) → holes r ≡ 1
-    → (root_holes r ≡ 1 → may_stand h k ≡ true) → (root_holes r ≡ 0 → may_stand h forest ≡ true) → OneHole h k r
+    → (root_holes r ≡ 1 → may_stand h k ≡ true)
+    → (root_holes r ≡ 0 → may_stand h forest ≡ true) → OneHole h k r
 one-hole h k r o at_root below = at (root_holes r) refl
   where
     at : (n : ℕ) → root_holes r ≡ n → OneHole h k r

@@ -1,6 +1,6 @@
 -- Trees, forests and groves, with or without holes, as one type: the first root and those after it.
 -- The trees are those of PODS 2008; a hole and its filling are those of POPL 2005.
-use Rattle.std.specs.Prelude.{◌≡◌, ℕ, ◌+◌, ◌≤◌, List}
+use Rattle.std.specs.Prelude.{◌≡◌, ℕ, ◌+◌, ◌≤◌}
 use Rattle.std.proofs.Math.Decide.{ℕ_discrete}
 use mathlib.Core.HLevel.{Discrete}
 use Rattle.model_shapes.specs.Values.{Name, text_eq}

@@ -17,8 +17,8 @@ pub fn sorts_have_things()
     ensures only { (s : Sort) (x : Thing) → Fits s x → is_sort s ≡ true }
 {}
 
-/// Each well-formed shape or context of a sort is the same as one that fits, and whatever fits is well
-/// formed and of the sort.
+/// Each well-formed shape or context of a sort is the same as one that fits, and whatever fits is
+/// well formed and of the sort.
 pub fn a_thing_fits_up_to_sameness()
     ensures found { (s : Sort) (r : Trees) → Shaped s r
         → (t : Trees) × Same s r t × Fits s (trees t) }
