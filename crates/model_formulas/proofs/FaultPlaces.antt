@@ -6,7 +6,8 @@ use Rattle.std.specs.Option.{option_or}
 use Rattle.std.proofs.lemmas.Option.{same_Some, none-some}
 use Rattle.model_shapes.specs.Sorts.{Sort, shape, context, tree, forest, grove, outer, inner, with_outer}
 use Rattle.model_formulas.specs.Formulas.{Named, truth, falsity, conjunction, disjunction, implication, negation, existential, universal, equality, at_most, empty, bare_hole, node_formula, one_tree, one_root, concatenation, grove_sum, grove_sum_hole, application, hole_adjoint, context_adjoint, same_as, length_is, value_meets, left_sort, right_sort}
-use Rattle.model_formulas.specs.WellSorted.{flags, parts}
+use Rattle.model_formulas.specs.Parts.{parts}
+use Rattle.model_formulas.specs.WellSorted.{flags}
 
 -- the first flag that fails is one of the list
 pub place-within : (xs : List Bool) (n m : ℕ) → position_from not n xs ≡ Some m

@@ -1,6 +1,7 @@
 -- A well-sorted term stands for a thing of its sort.
 use Rattle.std.proofs.Common.{◌≡◌, sym, refl, subst, true, ◌&&◌}
-use Rattle.model_shapes.specs.Sorts.{value, ValueSort, int_sort, str_sort, same_value_sort, is_sort}
+use Rattle.model_shapes.specs.Tests.{same_value_sort}
+use Rattle.model_shapes.specs.Sorts.{value, ValueSort, int_sort, str_sort, is_sort}
 use Rattle.model_shapes.specs.Values.{Value, null, nolist, node_number, list_number, int, str, boolean, FitsValue, value_sort}
 use Rattle.model_shapes.specs.Things.{Fits}
 use Rattle.model_shapes.proofs.Truth.{false≢true, both_true}

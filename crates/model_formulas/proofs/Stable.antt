@@ -6,7 +6,8 @@ use mathlib.Core.HLevel.{Stable, dec→stable}
 use Rattle.model_shapes.specs.Sorts.{Sort, value, shape, context, DataSort, tree, forest, grove, outer, with_outer}
 use Rattle.model_shapes.specs.Trees.{Trees, none, node, hole, width, root_uses, node_uses, list_uses, WellFormed, trees_eq}
 use Rattle.model_shapes.specs.Shapes.{OneHole, HasWidth, HasHoles, Shaped, SameAt}
-use Rattle.model_shapes.specs.Things.{Thing, val, trees, thing_eq}
+use Rattle.model_shapes.proofs.Tests.{thing_eq}
+use Rattle.model_shapes.specs.Things.{Thing, val, trees}
 use Rattle.model_formulas.specs.Formulas.{Formula, truth, falsity, conjunction, disjunction, implication, negation, existential, universal, equality, at_most, empty, bare_hole, node_formula, one_tree, one_root, concatenation, grove_sum, grove_sum_hole, application, hole_adjoint, context_adjoint, same_as, length_is, value_meets}
 use Rattle.model_formulas.specs.Satisfaction.{Environment, Meets, choosing, IfNode, IfTrees, meaning_of}
 

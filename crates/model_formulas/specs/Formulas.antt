@@ -1,10 +1,9 @@
 -- Formulas of context logic for trees, forests and groves: those of POPL 2005 and PODS 2008, with
 -- equations and order of terms, length of forests, and `is`, which speaks of a variable's value.
 use Rattle.std.specs.Prelude.{Bool, true, false, ◌&&◌}
-use mathlib.Core.HLevel.{Discrete}
-use Rattle.model_shapes.specs.Sorts.{DataSort, DataSort-discrete, Sort, shape, outer, sort_eq}
+use Rattle.model_shapes.specs.Sorts.{DataSort, Sort, shape, outer}
 use Rattle.model_formulas.specs.Variables.{Var}
-use Rattle.model_formulas.specs.Terms.{Term, term_eq}
+use Rattle.model_formulas.specs.Terms.{Term}
 
 -- where the hole of a concatenation is: none, in the left part, or in the right part
 pub data Side : Type 0 where
@@ -84,7 +83,3 @@ is_pure (equality a b) = true
 is_pure (at_most a b) = true
 is_pure (value_meets s a p) = true
 is_pure p = false
-
--- nameless formulas are equal or not
-pub formula_eq : Discrete Formula
-formula_eq = FormulaOf-discrete sort_eq term_eq DataSort-discrete Side-discrete sort_eq

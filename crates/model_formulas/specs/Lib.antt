@@ -5,6 +5,7 @@ pub mod Formulas
 pub mod Substitution
 pub mod Nameless
 pub mod WellSorted
+pub mod Parts
 pub mod SameFormulas
 pub mod Satisfaction
 pub mod Setting

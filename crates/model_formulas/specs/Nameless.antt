@@ -3,7 +3,8 @@
 -- equal up to the names of bound variables.
 use Rattle.std.specs.Prelude.{◌≡◌, zero, List, [], ◌∷◌}
 use Rattle.model_formulas.specs.Variables.{Var, bound, var_sort}
-use Rattle.model_formulas.specs.Terms.{variable, raised_var, Substitution, term_with, var_eq}
+use Rattle.model_formulas.specs.VariableTests.{var_eq}
+use Rattle.model_formulas.specs.Terms.{variable, raised_var, Substitution, term_with}
 use Rattle.model_formulas.specs.Formulas.{Named, Formula, truth, falsity, conjunction, disjunction, implication, negation, existential, universal, equality, at_most, empty, bare_hole, node_formula, one_tree, one_root, concatenation, grove_sum, grove_sum_hole, application, hole_adjoint, context_adjoint, same_as, length_is, value_meets}
 
 -- a variable that the nearest binder binds, or one that is bound or free further out

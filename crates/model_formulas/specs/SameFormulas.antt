@@ -1,13 +1,22 @@
--- Needn't be believed: a law says what they test. The tests of sameness, which compute: of terms and of
--- nameless formulas.
+-- Needn't be believed: the types of some say all, and a law says it of the others. Tests of equality,
+-- of terms and of nameless formulas.
 use Rattle.std.specs.Prelude.{Bool, true, false, ◌&&◌}
-use Rattle.model_shapes.specs.Sorts.{same_data_sort, same_sort}
-use Rattle.model_shapes.specs.Values.{same_value}
-use Rattle.model_formulas.specs.Variables.{same_var}
-use Rattle.model_formulas.specs.Terms.{Term, literal, variable, sum, difference, appended}
-use Rattle.model_formulas.specs.Formulas.{Formula, Side, whole, hole_left, hole_right, truth, falsity, conjunction, disjunction, implication, negation, existential, universal, equality, at_most, empty, bare_hole, node_formula, one_tree, one_root, concatenation, grove_sum, grove_sum_hole, application, hole_adjoint, context_adjoint, same_as, length_is, value_meets}
+use mathlib.Core.HLevel.{Discrete}
+use Rattle.model_shapes.specs.Sorts.{DataSort-discrete}
+use Rattle.model_shapes.specs.Tests.{same_sort, same_data_sort, same_value, sort_eq, value_eq}
+use Rattle.model_formulas.specs.VariableTests.{same_var, var_eq}
+use Rattle.model_formulas.specs.Terms.{Term, Term-discrete, literal, variable, sum, difference, appended}
+use Rattle.model_formulas.specs.Formulas.{Formula, FormulaOf-discrete, Side, Side-discrete, whole, hole_left, hole_right, truth, falsity, conjunction, disjunction, implication, negation, existential, universal, equality, at_most, empty, bare_hole, node_formula, one_tree, one_root, concatenation, grove_sum, grove_sum_hole, application, hole_adjoint, context_adjoint, same_as, length_is, value_meets}
 
--- of terms
+-- terms are equal or not
+pub term_eq : Discrete Term
+term_eq = Term-discrete value_eq var_eq
+
+-- nameless formulas are equal or not
+pub formula_eq : Discrete Formula
+formula_eq = FormulaOf-discrete sort_eq term_eq DataSort-discrete Side-discrete sort_eq
+
+-- tests that compute: of terms
 abbrev pub same_term : Term → Term → Bool
 same_term (literal v) (literal w) = same_value v w
 same_term (variable x) (variable y) = same_var x y

@@ -3,7 +3,7 @@
 use Rattle.std.specs.Prelude.{◌≡◌}
 use Rattle.model_shapes.specs.Things.{Thing}
 use Rattle.model_formulas.specs.Variables.{Var}
-use Rattle.model_formulas.specs.Terms.{var_eq}
+use Rattle.model_formulas.specs.VariableTests.{var_eq}
 use Rattle.model_formulas.specs.Satisfaction.{Environment}
 
 -- what a variable stands for: the thing where it is the one that is set, and else what it did

@@ -1,11 +1,18 @@
--- Needn't be believed: lemmas. What the test of sameness of variables says, by which equality of
--- variables is decided: that the two are equal.
-use Rattle.std.specs.Prelude.{◌≡◌, true, false, ◌&&◌, bytes_eq, ◌==◌}
-use Rattle.std.proofs.Common.{subst}
-use Rattle.model_shapes.specs.Sorts.{same_value_sort, same_sort}
+-- Needn't be believed: the type of `var_eq` says all. Variables are equal or not, by a test that
+-- computes, and that says that the two are equal.
+use Rattle.std.specs.Prelude.{◌≡◌, true, false, Bool, ◌&&◌, bytes_eq, ◌==◌}
+use Rattle.std.proofs.Common.{refl, subst}
+use Rattle.model_shapes.specs.Tests.{same_sort, same_value_sort}
 use Rattle.model_shapes.proofs.Truth.{false≢true, both_true}
 use Rattle.model_shapes.proofs.Tests.{same_value_sort-is, same_value_sort-refl, same_sort-is, same_sort-refl, bytes-is, bytes-refl, nat-is, nat-refl}
-use Rattle.model_formulas.specs.Variables.{Var, prog, logic, bound, same_var}
+use Rattle.model_formulas.specs.Variables.{Var, prog, logic, bound}
+
+-- whether two variables are equal
+abbrev pub same_var : Var → Var → Bool
+same_var (prog x s) (prog y u) = bytes_eq x y && same_value_sort s u
+same_var (logic x s) (logic y u) = bytes_eq x y && same_sort s u
+same_var (bound i s) (bound j u) = (i == j) && same_sort s u
+same_var x y = false
 
 -- the test of variables
 pub same_var-is : (x y : Var) → same_var x y ≡ true → x ≡ y
@@ -31,3 +38,12 @@ same_var-refl (bound k s) = λ i. nat-refl k i && same_sort-refl s i
 pub same_var-not : (x y : Var) → same_var x y ≡ false → x ≡ y → ⊥
 same_var-not x y h e = let z : same_var x y ≡ true =
     subst (λ u. same_var x u ≡ true) e (same_var-refl x) in (cc)
+
+-- a decision from a test that is right; it computes wherever the test does
+abbrev pub decided : {A : Type 0} (b : Bool) → (b ≡ true → A) → (b ≡ false → A → ⊥) → Dec A
+decided true f g = yes (f refl)
+decided false f g = no (g refl)
+
+-- variables and terms are equal or not
+abbrev pub var_eq : (x y : Var) → Dec (x ≡ y)
+var_eq x y = decided (same_var x y) (same_var-is x y) (same_var-not x y)

@@ -1,8 +1,9 @@
 -- The sorts of formulas: at which sort a formula may be judged, and its first part at fault.
 -- Parts are formulas, counted from 0, a formula before its parts; a term at fault is its formula's.
-use Rattle.std.specs.Prelude.{ℕ, ◌+◌, Bool, true, false, ◌&&◌, ◌||◌, not, Option, List, [], ◌∷◌, ◌++◌}
+use Rattle.std.specs.Prelude.{ℕ, Bool, true, false, ◌&&◌, ◌||◌, not, Option, List, [], ◌∷◌, ◌++◌}
 use Rattle.std.specs.List.{position_from}
-use Rattle.model_shapes.specs.Sorts.{Sort, value, shape, context, ValueSort, node_sort, list_sort, int_sort, str_sort, bool_sort, DataSort, tree, forest, grove, is_sort, outer, inner, with_outer, same_value_sort, same_data_sort, same_sort}
+use Rattle.model_shapes.specs.Tests.{same_sort, same_data_sort, same_value_sort}
+use Rattle.model_shapes.specs.Sorts.{Sort, value, shape, context, ValueSort, node_sort, list_sort, int_sort, str_sort, bool_sort, DataSort, tree, forest, grove, is_sort, outer, inner, with_outer}
 use Rattle.model_shapes.specs.Values.{Value, node_number, list_number, value_sort}
 use Rattle.model_formulas.specs.Variables.{Var, prog, logic, bound}
 use Rattle.model_formulas.specs.Terms.{Term, literal, variable, sum, difference, appended}
@@ -122,30 +123,3 @@ flags (value_meets u a p) s = (is_form s && (is_form u && variable_at u a)) ∷ 
 -- the place of the first part at fault of a formula judged at the sort
 abbrev pub first_fault : Named → Sort → Option ℕ
 first_fault p s = position_from not 0 (flags p s)
-
--- how many parts a formula has, itself included
-abbrev pub parts : Named → ℕ
-parts truth = 1
-parts falsity = 1
-parts (conjunction p q) = 1 + (parts p + parts q)
-parts (disjunction p q) = 1 + (parts p + parts q)
-parts (implication p q) = 1 + (parts p + parts q)
-parts (negation p) = 1 + parts p
-parts (existential x p) = 1 + parts p
-parts (universal x p) = 1 + parts p
-parts (equality a b) = 1
-parts (at_most a b) = 1
-parts (empty k) = 1
-parts (bare_hole h) = 1
-parts (node_formula name number p list) = 1 + parts p
-parts (one_tree p) = 1 + parts p
-parts (one_root p) = 1 + parts p
-parts (concatenation side p q) = 1 + (parts p + parts q)
-parts (grove_sum p q) = 1 + (parts p + parts q)
-parts (grove_sum_hole p q) = 1 + (parts p + parts q)
-parts (application h p q) = 1 + (parts p + parts q)
-parts (hole_adjoint p q) = 1 + (parts p + parts q)
-parts (context_adjoint k p q) = 1 + (parts p + parts q)
-parts (same_as a) = 1
-parts (length_is a) = 1
-parts (value_meets s a p) = 1 + parts p

@@ -9,12 +9,14 @@ ghost use Rattle.model_shapes.specs.Shapes.{Same, Shaped};
 ghost use Rattle.model_shapes.specs.Trees.{Trees};
 ghost use Rattle.model_shapes.specs.Things.{Fits};
 ghost use Rattle.model_formulas.specs.Variables.{Var, var_sort};
+ghost use Rattle.model_formulas.specs.VariableTests.{same_var};
 ghost use Rattle.model_formulas.specs.Terms.{Term, variable, Substitution};
 ghost use Rattle.model_formulas.specs.Formulas.{Formula, Named, truth, falsity, conjunction, implication, existential, universal, equality, bare_hole, empty, grove_sum_hole, node_formula, one_root, value_meets, is_pure};
 ghost use Rattle.model_formulas.specs.Substitution.{formula_with, FreeIn, exists, forall, replacing};
 ghost use Rattle.model_formulas.specs.Nameless.{SameFormula, nameless};
 ghost use Rattle.model_formulas.specs.SameFormulas.{same_formula};
-ghost use Rattle.model_formulas.specs.WellSorted.{is_form, has_sort, flags, first_fault, parts};
+ghost use Rattle.model_formulas.specs.WellSorted.{is_form, has_sort, flags, first_fault};
+ghost use Rattle.model_formulas.specs.Parts.{parts};
 ghost use Rattle.model_formulas.specs.Setting.{setting};
 ghost use Rattle.model_formulas.specs.Satisfaction.{Environment, Meets, Entails, Proper, SomeThing, EachThing, Classically, meaning_of};
 
@@ -73,8 +75,10 @@ pub fn quantifiers_close_over_their_variable()
     ensures each { (x : Var) (p : Named) → nameless (universal x p) ≡ forall x (nameless p) }
 {}
 
-/// The test decides whether two formulas are the same, with names and without.
+/// The test decides whether two formulas are the same, with names and without; and that of variables
+/// whether they are equal.
 pub fn the_test_decides_sameness()
+    ensures variables { (x y : Var) → ((same_var x y ≡ true) ↔ (x ≡ y)) }
     ensures nameless { (p q : Formula) → ((same_formula p q ≡ true) ↔ (p ≡ q)) }
     ensures named { (p q : Named)
         → ((same_formula (nameless p) (nameless q) ≡ true) ↔ SameFormula p q) }

@@ -1,8 +1,13 @@
--- What the tests of equality say, of sorts, texts and numbers: that the two are equal.
-use Rattle.std.proofs.Common.{◌≡◌, ℕ, refl, ap, true, ◌&&◌, bytes_eq, ◌==◌, rules}
+-- What the tests of equality say, of sorts, texts, numbers and values: that the two are equal.
+use Rattle.std.proofs.Common.{◌≡◌, ℕ, ℤ, int_le, refl, ap, Bool, true, false, ◌&&◌, bytes_eq, ◌==◌, rules}
+use Rattle.std.proofs.lemmas.Int.{ints}
 use Rattle.std.proofs.lemmas.Slice.Eq.{bytes_eq-Decides}
-use Rattle.model_shapes.specs.Sorts.{ValueSort, node_sort, list_sort, int_sort, str_sort, bool_sort, DataSort, tree, forest, grove, Sort, value, shape, context, same_value_sort, same_data_sort, same_sort}
-use Rattle.model_shapes.specs.Values.{Text}
+use mathlib.Core.HLevel.{Discrete}
+use Rattle.model_shapes.specs.Sorts.{ValueSort, node_sort, list_sort, int_sort, str_sort, bool_sort, DataSort, tree, forest, grove, Sort, value, shape, context}
+use Rattle.model_shapes.specs.Values.{Text, Value, null, nolist, node_number, list_number, int, str, boolean}
+use Rattle.model_shapes.specs.Tests.{same_value_sort, same_data_sort, same_sort, int_eq, same_bool, same_value, value_eq}
+use Rattle.model_shapes.specs.Trees.{trees_eq}
+use Rattle.model_shapes.specs.Things.{Thing, Thing-discrete}
 use Rattle.model_shapes.proofs.Truth.{false≢true, both_true}
 
 -- the test of value sorts says that they are equal
@@ -66,3 +71,45 @@ nat-is i j e = search rules
 -- of each and itself
 pub nat-refl : (i : ℕ) → (i == i) ≡ true
 nat-refl i = search rules
+
+int-is : (a b : ℤ) → int_eq a b ≡ true → a ≡ b
+int-is a b e = let h : (int_le a b ≡ true) × (int_le b a ≡ true) =
+    both_true (int_le a b) (int_le b a) e in search (rules, ints)
+
+int-refl : (a : ℤ) → int_eq a a ≡ true
+int-refl a = search (rules, ints)
+
+same_bool-is : (a b : Bool) → same_bool a b ≡ true → a ≡ b
+same_bool-is true true e = refl
+same_bool-is true false e = false≢true e
+same_bool-is false true e = false≢true e
+same_bool-is false false e = refl
+
+same_bool-refl : (a : Bool) → same_bool a a ≡ true
+same_bool-refl true = refl
+same_bool-refl false = refl
+
+-- the test of values says that they are equal
+pub same_value-is : (v w : Value) → same_value v w ≡ true → v ≡ w
+same_value-is null null e = refl
+same_value-is nolist nolist e = refl
+same_value-is (int a) (int b) e = ap int (int-is a b e)
+same_value-is (str a) (str b) e = ap str (bytes-is a b e)
+same_value-is (boolean a) (boolean b) e = ap boolean (same_bool-is a b e)
+same_value-is (node_number a) (node_number b) e = ap node_number (nat-is a b e)
+same_value-is (list_number a) (list_number b) e = ap list_number (nat-is a b e)
+same_value-is v w e = false≢true e
+
+-- and it says so of each value and itself
+pub same_value-refl : (v : Value) → same_value v v ≡ true
+same_value-refl null = refl
+same_value-refl nolist = refl
+same_value-refl (int a) = int-refl a
+same_value-refl (str a) = bytes-refl a
+same_value-refl (boolean a) = same_bool-refl a
+same_value-refl (node_number a) = nat-refl a
+same_value-refl (list_number a) = nat-refl a
+
+-- things are equal or not
+pub thing_eq : Discrete Thing
+thing_eq = Thing-discrete value_eq trees_eq

@@ -1,5 +1,6 @@
 pub mod Sorts
 pub mod Values
+pub mod Tests
 pub mod Trees
 pub mod Shapes
 pub mod Things

@@ -1,7 +1,6 @@
 -- The sorts of values, of data and of contexts.
 -- Data sorts and contexts are those of POPL 2005 and PODS 2008; value sorts are the language's own.
-use Rattle.std.specs.Prelude.{Bool, true, false, ◌&&◌}
-use mathlib.Core.HLevel.{Discrete}
+use Rattle.std.specs.Prelude.{Bool, true, false}
 
 -- the sorts of values: node numbers, list numbers, integers, texts and truth values
 pub data ValueSort : Type 0 where
@@ -47,30 +46,3 @@ abbrev pub with_outer : DataSort → Sort → Sort
 with_outer k (value v) = value v
 with_outer k (shape j) = shape k
 with_outer k (context h j) = context h k
-
--- the tests of equality: of value sorts
-abbrev pub same_value_sort : ValueSort → ValueSort → Bool
-same_value_sort node_sort node_sort = true
-same_value_sort list_sort list_sort = true
-same_value_sort int_sort int_sort = true
-same_value_sort str_sort str_sort = true
-same_value_sort bool_sort bool_sort = true
-same_value_sort a b = false
-
--- of data sorts
-abbrev pub same_data_sort : DataSort → DataSort → Bool
-same_data_sort tree tree = true
-same_data_sort forest forest = true
-same_data_sort grove grove = true
-same_data_sort a b = false
-
--- of sorts
-abbrev pub same_sort : Sort → Sort → Bool
-same_sort (value a) (value b) = same_value_sort a b
-same_sort (shape a) (shape b) = same_data_sort a b
-same_sort (context h k) (context i l) = same_data_sort h i && same_data_sort k l
-same_sort a b = false
-
--- sorts are equal or not
-pub sort_eq : Discrete Sort
-sort_eq = Sort-discrete ValueSort-discrete DataSort-discrete

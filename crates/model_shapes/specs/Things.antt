@@ -1,8 +1,7 @@
 -- What variables stand for and quantifiers range over: values, shapes and contexts.
-use mathlib.Core.HLevel.{Discrete}
 use Rattle.model_shapes.specs.Sorts.{Sort, value, shape, context}
-use Rattle.model_shapes.specs.Values.{Value, FitsValue, value_eq}
-use Rattle.model_shapes.specs.Trees.{Trees, trees_eq}
+use Rattle.model_shapes.specs.Values.{Value, FitsValue}
+use Rattle.model_shapes.specs.Trees.{Trees}
 use Rattle.model_shapes.specs.Shapes.{Shaped, HolePlaced}
 
 -- a value, or a shape or context
@@ -19,7 +18,3 @@ Fits (shape k) (val x) = ⊥
 Fits (shape k) (trees r) = Shaped (shape k) r
 Fits (context h k) (val x) = ⊥
 Fits (context h k) (trees r) = Shaped (context h k) r × HolePlaced k r
-
--- things are equal or not
-pub thing_eq : Discrete Thing
-thing_eq = Thing-discrete value_eq trees_eq

@@ -3,7 +3,8 @@
 use Rattle.std.specs.Prelude.{◌≡◌, ℕ, ◌+◌, ◌≤◌}
 use Rattle.std.proofs.Math.Decide.{ℕ_discrete}
 use mathlib.Core.HLevel.{Discrete}
-use Rattle.model_shapes.specs.Values.{Name, text_eq}
+use Rattle.model_shapes.specs.Values.{Name}
+use Rattle.model_shapes.specs.Tests.{text_eq}
 
 -- A list of roots. A node has its name, its node number, its children, its list number and the
 -- roots that follow it; a hole has the roots that follow it.

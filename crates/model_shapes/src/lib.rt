@@ -4,7 +4,9 @@
 #![tactic(auto)]
 
 ghost use Rattle.std.specs.Prelude.{◌≡◌, ◌↔◌, true};
-ghost use Rattle.model_shapes.specs.Sorts.{DataSort, tree, forest, grove, Sort, shape, context, with_outer, is_sort};
+ghost use Rattle.model_shapes.specs.Sorts.{ValueSort, DataSort, tree, forest, grove, Sort, shape, context, with_outer, is_sort};
+ghost use Rattle.model_shapes.specs.Values.{Value};
+ghost use Rattle.model_shapes.specs.Tests.{same_value_sort, same_data_sort, same_sort, same_value};
 ghost use Rattle.model_shapes.specs.Trees.{Trees, none, hole, beside, fill, WellFormed};
 ghost use Rattle.model_shapes.specs.Shapes.{holes, Shaped, Same, SameAt};
 ghost use Rattle.model_shapes.specs.Things.{Thing, trees, Fits};
@@ -15,6 +17,14 @@ ghost use Rattle.model_shapes.specs.Contexts.{TreeContext, ForestContext, Forest
 pub fn sorts_have_things()
     ensures inhabited { (s : Sort) → is_sort s ≡ true → (x : Thing) × Fits s x }
     ensures only { (s : Sort) (x : Thing) → Fits s x → is_sort s ≡ true }
+{}
+
+/// The tests of equality that compute say yes exactly of what is equal.
+pub fn tests_are_of_equality()
+    ensures value_sorts { (a b : ValueSort) → ((same_value_sort a b ≡ true) ↔ (a ≡ b)) }
+    ensures data_sorts { (a b : DataSort) → ((same_data_sort a b ≡ true) ↔ (a ≡ b)) }
+    ensures sorts { (a b : Sort) → ((same_sort a b ≡ true) ↔ (a ≡ b)) }
+    ensures values { (a b : Value) → ((same_value a b ≡ true) ↔ (a ≡ b)) }
 {}
 
 /// Each well-formed shape or context of a sort is the same as one that fits, and whatever fits is

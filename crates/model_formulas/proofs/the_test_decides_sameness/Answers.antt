@@ -1,5 +1,5 @@
 use Rattle.model_formulas.specs.Nameless.{nameless}
-use Rattle.model_formulas.proofs.SameFormulas.{same_formula-both}
+use Rattle.model_formulas.proofs.SameFormulas.{same_var-both, same_formula-both}
 use Rattle.model_formulas.proofs.the_test_decides_sameness.Goals as goal
 
 pub returns-clause-nameless : goal.returns-clause-nameless
@@ -7,3 +7,6 @@ returns-clause-nameless c = same_formula-both
 
 pub returns-clause-named : goal.returns-clause-named
 returns-clause-named c = λ p q. same_formula-both (nameless p) (nameless q)
+
+pub returns-clause-variables : goal.returns-clause-variables
+returns-clause-variables c = same_var-both
