@@ -12,15 +12,13 @@ pub data Side : Type 0 where
 
 -- the sort of the left part of a concatenation: where one part has the hole, the other is a shape
 abbrev pub left_sort : Side → Sort → Sort
-left_sort whole s = s
-left_sort hole_left s = s
 left_sort hole_right s = shape (outer s)
+left_sort side s = s
 
 -- the sort of its right part
 abbrev pub right_sort : Side → Sort → Sort
-right_sort whole s = s
 right_sort hole_left s = shape (outer s)
-right_sort hole_right s = s
+right_sort side s = s
 
 -- A formula over `Binder`, what a quantifier holds of its variable.
 pub data FormulaOf (Binder : Type 0) : Type 0 where

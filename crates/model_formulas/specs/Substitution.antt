@@ -1,45 +1,49 @@
 -- Substitution in nameless formulas, and the variables that stand free in them.
 -- A quantifier has no name there, so nothing can be captured.
 use Rattle.std.specs.Prelude.{◌≡◌, ◌⊎◌, zero}
+use Rattle.model_shapes.specs.Sorts.{Sort}
 use Rattle.model_formulas.specs.Variables.{Var, bound, var_sort}
 use Rattle.model_formulas.specs.VariableTests.{var_eq}
 use Rattle.model_formulas.specs.Terms.{Term, variable, raised, raised_var, InTerm, Substitution, under_binder, term_with}
-use Rattle.model_formulas.specs.Formulas.{Formula, truth, falsity, conjunction, disjunction, implication, negation, existential, universal, equality, at_most, empty, bare_hole, node_formula, one_tree, one_root, concatenation, grove_sum, grove_sum_hole, application, hole_adjoint, context_adjoint, same_as, length_is, value_meets}
+use Rattle.model_formulas.specs.Formulas.{FormulaOf, Formula, truth, falsity, conjunction, disjunction, implication, negation, existential, universal, equality, at_most, empty, bare_hole, node_formula, one_tree, one_root, concatenation, grove_sum, grove_sum_hole, application, hole_adjoint, context_adjoint, same_as, length_is, value_meets}
+
+-- A formula with each of its terms changed, and of each binder its sort alone. How terms are changed
+-- may depend on the binders passed: `below` is the change below one more.
+module _ {Binder Change : Type 0} (sort : Binder → Sort) (below : Binder → Change → Change)
+    (change : Change → Term → Term) where
+  abbrev pub with_terms : Change → FormulaOf Binder → Formula
+  with_terms c truth = truth
+  with_terms c falsity = falsity
+  with_terms c (conjunction p q) = conjunction (with_terms c p) (with_terms c q)
+  with_terms c (disjunction p q) = disjunction (with_terms c p) (with_terms c q)
+  with_terms c (implication p q) = implication (with_terms c p) (with_terms c q)
+  with_terms c (negation p) = negation (with_terms c p)
+  with_terms c (existential x p) = existential (sort x) (with_terms (below x c) p)
+  with_terms c (universal x p) = universal (sort x) (with_terms (below x c) p)
+  with_terms c (equality a b) = equality (change c a) (change c b)
+  with_terms c (at_most a b) = at_most (change c a) (change c b)
+  with_terms c (empty k) = empty k
+  with_terms c (bare_hole h) = bare_hole h
+  with_terms c (node_formula name number p list) =
+      node_formula (change c name) (change c number) (with_terms c p) (change c list)
+  with_terms c (one_tree p) = one_tree (with_terms c p)
+  with_terms c (one_root p) = one_root (with_terms c p)
+  with_terms c (concatenation side p q) = concatenation side (with_terms c p) (with_terms c q)
+  with_terms c (grove_sum p q) = grove_sum (with_terms c p) (with_terms c q)
+  with_terms c (grove_sum_hole p q) = grove_sum_hole (with_terms c p) (with_terms c q)
+  with_terms c (application h p q) = application h (with_terms c p) (with_terms c q)
+  with_terms c (hole_adjoint p q) = hole_adjoint (with_terms c p) (with_terms c q)
+  with_terms c (context_adjoint k p q) = context_adjoint k (with_terms c p) (with_terms c q)
+  with_terms c (same_as a) = same_as (change c a)
+  with_terms c (length_is a) = length_is (change c a)
+  with_terms c (value_meets s a p) = value_meets s (change c a) (with_terms c p)
 
 -- the formula with a term for each variable
 abbrev pub formula_with : Substitution → Formula → Formula
-formula_with f truth = truth
-formula_with f falsity = falsity
-formula_with f (conjunction p q) = conjunction (formula_with f p) (formula_with f q)
-formula_with f (disjunction p q) = disjunction (formula_with f p) (formula_with f q)
-formula_with f (implication p q) = implication (formula_with f p) (formula_with f q)
-formula_with f (negation p) = negation (formula_with f p)
-formula_with f (existential s p) = existential s (formula_with (under_binder f) p)
-formula_with f (universal s p) = universal s (formula_with (under_binder f) p)
-formula_with f (equality a b) = equality (term_with f a) (term_with f b)
-formula_with f (at_most a b) = at_most (term_with f a) (term_with f b)
-formula_with f (empty k) = empty k
-formula_with f (bare_hole h) = bare_hole h
-formula_with f (node_formula name number p list) =
-    node_formula (term_with f name) (term_with f number) (formula_with f p) (term_with f list)
-formula_with f (one_tree p) = one_tree (formula_with f p)
-formula_with f (one_root p) = one_root (formula_with f p)
-formula_with f (concatenation side p q) =
-    concatenation side (formula_with f p) (formula_with f q)
-formula_with f (grove_sum p q) = grove_sum (formula_with f p) (formula_with f q)
-formula_with f (grove_sum_hole p q) = grove_sum_hole (formula_with f p) (formula_with f q)
-formula_with f (application h p q) = application h (formula_with f p) (formula_with f q)
-formula_with f (hole_adjoint p q) = hole_adjoint (formula_with f p) (formula_with f q)
-formula_with f (context_adjoint k p q) =
-    context_adjoint k (formula_with f p) (formula_with f q)
-formula_with f (same_as a) = same_as (term_with f a)
-formula_with f (length_is a) = length_is (term_with f a)
-formula_with f (value_meets s a p) = value_meets s (term_with f a) (formula_with f p)
+formula_with = with_terms (λ s. s) (λ s. under_binder) term_with
 
 -- the variable stands free in the formula
 abbrev pub FreeIn : Var → Formula → Type 0
-FreeIn x truth = ⊥
-FreeIn x falsity = ⊥
 FreeIn x (conjunction p q) = FreeIn x p ⊎ FreeIn x q
 FreeIn x (disjunction p q) = FreeIn x p ⊎ FreeIn x q
 FreeIn x (implication p q) = FreeIn x p ⊎ FreeIn x q
@@ -48,8 +52,6 @@ FreeIn x (existential s p) = FreeIn (raised_var x) p
 FreeIn x (universal s p) = FreeIn (raised_var x) p
 FreeIn x (equality a b) = InTerm x a ⊎ InTerm x b
 FreeIn x (at_most a b) = InTerm x a ⊎ InTerm x b
-FreeIn x (empty k) = ⊥
-FreeIn x (bare_hole h) = ⊥
 FreeIn x (node_formula name number p list) =
     InTerm x name ⊎ (InTerm x number ⊎ (FreeIn x p ⊎ InTerm x list))
 FreeIn x (one_tree p) = FreeIn x p
@@ -63,6 +65,7 @@ FreeIn x (context_adjoint k p q) = FreeIn x p ⊎ FreeIn x q
 FreeIn x (same_as a) = InTerm x a
 FreeIn x (length_is a) = InTerm x a
 FreeIn x (value_meets s a p) = InTerm x a ⊎ FreeIn x p
+FreeIn x p = ⊥
 
 -- a variable bound by a new binder round the formula, and every other one
 abbrev pub closing_at : {x y : Var} → Dec (y ≡ x) → Term

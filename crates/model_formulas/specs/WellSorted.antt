@@ -7,7 +7,7 @@ use Rattle.model_shapes.specs.Sorts.{Sort, value, shape, context, ValueSort, nod
 use Rattle.model_shapes.specs.Values.{Value, node_number, list_number, value_sort}
 use Rattle.model_formulas.specs.Variables.{Var, prog, logic, bound}
 use Rattle.model_formulas.specs.Terms.{Term, literal, variable, sum, difference, appended}
-use Rattle.model_formulas.specs.Formulas.{Named, Side, whole, hole_left, hole_right, truth, falsity, conjunction, disjunction, implication, negation, existential, universal, equality, at_most, empty, bare_hole, node_formula, one_tree, one_root, concatenation, grove_sum, grove_sum_hole, application, hole_adjoint, context_adjoint, same_as, length_is, value_meets, left_sort, right_sort}
+use Rattle.model_formulas.specs.Formulas.{Named, Side, whole, truth, falsity, conjunction, disjunction, implication, negation, existential, universal, equality, at_most, empty, bare_hole, node_formula, one_tree, one_root, concatenation, grove_sum, grove_sum_hole, application, hole_adjoint, context_adjoint, same_as, length_is, value_meets, left_sort, right_sort}
 
 -- the values that are literals: no number of a node or a list can be written
 abbrev pub is_literal : Value → Bool
@@ -35,8 +35,7 @@ both_have s a b = has_sort s a && has_sort s b
 -- a sort at which a formula is judged: a data sort, or a context sort that is one
 abbrev pub is_form : Sort → Bool
 is_form (value v) = false
-is_form (shape k) = true
-is_form (context h k) = is_sort (context h k)
+is_form s = is_sort s
 
 -- two logic variables of one data or context sort
 abbrev pub both_logic_of_one_sort : Term → Term → Bool
@@ -66,8 +65,7 @@ has_outer s k = is_form s && same_data_sort (outer s) k
 -- a concatenation of this side stands at the sort
 abbrev pub side_fits : Side → Sort → Bool
 side_fits whole s = is_shape s
-side_fits hole_left s = is_context s
-side_fits hole_right s = is_context s
+side_fits side s = is_context s
 
 -- a logic variable of a sort that is one, as a quantifier takes it
 abbrev pub may_bind : Var → Bool

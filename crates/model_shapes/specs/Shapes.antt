@@ -26,8 +26,7 @@ may_stand h k = false
 -- a tree has one root; a forest and a grove have any number
 abbrev pub HasWidth : DataSort → ℕ → Type 0
 HasWidth tree n = n ≡ 1
-HasWidth forest n = Unit
-HasWidth grove n = Unit
+HasWidth k n = Unit
 
 -- what the hole stands in: a hole among the roots in the whole, and one below them in a forest
 abbrev pub around_hole : DataSort → Trees → DataSort

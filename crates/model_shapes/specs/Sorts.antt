@@ -21,13 +21,9 @@ pub data Sort : Type 0 where
 
 -- which of these are sorts: no tree and no forest has a hole for a grove
 abbrev pub is_sort : Sort → Bool
-is_sort (value v) = true
-is_sort (shape k) = true
-is_sort (context grove grove) = true
 is_sort (context grove tree) = false
 is_sort (context grove forest) = false
-is_sort (context tree k) = true
-is_sort (context forest k) = true
+is_sort s = true
 
 -- the data sort that a shape has and that a context gives; of a value sort nothing is asked
 abbrev pub outer : Sort → DataSort
