@@ -30,26 +30,27 @@ plain_env-proper =
     record {
       programs = λ x s. (some_thing (value s) refl).1;
       logics = λ x s e.
-          go s (is_sort s) refl e;
+          chosen_fits s (is_sort s) refl e;
     }
   where
-    go : (s : Sort) (b : Bool) (q : is_sort s ≡ b) → is_sort s ≡ true → Fits s (chosen s b q)
-    go s true q e = (some_thing s q).1
-    go s false q e = false≢true (sym q ∙ e)
+    chosen_fits : (s : Sort) (b : Bool) (q : is_sort s ≡ b) → is_sort s ≡ true
+        → Fits s (chosen s b q)
+    chosen_fits s true q e = (some_thing s q).1
+    chosen_fits s false q e = false≢true (sym q ∙ e)
 
 -- some shape or context of each sort at which formulas are judged
 some_shape : (s : Sort) → is_form s ≡ true → (r : Trees) × Shaped s r
 some_shape (value v) e = false≢true e
-some_shape (shape k) e = go (some_thing (shape k) refl)
+some_shape (shape k) e = shape_of (some_thing (shape k) refl)
   where
-    go : (x : Thing) × Fits (shape k) x → (r : Trees) × Shaped (shape k) r
-    go (val v, f) = absurd f
-    go (trees r, f) = (r, f)
-some_shape (context h k) e = go (some_thing (context h k) e)
+    shape_of : (x : Thing) × Fits (shape k) x → (r : Trees) × Shaped (shape k) r
+    shape_of (val v, f) = absurd f
+    shape_of (trees r, f) = (r, f)
+some_shape (context h k) e = shape_of (some_thing (context h k) e)
   where
-    go : (x : Thing) × Fits (context h k) x → (r : Trees) × Shaped (context h k) r
-    go (val v, f) = absurd f
-    go (trees r, f) = (r, f.0)
+    shape_of : (x : Thing) × Fits (context h k) x → (r : Trees) × Shaped (context h k) r
+    shape_of (val v, f) = absurd f
+    shape_of (trees r, f) = (r, f.0)
 
 -- truth doesn't entail falsity
 pub consistent : (s : Sort) → is_form s ≡ true → Entails truth falsity s → ⊥

@@ -85,12 +85,12 @@ raised-var (bound i s) = refl
 
 names-closing : (xs : List Var) (x y : Var) → then_with (closing x) (under_binder (naming xs)) y
     ≡ naming (x ∷ xs) y
-names-closing xs x y = go (var_eq y x)
+names-closing xs x y = by_case (var_eq y x)
   where
-    go : (d : Dec (y ≡ x)) → term_with (under_binder (naming xs)) (closing_at d)
+    by_case : (d : Dec (y ≡ x)) → term_with (under_binder (naming xs)) (closing_at d)
         ≡ variable (name_or (names xs y) d)
-    go (yes e) = refl
-    go (no n) = raised-with (naming xs) (variable y) ∙ raised-var (names xs y)
+    by_case (yes e) = refl
+    by_case (no n) = raised-with (naming xs) (variable y) ∙ raised-var (names xs y)
 
 -- the nameless form from the inside out: each quantifier closes over its variable
 abbrev pub closed_form : Named → Formula

@@ -17,22 +17,22 @@ use Rattle.model_formulas.proofs.Substitutes.{raised-meaning, after, with-meets}
 -- closing over a variable, under a binder that has chosen a thing, sets the variable to it
 pub closing-env : (x : Var) (v : Thing) (e : Environment)
     → after (closing x) (choosing v e) ≡ setting x v e
-closing-env x v e = fun_ext (λ y. go y (var_eq y x))
+closing-env x v e = fun_ext (λ y. by_case y (var_eq y x))
   where
-    go : (y : Var) (d : Dec (y ≡ x))
+    by_case : (y : Var) (d : Dec (y ≡ x))
         → meaning_of (choosing v e) (closing_at d) ≡ setting_at v e d
-    go y (yes q) = refl
-    go y (no n) = raised-meaning e v (variable y)
+    by_case y (yes q) = refl
+    by_case y (no n) = raised-meaning e v (variable y)
 
 -- replacing a variable by a term sets it to what the term stands for
 pub replacing-env : (x : Var) (t : Term) (e : Environment)
     → after (replacing x t) e ≡ setting x (meaning_of e t) e
-replacing-env x t e = fun_ext (λ y. go y (var_eq y x))
+replacing-env x t e = fun_ext (λ y. by_case y (var_eq y x))
   where
-    go : (y : Var) (d : Dec (y ≡ x))
+    by_case : (y : Var) (d : Dec (y ≡ x))
         → meaning_of e (replacing_at t d) ≡ setting_at (meaning_of e t) e d
-    go y (yes q) = refl
-    go y (no n) = refl
+    by_case y (yes q) = refl
+    by_case y (no n) = refl
 
 module _ (x : Var) (p : Formula) (e : Environment) where
   -- the formula below the binder, with the variable set

@@ -90,7 +90,7 @@ closed-alike : (x y : Var) (p : Formula) → var_sort x ≡ var_sort y → (Free
     ≡ formula_with (closing y) (formula_with (replacing x (variable y)) p)
 closed-alike x y p same not_free =
     with-alike p (closing x) (then_with (replacing x (variable y)) (closing y))
-    (λ z free. go z free (var_eq z x))
+    (λ z free. by_case z free (var_eq z x))
     ∙ sym (formula-then p (replacing x (variable y)) (closing y))
   where
     at-name : (d : Dec (y ≡ y)) → variable (bound zero (var_sort x)) ≡ closing_at {x = y} d
@@ -101,10 +101,10 @@ closed-alike x y p same not_free =
     at-other z free (yes q) = absurd (not_free (subst (λ u. FreeIn u p) q free))
     at-other z free (no n) = refl
 
-    go : (z : Var) → FreeIn z p → (d : Dec (z ≡ x))
+    by_case : (z : Var) → FreeIn z p → (d : Dec (z ≡ x))
         → closing_at d ≡ term_with (closing y) (replacing_at (variable y) d)
-    go z free (yes q) = at-name (var_eq y y)
-    go z free (no n) = at-other z free (var_eq z y)
+    by_case z free (yes q) = at-name (var_eq y y)
+    by_case z free (no n) = at-other z free (var_eq z y)
 
 -- a bound variable may be renamed to one that isn't free
 pub exists-renamed : (x y : Var) (p : Formula) → var_sort x ≡ var_sort y → (FreeIn y p → ⊥)

@@ -1,5 +1,5 @@
--- Needn't be believed: the types of some say all, and a law says it of the others. Tests of equality,
--- of terms and of nameless formulas.
+-- Needn't be believed: the types of some say all, and a law says it of the others. Tests of
+-- equality, of terms and of nameless formulas.
 use Rattle.std.specs.Prelude.{Bool, true, false, ◌&&◌}
 use mathlib.Core.HLevel.{Discrete}
 use Rattle.model_shapes.specs.Sorts.{DataSort-discrete}

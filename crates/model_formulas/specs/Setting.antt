@@ -1,5 +1,5 @@
--- Needn't be believed: no definition rests on it. An environment with one variable set to a thing: how
--- the laws about quantifiers speak of named variables.
+-- Needn't be believed: no definition rests on it. An environment with one variable set to a thing:
+-- how the laws about quantifiers speak of named variables.
 use Rattle.std.specs.Prelude.{◌≡◌}
 use Rattle.model_shapes.specs.Things.{Thing}
 use Rattle.model_formulas.specs.Variables.{Var}

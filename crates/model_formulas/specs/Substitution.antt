@@ -7,8 +7,8 @@ use Rattle.model_formulas.specs.VariableTests.{var_eq}
 use Rattle.model_formulas.specs.Terms.{Term, variable, raised, raised_var, InTerm, Substitution, under_binder, term_with}
 use Rattle.model_formulas.specs.Formulas.{FormulaOf, Formula, truth, falsity, conjunction, disjunction, implication, negation, existential, universal, equality, at_most, empty, bare_hole, node_formula, one_tree, one_root, concatenation, grove_sum, grove_sum_hole, application, hole_adjoint, context_adjoint, same_as, length_is, value_meets}
 
--- A formula with each of its terms changed, and of each binder its sort alone. How terms are changed
--- may depend on the binders passed: `below` is the change below one more.
+-- A formula with each of its terms changed, and of each binder its sort alone. How terms are
+-- changed may depend on the binders passed: `below` is the change below one more.
 module _ {Binder Change : Type 0} (sort : Binder → Sort) (below : Binder → Change → Change)
     (change : Change → Term → Term) where
   abbrev pub with_terms : Change → FormulaOf Binder → Formula

@@ -75,8 +75,8 @@ pub fn quantifiers_close_over_their_variable()
     ensures each { (x : Var) (p : Named) → nameless (universal x p) ≡ forall x (nameless p) }
 {}
 
-/// The test decides whether two formulas are the same, with names and without; and that of variables
-/// whether they are equal.
+/// The test decides whether two formulas are the same, with names and without; and that of
+/// variables whether they are equal.
 pub fn the_test_decides_sameness()
     ensures variables { (x y : Var) → ((same_var x y ≡ true) ↔ (x ≡ y)) }
     ensures nameless { (p q : Formula) → ((same_formula p q ≡ true) ↔ (p ≡ q)) }

@@ -116,11 +116,11 @@ in_forest h (hole r) e o =
     let x : (x : ForestInner) × (inner_thing x ≡ hole none) × (inner_hole_sort x ≡ h)
     × InnerBare x = hole_part h e in
     (between none x.0 r, ap (λ z. beside z r) x.1, x.2, (refl, x.3, omega (arith, o)))
-in_forest h (node s i k l r) e o = go (holes k) refl (in_forest h k e) (in_forest h r e)
+in_forest h (node s i k l r) e o = by_holes (holes k) refl (in_forest h k e) (in_forest h r e)
   where
-    go : (n : ℕ) → holes k ≡ n → (holes k ≡ 1 → InForest h k) → (holes r ≡ 1 → InForest h r)
+    by_holes : (n : ℕ) → holes k ≡ n → (holes k ≡ 1 → InForest h k) → (holes r ≡ 1 → InForest h r)
         → InForest h (node s i k l r)
-    go zero z ink inrest = later (inrest (omega arith))
+    by_holes zero z ink inrest = later (inrest (omega arith))
       where
         later : InForest h r → InForest h (node s i k l r)
         later (between a x b, eq, so, bare) = (
@@ -129,7 +129,7 @@ in_forest h (node s i k l r) e o = go (holes k) refl (in_forest h k e) (in_fores
           so,
           (omega (arith, z, bare.0), bare.1, bare.2),
         )
-    go (suc n) z ink inrest =
+    by_holes (suc n) z ink inrest =
         let c : InForest h k = ink (omega arith) in (
           between none (one_context (around_node s i c.0 l)) r,
           ap (λ w. node s i w l r) c.1,
@@ -149,13 +149,13 @@ from_forest h r w = in_forest h r (stands (root_holes r) refl) w.holes_fit.one
 pub in_tree : (h : DataSort) (r : Trees) → Shaped (context h tree) r
     → (c : TreeContext) × (tree_thing c ≡ r) × (tree_hole_sort c ≡ h) × TreeBare c
 in_tree h none w = absurd (omega (arith, w.width_fits))
-in_tree h (hole none) w = go h w.holes_fit.stands
+in_tree h (hole none) w = by_sort h w.holes_fit.stands
   where
-    go : (h : DataSort) → may_stand h tree ≡ true
+    by_sort : (h : DataSort) → may_stand h tree ≡ true
         → (c : TreeContext) × (tree_thing c ≡ hole none) × (tree_hole_sort c ≡ h) × TreeBare c
-    go tree e = (tree_hole, refl, refl, tt)
-    go forest e = false≢true e
-    go grove e = false≢true e
+    by_sort tree e = (tree_hole, refl, refl, tt)
+    by_sort forest e = false≢true e
+    by_sort grove e = false≢true e
 in_tree h (hole (node s i k l r)) w = absurd (omega (arith, w.width_fits))
 in_tree h (hole (hole r)) w = absurd (omega (arith, w.width_fits))
 in_tree h (node s i k l none) w =
@@ -191,10 +191,10 @@ marking (hole r) o = record {
   none_before = refl;
   none_after = omega (arith, o);
 }
-marking (node s i k l r) o = go (holes k) refl (marking r)
+marking (node s i k l r) o = by_holes (holes k) refl (marking r)
   where
-    go : (n : ℕ) → holes k ≡ n → (holes r ≡ 1 → Marking r) → Marking (node s i k l r)
-    go zero z rec =
+    by_holes : (n : ℕ) → holes k ≡ n → (holes r ≡ 1 → Marking r) → Marking (node s i k l r)
+    by_holes zero z rec =
         let m : Marking r = rec (omega arith) in
         record {
           before = node s i k l m.before;
@@ -205,7 +205,7 @@ marking (node s i k l r) o = go (holes k) refl (marking r)
           none_before = omega (arith, z, m.none_before);
           none_after = m.none_after;
         }
-    go (suc n) z rec = record {
+    by_holes (suc n) z rec = record {
       before = none;
       root = node s i k l none;
       after = r;
@@ -233,7 +233,7 @@ InGrove h r =
 
 grove_from : (h : DataSort) (r a t b : Trees) → OneHole h grove r → Marked t
     → (r ≡ beside a (beside t b)) → holes a ≡ 0 → holes b ≡ 0 → InGrove h r
-grove_from h r a (hole none) b o m e za zb = go h (hole-root o root)
+grove_from h r a (hole none) b o m e za zb = by_sort h (hole-root o root)
   where
     root : root_holes r ≡ 1
     root =
@@ -251,10 +251,10 @@ grove_from h r a (hole none) b o m e za zb = go h (hole-root o root)
     same : SameAt grove r (hole (beside a b))
     same u = ap (root_uses u) e ∙ fronted a (hole none) b u
 
-    go : (h : DataSort) → may_stand h grove ≡ true → InGrove h r
-    go tree z = (root_context tree_hole (beside a b), same, refl, (tt, bare))
-    go forest z = false≢true z
-    go grove z = (grove_hole (beside a b), same, refl, bare)
+    by_sort : (h : DataSort) → may_stand h grove ≡ true → InGrove h r
+    by_sort tree z = (root_context tree_hole (beside a b), same, refl, (tt, bare))
+    by_sort forest z = false≢true z
+    by_sort grove z = (grove_hole (beside a b), same, refl, bare)
 grove_from h r a (node s i k l none) b o zk e za zb =
     let none_at_root : root_holes r ≡ 0 =
     omega (
@@ -397,11 +397,11 @@ not-among t r o z h =
 
 same-root : (t t' r r' : Trees) → width t ≡ 1 → width t' ≡ 1 → holes t ≡ 1 → holes r' ≡ 0
     → SameGrove (beside t r) (beside t' r') → root_uses t t ≡ 1 → t ≡ t'
-same-root t t' r r' w w' o z same self = go (root_uses t r') refl
+same-root t t' r r' w w' o z same self = by_uses (root_uses t r') refl
   where
-    go : (n : ℕ) → root_uses t r' ≡ n → t ≡ t'
-    go (suc n) e = absurd (not-among t r' o z (omega (arith, e)))
-    go zero e =
+    by_uses : (n : ℕ) → root_uses t r' ≡ n → t ≡ t'
+    by_uses (suc n) e = absurd (not-among t r' o z (omega (arith, e)))
+    by_uses zero e =
         let x : (l : Trees) × (q : Trees) × (t' ≡ beside l (beside t q)) =
         picked t t'
         (omega (arith, e, self, same t, root_uses-beside t t r, root_uses-beside t t' r')) in

@@ -54,13 +54,14 @@ fill-cancel (hole r) a b o e =
     let z : holes r ≡ 0 = omega arith in
     beside-cancel a b r (ap (beside a) (sym (fill-no_hole r a z)) ∙ e
     ∙ ap (beside b) (fill-no_hole r b z))
-fill-cancel (node s i k l r) a b o e = go (holes k) refl (fill-cancel k a b) (fill-cancel r a b)
+fill-cancel (node s i k l r) a b o e =
+    by_holes (holes k) refl (fill-cancel k a b) (fill-cancel r a b)
   where
-    go : (n : ℕ) → holes k ≡ n → (holes k ≡ 1 → fill k a ≡ fill k b → a ≡ b)
+    by_holes : (n : ℕ) → holes k ≡ n → (holes k ≡ 1 → fill k a ≡ fill k b → a ≡ b)
         → (holes r ≡ 1 → fill r a ≡ fill r b → a ≡ b) → a ≡ b
-    go zero z ink inr' =
+    by_holes zero z ink inr' =
         inr' (omega arith) (node-rest s s i i (fill k a) (fill k b) l l (fill r a) (fill r b) e)
-    go (suc n) z ink inr' =
+    by_holes (suc n) z ink inr' =
         ink (omega arith) (node-kids s s i i (fill k a) (fill k b) l l (fill r a) (fill r b) e)
 
 -- groves, where the hole is for a tree or a forest
@@ -78,18 +79,18 @@ fill-cancel-grove (hole r) a b o one e =
       ap (root_uses t) (fill-no_hole r a z),
       ap (root_uses t) (fill-no_hole r b z),
     ))
-fill-cancel-grove (node s i k l r) a b o one e = go (holes k) refl (fill-cancel-grove r a b)
+fill-cancel-grove (node s i k l r) a b o one e = by_holes (holes k) refl (fill-cancel-grove r a b)
   where
-    go : (n : ℕ) → holes k ≡ n
+    by_holes : (n : ℕ) → holes k ≡ n
         → (holes r ≡ 1 → (root_holes r ≡ 1 → width a ≤ 1) → SameGrove (fill r a) (fill r b)
         → a ≡ b) → a ≡ b
-    go zero z rec = rec (omega arith) one (λ t. omega (
+    by_holes zero z rec = rec (omega arith) one (λ t. omega (
       arith,
       e t,
       ap (λ x. one_if (trees_eq t (node s i x l none))) (fill-no_hole k a z),
       ap (λ x. one_if (trees_eq t (node s i x l none))) (fill-no_hole k b z),
     ))
-    go (suc n) z rec =
+    by_holes (suc n) z rec =
         let y : holes r ≡ 0 = omega arith in
         let same : SameGrove (node s i (fill k a) l none) (node s i (fill k b) l none) =
         λ t. omega (

@@ -42,11 +42,11 @@ swap_in t (hole r) d d' h =
 
 -- a hole for a grove is not below the roots
 pub grove_hole : (k : DataSort) (c : Trees) → OneHole grove k c → holes c ≡ root_holes c
-grove_hole k c o = go (root_holes c) refl
+grove_hole k c o = by_root_holes (root_holes c) refl
   where
-    go : (n : ℕ) → root_holes c ≡ n → holes c ≡ root_holes c
-    go zero e = absurd (false≢true (hole-below o e))
-    go (suc n) e = omega (arith, o.one, root_holes-le c)
+    by_root_holes : (n : ℕ) → root_holes c ≡ n → holes c ≡ root_holes c
+    by_root_holes zero e = absurd (false≢true (hole-below o e))
+    by_root_holes (suc n) e = omega (arith, o.one, root_holes-le c)
 
 -- so it is among the roots
 pub grove_root : (k : DataSort) (c : Trees) → OneHole grove k c → root_holes c ≡ 1
@@ -69,11 +69,12 @@ fill-right grove k c a b o h = fill-right-grove k c a b o h
 -- a hole that may not stand among the roots of a tree is below them
 no_root : (h : DataSort) (c : Trees) → OneHole h tree c → may_stand h tree ≡ false
     → root_holes c ≡ 0
-no_root h c o not = go (root_holes c) refl
+no_root h c o not = by_root_holes (root_holes c) refl
   where
-    go : (m : ℕ) → root_holes c ≡ m → root_holes c ≡ 0
-    go zero e = e
-    go (suc m) e = false≢true (sym not ∙ hole-root o (omega (arith, o.one, root_holes-le c)))
+    by_root_holes : (m : ℕ) → root_holes c ≡ m → root_holes c ≡ 0
+    by_root_holes zero e = e
+    by_root_holes (suc m) e =
+        false≢true (sym not ∙ hole-root o (omega (arith, o.one, root_holes-le c)))
 
 below-width : (c d : Trees) → root_holes c ≡ 0 → width c ≡ 1 → width (fill c d) ≡ 1
 below-width c d z w = omega (arith, width-fill c d, z, ap (λ n. n * width d) z, w)

@@ -26,22 +26,22 @@ pub removed : (t g u : Trees) → 1 ≤ root_uses t g → root_uses u (remove_on
     ≡ root_uses u g
 unfolding remove_one
 removed t none u h = absurd (omega arith)
-removed t (node s i k l r) u h = go (trees_eq t (node s i k l none)) h (removed t r u)
+removed t (node s i k l r) u h = by_case (trees_eq t (node s i k l none)) h (removed t r u)
   where
-    go : (d : Dec (t ≡ node s i k l none)) → 1 ≤ one_if d + root_uses t r
+    by_case : (d : Dec (t ≡ node s i k l none)) → 1 ≤ one_if d + root_uses t r
         → (1 ≤ root_uses t r → root_uses u (remove_one t r) + root_uses u t ≡ root_uses u r)
         → root_uses u (keep_unless d r (node s i k l (remove_one t r))) + root_uses u t
         ≡ root_uses u (node s i k l r)
-    go (yes e) h rec = omega (arith, ap (root_uses u) e)
-    go (no n) h rec = omega (arith, rec (omega arith))
-removed t (hole r) u h = go (trees_eq t (hole none)) h (removed t r u)
+    by_case (yes e) h rec = omega (arith, ap (root_uses u) e)
+    by_case (no n) h rec = omega (arith, rec (omega arith))
+removed t (hole r) u h = by_case (trees_eq t (hole none)) h (removed t r u)
   where
-    go : (d : Dec (t ≡ hole none)) → 1 ≤ one_if d + root_uses t r
+    by_case : (d : Dec (t ≡ hole none)) → 1 ≤ one_if d + root_uses t r
         → (1 ≤ root_uses t r → root_uses u (remove_one t r) + root_uses u t ≡ root_uses u r)
         → root_uses u (keep_unless d r (hole (remove_one t r))) + root_uses u t
         ≡ root_uses u (hole r)
-    go (yes e) h rec = omega (arith, ap (root_uses u) e)
-    go (no n) h rec = omega (arith, rec (omega arith))
+    by_case (yes e) h rec = omega (arith, ap (root_uses u) e)
+    by_case (no n) h rec = omega (arith, rec (omega arith))
 
 minus : Trees → Trees → Trees
 minus g none = g
@@ -110,12 +110,12 @@ pull-fill (hole r) b o =
     let e : fill r b ≡ r = fill-no_hole r b (omega arith) in
     ap (λ z. front (width (beside b z) - width r) (beside b z)) e
     ∙ front-beside b r (width (beside b r) - width r) (omega (arith, width-beside b r))
-pull-fill (node s i k l r) b o = go (holes k) refl (pull-fill r b) (pull-fill k b)
+pull-fill (node s i k l r) b o = by_holes (holes k) refl (pull-fill r b) (pull-fill k b)
   where
-    go : (n : ℕ) → holes k ≡ n → (holes r ≡ 1 → pull r (fill r b) ≡ b)
+    by_holes : (n : ℕ) → holes k ≡ n → (holes r ≡ 1 → pull r (fill r b) ≡ b)
         → (holes k ≡ 1 → pull k (fill k b) ≡ b) → pick n (pull r (fill r b)) (pull k (fill k b)) ≡ b
-    go zero e inr' ink = inr' (omega arith)
-    go (suc n) e inr' ink = ink (omega arith)
+    by_holes zero e inr' ink = inr' (omega arith)
+    by_holes (suc n) e inr' ink = ink (omega arith)
 
 -- what stands in the context: the roots that only the context has are taken away
 pub pull_root : Trees → Trees → Trees
@@ -134,18 +134,18 @@ pulled-grove (hole r) g b o z h =
     minus-beside r g b (λ u. h u
     ∙ ap (λ x. root_uses u (beside b x)) (fill-no_hole r b (omega arith)))
 pulled-grove (node s i k l r) g b o z h =
-    go (holes k) refl (pulled-grove r (remove_one (node s i k l none) g) b)
+    by_holes (holes k) refl (pulled-grove r (remove_one (node s i k l none) g) b)
   where
-    go : (n : ℕ) → holes k ≡ n
+    by_holes : (n : ℕ) → holes k ≡ n
         → (holes r ≡ 1 → root_holes r ≡ 1 → SameGrove (remove_one (node s i k l none) g) (fill r b)
         → SameGrove (pull_root r (remove_one (node s i k l none) g)) b)
         → SameGrove
         (pick n (pull_root r (remove_one (node s i k l none) g))
         (pull (node s i k l none) (minus g r))) b
-    go zero e rec = rec (omega arith) (omega arith)
+    by_holes zero e rec = rec (omega arith) (omega arith)
         (less_one (node s i k l none) g (fill r b) (omega (arith, one_if_self (node s i k l none)))
         (λ u. h u ∙ ap (λ x. root_uses u (node s i x l (fill r b))) (fill-no_hole k b e)))
-    go (suc n) e rec = absurd (omega (arith, root_holes-le r))
+    by_holes (suc n) e rec = absurd (omega (arith, root_holes-le r))
 
 -- with at most one root in the hole, what is pulled out is equal to what stands there
 pub pulled : (c g b : Trees) → holes c ≡ 1 → (root_holes c ≡ 1 → width b ≤ 1)
@@ -157,18 +157,18 @@ pulled (hole r) g b o z h = sym (narrow b (minus g r) (z (omega (arith, root_hol
     (minus-beside r g b (λ u. h u
     ∙ ap (λ x. root_uses u (beside b x)) (fill-no_hole r b (omega arith))) u)))
 pulled (node s i k l r) g b o z h =
-    go (holes k) refl (pulled r (remove_one (node s i k l none) g) b)
+    by_holes (holes k) refl (pulled r (remove_one (node s i k l none) g) b)
   where
-    go : (n : ℕ) → holes k ≡ n
+    by_holes : (n : ℕ) → holes k ≡ n
         → (holes r ≡ 1 → (root_holes r ≡ 1 → width b ≤ 1)
         → SameGrove (remove_one (node s i k l none) g) (fill r b)
         → pull_root r (remove_one (node s i k l none) g) ≡ b)
         → pick n (pull_root r (remove_one (node s i k l none) g))
         (pull (node s i k l none) (minus g r)) ≡ b
-    go zero e rec = rec (omega arith) z
+    by_holes zero e rec = rec (omega arith) z
         (less_one (node s i k l none) g (fill r b) (omega (arith, one_if_self (node s i k l none)))
         (λ u. h u ∙ ap (λ x. root_uses u (node s i x l (fill r b))) (fill-no_hole k b e)))
-    go (suc n) e rec =
+    by_holes (suc n) e rec =
         let w : SameGrove (minus g r) (node s i (fill k b) l none) =
         minus-beside r g (node s i (fill k b) l none) (λ u. h u
         ∙ ap (λ x. root_uses u (node s i (fill k b) l x)) (fill-no_hole r b (omega arith))) in

@@ -49,11 +49,11 @@ without-one t a b self h (no n) =
 
 root-decided : (t a b : Trees) → root_uses t t ≡ 1 → ((c : Trees) → Dec (SameGrove a c))
     → Dec (SameGrove (beside t a) b)
-root-decided t a b self rec = go (root_uses t b) refl
+root-decided t a b self rec = by_case (root_uses t b) refl
   where
-    go : (n : ℕ) → root_uses t b ≡ n → Dec (SameGrove (beside t a) b)
-    go zero e = no (λ h. omega (arith, h t, root_uses-beside t t a))
-    go (suc n) e = without-one t a b self (omega (arith, e)) (rec (remove_one t b))
+    by_case : (n : ℕ) → root_uses t b ≡ n → Dec (SameGrove (beside t a) b)
+    by_case zero e = no (λ h. omega (arith, h t, root_uses-beside t t a))
+    by_case (suc n) e = without-one t a b self (omega (arith, e)) (rec (remove_one t b))
 
 -- whether two groves are the same is decided
 pub grove-decided : (a b : Trees) → Dec (SameGrove a b)

@@ -9,31 +9,31 @@ SameGrove a b = (t : Trees) → root_uses t a ≡ root_uses t b
 
 -- a tree is itself
 pub one_if_self : (t : Trees) → one_if (trees_eq t t) ≡ 1
-one_if_self t = go (trees_eq t t)
+one_if_self t = by_case (trees_eq t t)
   where
-    go : (d : Dec (t ≡ t)) → one_if d ≡ 1
-    go (yes e) = refl
-    go (no n) = absurd (n refl)
+    by_case : (d : Dec (t ≡ t)) → one_if d ≡ 1
+    by_case (yes e) = refl
+    by_case (no n) = absurd (n refl)
 
 -- a tree that is counted stands among the roots
 pub picked : (t b : Trees) → 1 ≤ root_uses t b → (l : Trees) × (r : Trees)
     × (b ≡ beside l (beside t r))
 picked t none h = absurd (omega arith)
-picked t (node s i k l rest) h = go (trees_eq t (node s i k l none)) h (picked t rest)
+picked t (node s i k l rest) h = by_case (trees_eq t (node s i k l none)) h (picked t rest)
   where
-    go : (d : Dec (t ≡ node s i k l none)) → 1 ≤ one_if d + root_uses t rest
+    by_case : (d : Dec (t ≡ node s i k l none)) → 1 ≤ one_if d + root_uses t rest
         → (1 ≤ root_uses t rest → (l' : Trees) × (r : Trees) × (rest ≡ beside l' (beside t r)))
         → (l' : Trees) × (r : Trees) × (node s i k l rest ≡ beside l' (beside t r))
-    go (yes e) h rec = (none, rest, ap (λ z. beside z rest) (sym e))
-    go (no n) h rec = let x : (l' : Trees) × (r : Trees) × (rest ≡ beside l' (beside t r)) =
+    by_case (yes e) h rec = (none, rest, ap (λ z. beside z rest) (sym e))
+    by_case (no n) h rec = let x : (l' : Trees) × (r : Trees) × (rest ≡ beside l' (beside t r)) =
         rec (omega arith) in (node s i k l x.0, x.1, ap (node s i k l) x.2)
-picked t (hole rest) h = go (trees_eq t (hole none)) h (picked t rest)
+picked t (hole rest) h = by_case (trees_eq t (hole none)) h (picked t rest)
   where
-    go : (d : Dec (t ≡ hole none)) → 1 ≤ one_if d + root_uses t rest
+    by_case : (d : Dec (t ≡ hole none)) → 1 ≤ one_if d + root_uses t rest
         → (1 ≤ root_uses t rest → (l' : Trees) × (r : Trees) × (rest ≡ beside l' (beside t r)))
         → (l' : Trees) × (r : Trees) × (hole rest ≡ beside l' (beside t r))
-    go (yes e) h rec = (none, rest, ap (λ z. beside z rest) (sym e))
-    go (no n) h rec = let x : (l' : Trees) × (r : Trees) × (rest ≡ beside l' (beside t r)) =
+    by_case (yes e) h rec = (none, rest, ap (λ z. beside z rest) (sym e))
+    by_case (no n) h rec = let x : (l' : Trees) × (r : Trees) × (rest ≡ beside l' (beside t r)) =
         rec (omega arith) in (hole x.0, x.1, ap hole x.2)
 
 -- the same groves without the same tree are the same

@@ -7,13 +7,13 @@ use Rattle.model_shapes.proofs.Basics.{holes-beside, root_holes-beside, width-be
 use Rattle.model_shapes.proofs.Sameness.{same-count}
 
 -- each thing is the same as itself
+SameAt-refl : (k : DataSort) (a : Trees) → SameAt k a a
+SameAt-refl tree a = refl
+SameAt-refl forest a = refl
+SameAt-refl grove a = λ t. refl
+
 pub Same-refl : (s : Sort) (a : Trees) → Same s a a
-Same-refl s a = go (outer s)
-  where
-    go : (k : DataSort) → SameAt k a a
-    go tree = refl
-    go forest = refl
-    go grove = λ t. refl
+Same-refl s a = SameAt-refl (outer s) a
 
 -- sameness goes both ways
 pub SameAt-sym : (k : DataSort) (a b : Trees) → SameAt k a b → SameAt k b a
@@ -29,12 +29,7 @@ SameAt-trans grove a b c h g = λ t. h t ∙ g t
 
 -- what is equal is the same
 pub SameAt-eq : (k : DataSort) (a b : Trees) → a ≡ b → SameAt k a b
-SameAt-eq k a b e = subst (SameAt k a) e (go k)
-  where
-    go : (k : DataSort) → SameAt k a a
-    go tree = refl
-    go forest = refl
-    go grove = λ t. refl
+SameAt-eq k a b e = subst (SameAt k a) e (SameAt-refl k a)
 
 -- beside keeps sameness
 pub SameAt-beside : (k : DataSort) (a b a' b' : Trees) → SameAt k a a' → SameAt k b b'

@@ -1,5 +1,5 @@
--- Truth values: what a false test gives, and what a conjunction of tests says. Further lemmas on tests
--- and on `Some` are std's, in `Rattle.std.proofs.lemmas.Bool` and `Rattle.std.proofs.lemmas.Option`.
+-- Truth values: what a false test gives, and what a conjunction of tests says. More on tests, and
+-- on what `Some` holds, is in std's `lemmas.Bool` and `lemmas.Option`.
 use Rattle.std.proofs.Common.{◌≡◌, true, false}
 pub use Rattle.std.proofs.lemmas.Bool.{and_parts as both_true, and_from}
 

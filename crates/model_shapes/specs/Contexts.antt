@@ -1,5 +1,5 @@
--- Needn't be believed: only laws speak of it. Contexts with one hole by construction, as POPL 2005 has
--- them, and the plain ones that they stand for: each plain one comes from one of these, and one only.
+-- Needn't be believed: only laws speak of it. Contexts with one hole by construction, as POPL 2005
+-- has them, and the plain ones that they stand for: each plain one comes from one of these alone.
 use Rattle.std.specs.Prelude.{◌≡◌, ℕ}
 use Rattle.model_shapes.specs.Sorts.{DataSort, tree, forest, grove}
 use Rattle.model_shapes.specs.Values.{Name}

@@ -1,5 +1,5 @@
--- Needn't be believed: only a law speaks of it. Lists of roots that differ in the order of the roots
--- alone, as PODS 2008 reads groves; `same_groves_are_reordered` says that they are the same groves.
+-- Needn't be believed: only a law speaks of it. Lists of roots that differ in their order alone, as
+-- PODS 2008 reads groves; `same_groves_are_reordered` says that they are the same groves.
 use Rattle.std.specs.Prelude.{ℕ}
 use Rattle.model_shapes.specs.Values.{Name}
 use Rattle.model_shapes.specs.Trees.{Trees, none, node, hole, beside}
