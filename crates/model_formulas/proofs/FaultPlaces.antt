@@ -2,7 +2,8 @@
 use Rattle.std.proofs.Common.{◌≡◌, ℕ, ◌+◌, ◌≤◌, ◌<◌, Bool, true, false, Option, Some, None, arith}
 use Rattle.model_shapes.specs.Sorts.{Sort, shape, context, tree, forest, grove, outer, inner, giving}
 use Rattle.model_formulas.specs.Formulas.{Named, truth, falsity, conjunction, disjunction, implication, negation, existential, universal, equality, at_most, empty, bare_hole, node_formula, one_tree, one_root, concatenation, grove_sum, grove_sum_hole, application, hole_adjoint, context_adjoint, same_as, length_is, value_meets}
-use Rattle.model_formulas.specs.WellSorted.{first_fault, own, or_else, parts, left_at, right_at}
+use Rattle.model_formulas.specs.WellSorted.{first_fault, own, parts, left_at, right_at}
+use Rattle.model_terms.specs.TermLimits.{or_else}
 
 -- the place is among this many from the first
 abbrev Within : ℕ → ℕ → ℕ → Type 0

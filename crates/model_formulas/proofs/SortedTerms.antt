@@ -4,9 +4,9 @@ use Rattle.model_shapes.specs.Sorts.{value, ValueSort, int_sort, str_sort, same_
 use Rattle.model_shapes.specs.Values.{Value, null, nolist, node_number, list_number, int, str, boolean, FitsValue, value_sort}
 use Rattle.model_shapes.specs.Things.{Fits}
 use Rattle.model_shapes.proofs.Truth.{false≢true, both_true}
-use Rattle.model_formulas.specs.Variables.{Var, prog, logic, bound, var_sort}
-use Rattle.model_formulas.specs.VariableTests.{same_value_sort-is, same_sort-is}
-use Rattle.model_formulas.specs.Terms.{Term, literal, variable, sum, difference, appended}
+use Rattle.model_terms.specs.Variables.{Var, prog, logic, bound, var_sort}
+use Rattle.model_terms.specs.VariableTests.{same_value_sort-is, same_sort-is}
+use Rattle.model_terms.specs.Terms.{Term, literal, variable, sum, difference, appended}
 use Rattle.model_formulas.specs.WellSorted.{has_sort, is_literal, NamedAlone}
 use Rattle.model_formulas.specs.Satisfaction.{Environment, Proper, meaning_of}
 

@@ -3,8 +3,8 @@
 use Rattle.std.specs.Prelude.{Bool, true, false, ◌&&◌}
 use mathlib.Core.HLevel.{Discrete}
 use Rattle.model_shapes.specs.Sorts.{DataSort, DataSort-discrete, Sort, sort_eq}
-use Rattle.model_formulas.specs.Variables.{Var}
-use Rattle.model_formulas.specs.Terms.{Term, term_eq}
+use Rattle.model_terms.specs.Variables.{Var}
+use Rattle.model_terms.specs.Terms.{Term, term_eq}
 
 -- where the hole of a concatenation is: none, in the left part, or in the right part
 pub data Side : Type 0 where

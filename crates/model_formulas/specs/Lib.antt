@@ -1,6 +1,3 @@
-pub mod Variables
-pub mod VariableTests
-pub mod Terms
 pub mod Formulas
 pub mod Substitution
 pub mod Nameless
@@ -9,3 +6,4 @@ pub mod SameFormulas
 pub mod Satisfaction
 pub mod Walked
 pub mod Setting
+pub mod Entailments

@@ -1,32 +1,11 @@
 -- The tests of sameness, which compute: of values, terms and nameless formulas. Only the test of
 -- values serves a definition; a law says that the test of formulas is the equality of its sides.
-use Rattle.std.specs.Prelude.{Bool, true, false, ◌&&◌, ℤ, ◌==◌, int_le, bytes_eq}
+use Rattle.std.specs.Prelude.{Bool, true, false, ◌&&◌}
 use Rattle.model_shapes.specs.Sorts.{same_data_sort, same_sort}
-use Rattle.model_shapes.specs.Values.{Value, null, nolist, node_number, list_number, int, str, boolean}
-use Rattle.model_formulas.specs.Variables.{same_var}
-use Rattle.model_formulas.specs.Terms.{Term, literal, variable, sum, difference, appended}
+use Rattle.model_terms.specs.Variables.{same_var}
+use Rattle.model_terms.specs.Terms.{Term, literal, variable, sum, difference, appended}
+use Rattle.model_terms.specs.ValueTests.{same_value}
 use Rattle.model_formulas.specs.Formulas.{Formula, Side, whole, hole_left, hole_right, truth, falsity, conjunction, disjunction, implication, negation, existential, universal, equality, at_most, empty, bare_hole, node_formula, one_tree, one_root, concatenation, grove_sum, grove_sum_hole, application, hole_adjoint, context_adjoint, same_as, length_is, value_meets}
-
--- of integers
-abbrev pub int_eq : ℤ → ℤ → Bool
-int_eq a b = int_le a b && int_le b a
-
--- of truth values
-abbrev pub same_bool : Bool → Bool → Bool
-same_bool true b = b
-same_bool false true = false
-same_bool false false = true
-
--- of values
-abbrev pub same_value : Value → Value → Bool
-same_value null null = true
-same_value nolist nolist = true
-same_value (int a) (int b) = int_eq a b
-same_value (str a) (str b) = bytes_eq a b
-same_value (boolean a) (boolean b) = same_bool a b
-same_value (node_number a) (node_number b) = a == b
-same_value (list_number a) (list_number b) = a == b
-same_value a b = false
 
 -- of terms
 abbrev pub same_term : Term → Term → Bool

@@ -2,8 +2,8 @@
 -- variables. Nothing else rests on it.
 use Rattle.std.specs.Prelude.{◌≡◌}
 use Rattle.model_shapes.specs.Things.{Thing}
-use Rattle.model_formulas.specs.Variables.{Var}
-use Rattle.model_formulas.specs.Terms.{var_eq}
+use Rattle.model_terms.specs.Variables.{Var}
+use Rattle.model_terms.specs.Terms.{var_eq}
 use Rattle.model_formulas.specs.Satisfaction.{Environment}
 
 -- what a variable stands for: the thing where it is the one that is set, and else what it did

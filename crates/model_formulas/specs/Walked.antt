@@ -1,8 +1,8 @@
 -- The nameless form again, by a walk with the names of the binders passed, the nearest first.
 -- It computes without substitution; the law `walked_is_nameless` says that it is the same.
 use Rattle.std.specs.Prelude.{◌≡◌, zero, List, [], ◌∷◌}
-use Rattle.model_formulas.specs.Variables.{Var, bound, var_sort}
-use Rattle.model_formulas.specs.Terms.{variable, raised_var, Substitution, term_with, var_eq}
+use Rattle.model_terms.specs.Variables.{Var, bound, var_sort}
+use Rattle.model_terms.specs.Terms.{variable, raised_var, Substitution, term_with, var_eq}
 use Rattle.model_formulas.specs.Formulas.{Named, Formula, truth, falsity, conjunction, disjunction, implication, negation, existential, universal, equality, at_most, empty, bare_hole, node_formula, one_tree, one_root, concatenation, grove_sum, grove_sum_hole, application, hole_adjoint, context_adjoint, same_as, length_is, value_meets}
 
 -- a variable that a binder with this name binds, or one that is named further out

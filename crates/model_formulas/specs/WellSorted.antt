@@ -3,8 +3,9 @@
 use Rattle.std.specs.Prelude.{ℕ, ◌+◌, Bool, true, false, ◌&&◌, ◌||◌, Option, Some, None}
 use Rattle.model_shapes.specs.Sorts.{Sort, value, shape, context, ValueSort, node_sort, list_sort, int_sort, str_sort, bool_sort, DataSort, tree, forest, grove, is_sort, outer, inner, giving, same_value_sort, same_data_sort, same_sort}
 use Rattle.model_shapes.specs.Values.{Value, node_number, list_number, value_sort}
-use Rattle.model_formulas.specs.Variables.{Var, logic, bound, var_sort}
-use Rattle.model_formulas.specs.Terms.{Term, literal, variable, sum, difference, appended}
+use Rattle.model_terms.specs.Variables.{Var, logic, bound, var_sort}
+use Rattle.model_terms.specs.Terms.{Term, literal, variable, sum, difference, appended}
+use Rattle.model_terms.specs.TermLimits.{or_else}
 use Rattle.model_formulas.specs.Formulas.{Named, Side, whole, hole_left, hole_right, truth, falsity, conjunction, disjunction, implication, negation, existential, universal, equality, at_most, empty, bare_hole, node_formula, one_tree, one_root, concatenation, grove_sum, grove_sum_hole, application, hole_adjoint, context_adjoint, same_as, length_is, value_meets}
 
 -- the values that are literals: no number of a node or a list can be written
@@ -127,11 +128,6 @@ parts (value_meets s a p) = 1 + parts p
 abbrev pub own : Bool → ℕ → Option ℕ → Option ℕ
 own true n below = below
 own false n below = Some n
-
--- the first of two, where there is one
-abbrev pub or_else : {A : Type 0} → Option A → Option A → Option A
-or_else None b = b
-or_else (Some a) b = Some a
 
 -- The first part at fault of a formula judged at the sort, where the formula is the part at n.
 abbrev pub first_fault : Named → Sort → ℕ → Option ℕ

@@ -1,0 +1,2 @@
+pub mod ValueTests
+pub mod StoreLaws

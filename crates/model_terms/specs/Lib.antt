@@ -1,0 +1,7 @@
+pub mod Variables
+pub mod VariableTests
+pub mod Terms
+pub mod ValueTests
+pub mod Stores
+pub mod Conditions
+pub mod TermLimits
