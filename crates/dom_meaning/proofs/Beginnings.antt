@@ -6,12 +6,12 @@ use Rattle.model_shapes.specs.Sorts.{shape, grove}
 use Rattle.model_shapes.specs.Trees.{Trees}
 use Rattle.model_shapes.specs.Values.{Value}
 use Rattle.model_shapes.specs.Shapes.{Shaped}
-use Rattle.model_programs.specs.Theories.{nameless_procedure, procedures_of}
-use Rattle.model_programs.specs.Machine.{run}
-use Rattle.model_programs.specs.Machine as model
-use Rattle.model_programs.specs.FileFaults.{IsWellFormedTheory}
-use Rattle.model_programs.specs.Fitting.{ValuesFit, FitsConfig}
-use Rattle.model_programs.proofs.Starts.{start-fits}
+use Rattle.model_commands.specs.Theories.{nameless_procedure, procedures_of}
+use Rattle.model_machine.specs.Machine.{run}
+use Rattle.model_machine.specs.Machine as model
+use Rattle.model_files.specs.FileFaults.{IsWellFormedTheory}
+use Rattle.model_machine.specs.Fitting.{ValuesFit, FitsConfig}
+use Rattle.model_machine.proofs.Starts.{start-fits}
 use Rattle.dom_syntax.specs.declared.theories.Procedure.{Procedure}
 use Rattle.dom_syntax.specs.declared.theories.Theory.{Theory}
 use Rattle.dom_syntax.specs.Theories.{procedure_of, theory_of}

@@ -5,12 +5,12 @@ use Rattle.std.specs.List.{list_any}
 use Rattle.std.proofs.lemmas.Slice.Eq.{bytes_eq-Decides}
 use Rattle.model_shapes.proofs.Truth.{both_true}
 use Rattle.model_formulas.specs.Formulas.{Named}
-use Rattle.model_formulas.specs.WellSorted.{or_else}
-use Rattle.model_programs.specs.Theories.{ProcedureOf, Theory, nameless_procedure, procedures_of, procedure_named}
-use Rattle.model_programs.specs.Sorting.{Sorted}
-use Rattle.model_programs.specs.FileFaults.{FileKind, unless_kind, fault_at, head_kind, steps_fault, procedures_fault, declarations_kind, IsWellFormedTheory}
-use Rattle.model_programs.proofs.StoreLaws.{not-true}
-use Rattle.model_programs.proofs.WellFormedTheories.{well-formed-bodies}
+use Rattle.model_terms.specs.TermLimits.{or_else}
+use Rattle.model_commands.specs.Theories.{ProcedureOf, Theory, nameless_procedure, procedures_of, procedure_named}
+use Rattle.model_commands.specs.Sorting.{Sorted}
+use Rattle.model_files.specs.FileFaults.{FileKind, unless_kind, fault_at, head_kind, steps_fault, procedures_fault, declarations_kind, IsWellFormedTheory}
+use Rattle.model_commands.proofs.StoreLaws.{not-true}
+use Rattle.model_files.proofs.WellFormedTheories.{well-formed-bodies}
 use Rattle.dom_syntax.specs.declared.theories.Procedure.{Procedure}
 use Rattle.dom_syntax.specs.Theories.{procedure_of}
 

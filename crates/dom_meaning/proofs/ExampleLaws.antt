@@ -2,9 +2,9 @@
 use Rattle.std.proofs.Common.{◌≡◌, ◌∙◌, ◌<◌, List, [], ◌∷◌, length, map, Some, refl, sym, ap, arith}
 use Rattle.std.specs.Prelude.{slice_get}
 use Rattle.model_formulas.specs.Formulas.{Named}
-use Rattle.model_programs.specs.Stores.{ProgVar}
-use Rattle.model_programs.specs.Commands.{Command}
-use Rattle.model_programs.specs.Theories.{ProcedureOf}
+use Rattle.model_terms.specs.Stores.{ProgVar}
+use Rattle.model_commands.specs.Commands.{Command}
+use Rattle.model_commands.specs.Theories.{ProcedureOf}
 use Rattle.dom_syntax.specs.declared.theories.Procedure.{Procedure}
 use Rattle.dom_syntax.specs.declared.theories.Theory.{Theory}
 use Rattle.dom_syntax.specs.Theories.{procedure_of, theory_of}

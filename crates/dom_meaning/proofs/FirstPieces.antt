@@ -1,11 +1,13 @@
 -- What the machine does with the piece that is kept last.
 use Rattle.std.proofs.Common.{◌≡◌, ◌-◌, List, [], ◌∷◌, ◌++◌, length, take, Some, true, sym, ap, ◌∙◌}
 use Rattle.std.specs.Prelude.{slice_get}
-use Rattle.model_programs.specs.Theories.{Procedures}
-use Rattle.model_programs.specs.Machine as model
-use Rattle.model_programs.specs.Machine.{Pick, Piece, Move, becomes, faults, bad_pick, move, next, at_fault, at_bad_pick, stepped, step}
-use Rattle.model_programs.specs.Outcomes.{standard_limits, step_limit}
-use Rattle.model_programs.specs.Fitting.{FitsPiece}
+use Rattle.model_commands.specs.Theories.{Procedures}
+use Rattle.model_machine.specs.Machine as model
+use Rattle.model_groves.specs.Picks.{Pick}
+use Rattle.model_machine.specs.Machine.{Piece, Move, becomes, faults, bad_pick, move, next, at_fault, at_bad_pick, stepped, step}
+use Rattle.model_limits.specs.Limits.{standard_limits}
+use Rattle.model_machine.specs.Outcomes.{step_limit}
+use Rattle.model_machine.specs.Fitting.{FitsPiece}
 use Rattle.dom_terms.specs.Stores.{store_of}
 use Rattle.grove_data.specs.Trees.{forest_of}
 use Rattle.dom_meaning.specs.declared.configurations.Pending.{Pending}

@@ -4,9 +4,9 @@ use Rattle.std.specs.Prelude.{MatchOption, is_some, option_copied}
 use Rattle.std.proofs.Math.Decide.{ℕ_discrete}
 use Rattle.model_shapes.specs.Values.{node_number, list_number}
 use Rattle.model_shapes.specs.Trees.{Trees, none, node, hole, beside, width, node_uses, list_uses, tally}
-use Rattle.model_programs.specs.Stores.{is_yes}
-use Rattle.model_programs.specs.Groves.{nodes_where, numbered, listed, node_at, list_at, positive}
-use Rattle.model_programs.proofs.Groves.{width-numbered, width-listed}
+use Rattle.model_groves.specs.Groves.{is_yes}
+use Rattle.model_groves.specs.Groves.{nodes_where, numbered, listed, node_at, list_at, positive}
+use Rattle.model_groves.proofs.Groves.{width-numbered, width-listed}
 use Rattle.grove_data.specs.Trees.{tree_of}
 use Rattle.grove_data.specs.declared.trees.Tree.{Tree}
 use Rattle.grove_data.proofs.Walks.{tree_is}

@@ -1,14 +1,19 @@
 -- How a run comes out, step by step.
 use Rattle.std.proofs.Common.{◌≡◌, ◌⊎◌, inl, inr, ℕ, suc, ◌+◌, nat_le, Bool, true, false, ◌&&◌, cond, List, [], ◌∷◌, ◌++◌, Some, None, refl, sym, ap, ◌∙◌, subst}
 use Rattle.model_shapes.specs.Trees.{Trees}
-use Rattle.model_formulas.specs.Terms.{Term}
-use Rattle.model_formulas.specs.WellSorted.{or_else}
-use Rattle.model_programs.specs.Stores.{ProgVar, Store, value_of, text_in}
-use Rattle.model_programs.specs.Commands.{skip, block, assign, create_node, node_name, child_nodes, parent_node, list_item, append_child, remove_child, if_else, while_do, local, call}
-use Rattle.model_programs.specs.Theories.{Procedures}
-use Rattle.model_programs.specs.Machine.{FaultKind, Pick, Piece, run, restore, return, Move, becomes, faults, bad_pick, creating, move, Config, next, done, at_fault, at_bad_pick, stepped, step_on}
-use Rattle.model_programs.specs.Outcomes.{LimitKind, identifier_limit, standard_limits, unless, greatest_node, greatest_list, next_pick, step_limit, pick_limit, Outcome, ends, passes_limit, has_fault, values_in, within, on_move, outcome}
-use Rattle.model_programs.proofs.NextMoves.{next-moves}
+use Rattle.model_terms.specs.Terms.{Term}
+use Rattle.model_terms.specs.TermLimits.{or_else}
+use Rattle.model_terms.specs.Stores.{ProgVar, Store, value_of, text_in}
+use Rattle.model_commands.specs.Commands.{skip, block, assign, create_node, node_name, child_nodes, parent_node, list_item, append_child, remove_child, if_else, while_do, local, call}
+use Rattle.model_commands.specs.Theories.{Procedures}
+use Rattle.model_machine.specs.Machine.{FaultKind, Piece, run, restore, return, Move, becomes, faults, bad_pick, creating, move, Config, next, done, at_fault, at_bad_pick, stepped, step_on}
+use Rattle.model_groves.specs.Picks.{Pick}
+use Rattle.model_limits.specs.Limits.{LimitKind, identifier_limit, standard_limits}
+use Rattle.model_terms.specs.TermLimits.{unless}
+use Rattle.model_groves.specs.Sizes.{greatest_node, greatest_list}
+use Rattle.model_groves.specs.Picks.{next_pick}
+use Rattle.model_machine.specs.Outcomes.{step_limit, pick_limit, Outcome, ends, passes_limit, has_fault, values_in, within, on_move, outcome}
+use Rattle.model_machine.proofs.NextMoves.{next-moves}
 use Rattle.dom_meaning.specs.Steps.{limit_ahead}
 use Rattle.dom_meaning.specs.Runs.{outcome_from, pick_within}
 

@@ -4,16 +4,19 @@ use Rattle.std.specs.List.{list_all}
 use Rattle.model_shapes.specs.Trees.{Trees, none, node, hole}
 use Rattle.model_shapes.specs.Values.{Value}
 use Rattle.model_shapes.proofs.Truth.{false≢true, both_true}
-use Rattle.model_programs.specs.Stores.{ProgVar, Store, value_of}
-use Rattle.model_programs.specs.Commands.{skip, block, assign, create_node, node_name, child_nodes, parent_node, list_item, append_child, remove_child, if_else, while_do, local, call, Block, stop, ◌then◌}
-use Rattle.model_programs.specs.CommandParts.{commands_in, commands_of}
-use Rattle.model_programs.specs.Theories.{Procedures}
-use Rattle.model_programs.specs.Groves.{node_at}
-use Rattle.model_programs.specs.Machine.{FaultKind, no_node, Pick, Piece, run, restore, return, Move, becomes, faults, bad_pick, pieces_of, reading, is_free, move, Config, next, stepped, step_on, step}
-use Rattle.model_programs.specs.Outcomes.{standard_limits, step_limit}
-use Rattle.model_programs.specs.Fitting.{FitsPiece, FitPieces, BodiesSorted}
-use Rattle.model_programs.proofs.FileTests.{all-append}
-use Rattle.model_programs.proofs.Starts.{step-fits}
+use Rattle.model_terms.specs.Stores.{ProgVar, Store, value_of}
+use Rattle.model_commands.specs.Commands.{skip, block, assign, create_node, node_name, child_nodes, parent_node, list_item, append_child, remove_child, if_else, while_do, local, call, Block, stop, ◌then◌}
+use Rattle.model_commands.specs.CommandParts.{commands_in, commands_of}
+use Rattle.model_commands.specs.Theories.{Procedures}
+use Rattle.model_groves.specs.Groves.{node_at}
+use Rattle.model_machine.specs.Machine.{FaultKind, no_node, Piece, run, restore, return, Move, becomes, faults, bad_pick, pieces_of, reading, move, Config, next, stepped, step_on, step}
+use Rattle.model_groves.specs.Picks.{Pick, is_free}
+use Rattle.model_limits.specs.Limits.{standard_limits}
+use Rattle.model_machine.specs.Outcomes.{step_limit}
+use Rattle.model_machine.specs.Fitting.{FitsPiece, FitPieces}
+use Rattle.model_commands.specs.Sorting.{BodiesSorted}
+use Rattle.model_files.proofs.FileTests.{all-append}
+use Rattle.model_machine.proofs.Starts.{step-fits}
 use Rattle.dom_meaning.specs.Built.{is_built_kind, is_built, is_built_piece, IsRunnable}
 use Rattle.dom_meaning.specs.Steps.{limit_ahead}
 

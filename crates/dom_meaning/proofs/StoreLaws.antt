@@ -1,8 +1,8 @@
 -- The values of variables.
 use Rattle.std.proofs.Common.{◌≡◌, Bool, true, false, cond, List, [], ◌∷◌, Some, None, map, refl, ap}
 use Rattle.model_shapes.specs.Values as values
-use Rattle.model_programs.specs.Stores.{ProgVar, sort_of, Store, unset, holding, same_name, default, value_in}
-use Rattle.model_programs.specs.Outcomes.{values_in}
+use Rattle.model_terms.specs.Stores.{ProgVar, sort_of, Store, unset, holding, same_name, default, value_in}
+use Rattle.model_machine.specs.Outcomes.{values_in}
 use Rattle.dom_terms.specs.Stores.{found_in}
 use Rattle.dom_terms.specs.Terms.{prog_var_of}
 use Rattle.dom_terms.specs.declared.terms.ProgVar as declared

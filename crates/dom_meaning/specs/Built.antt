@@ -1,11 +1,11 @@
 -- What the machine runs so far: skip, blocks, assignments, createNode and nodeName.
 use Rattle.std.specs.Prelude.{◌≡◌, Bool, true, false}
 use Rattle.std.specs.List.{list_all}
-use Rattle.model_programs.specs.Commands.{Command, skip, block, assign, create_node, node_name}
-use Rattle.model_programs.specs.CommandParts.{commands_in}
-use Rattle.model_programs.specs.Theories.{Procedures}
-use Rattle.model_programs.specs.Machine.{Piece, run, Config}
-use Rattle.model_programs.specs.Fitting.{FitsConfig}
+use Rattle.model_commands.specs.Commands.{Command, skip, block, assign, create_node, node_name}
+use Rattle.model_commands.specs.CommandParts.{commands_in}
+use Rattle.model_commands.specs.Theories.{Procedures}
+use Rattle.model_machine.specs.Machine.{Piece, run, Config}
+use Rattle.model_machine.specs.Fitting.{FitsConfig}
 
 -- a command of one of these kinds
 abbrev pub is_built_kind : Command → Bool

@@ -1,7 +1,7 @@
 -- The configurations of the machine of the definitions, after PODS 2008, that those of the program
 -- stand for.
 use Rattle.std.specs.Prelude.{ℕ, List, map, reverse}
-use Rattle.model_programs.specs.Machine as model
+use Rattle.model_machine.specs.Machine as model
 use Rattle.dom_terms.specs.Terms.{prog_var_of}
 use Rattle.dom_terms.specs.Values.{value_seen}
 use Rattle.dom_terms.specs.Stores.{store_of}

@@ -2,12 +2,12 @@
 use Rattle.std.specs.Prelude.{List, [], ◌∷◌, codes}
 use Rattle.model_shapes.specs.Sorts.{grove, node_sort, str_sort}
 use Rattle.model_shapes.specs.Values.{null}
-use Rattle.model_formulas.specs.Variables.{prog}
-use Rattle.model_formulas.specs.Terms.{literal, variable}
+use Rattle.model_terms.specs.Variables.{prog}
+use Rattle.model_terms.specs.Terms.{literal, variable}
 use Rattle.model_formulas.specs.Formulas.{Named, truth}
-use Rattle.model_programs.specs.Stores.{ProgVar, named}
-use Rattle.model_programs.specs.Commands.{Command, skip, block, create_node, node_name, stop, ◌then◌}
-use Rattle.model_programs.specs.Theories.{ProcedureOf, Theory}
+use Rattle.model_terms.specs.Stores.{ProgVar, named}
+use Rattle.model_commands.specs.Commands.{Command, skip, block, create_node, node_name, stop, ◌then◌}
+use Rattle.model_commands.specs.Theories.{ProcedureOf, Theory}
 
 -- a procedure f, which asks and promises nothing
 abbrev pub procedure_with : List ProgVar → List ProgVar → Command → ProcedureOf Named

@@ -1,8 +1,8 @@
 -- The faults and limits of the definitions that those of the program stand for, and what an answer
 -- reports of a limit. Want of memory is free.
 use Rattle.std.specs.Prelude.{◌≡◌, Result, Ok, Err, Option, Some, None}
-use Rattle.model_programs.specs.Machine as machine
-use Rattle.model_programs.specs.Outcomes as outcomes
+use Rattle.model_machine.specs.Machine as machine
+use Rattle.model_machine.specs.Outcomes as outcomes
 use Rattle.dom_terms.specs.declared.limits.LimitKind.{LimitKind}
 use Rattle.dom_terms.specs.declared.limits.LimitKind.TheVariants as l
 use Rattle.dom_terms.specs.declared.verdicts.EvalFault.{EvalFault}

@@ -2,8 +2,8 @@
 use Rattle.std.specs.Prelude.{List, []}
 use Rattle.model_shapes.specs.Trees.{Trees, beside}
 use Rattle.model_shapes.specs.Values.{FitsValue}
-use Rattle.model_programs.specs.Stores.{Store, set, sort_of}
-use Rattle.model_programs.specs.Machine.{Move, becomes, faults, bad_pick}
+use Rattle.model_terms.specs.Stores.{Store, set, sort_of}
+use Rattle.model_machine.specs.Machine.{Move, becomes, faults, bad_pick}
 use Rattle.dom_terms.specs.Terms.{prog_var_of}
 use Rattle.dom_terms.specs.Values.{value_seen}
 use Rattle.grove_data.specs.Trees.{tree_of}

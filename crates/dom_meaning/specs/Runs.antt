@@ -1,11 +1,13 @@
 -- How a run comes out, as an outcome of the definitions. Want of memory is free.
 use Rattle.std.specs.Prelude.{◌≡◌, ℕ, ◌+◌, List, map, nat_le, ◌&&◌, cond}
 use Rattle.model_shapes.specs.Trees.{Trees}
-use Rattle.model_programs.specs.Stores.{ProgVar}
-use Rattle.model_programs.specs.Theories.{Procedures}
-use Rattle.model_programs.specs.Machine as machine
-use Rattle.model_programs.specs.Outcomes as model
-use Rattle.model_programs.specs.Outcomes.{standard_limits, greatest_node, greatest_list, outcome}
+use Rattle.model_terms.specs.Stores.{ProgVar}
+use Rattle.model_commands.specs.Theories.{Procedures}
+use Rattle.model_machine.specs.Machine as machine
+use Rattle.model_machine.specs.Outcomes as model
+use Rattle.model_limits.specs.Limits.{standard_limits}
+use Rattle.model_groves.specs.Sizes.{greatest_node, greatest_list}
+use Rattle.model_machine.specs.Outcomes.{outcome}
 use Rattle.dom_terms.specs.Terms.{prog_var_of}
 use Rattle.dom_terms.specs.Values.{value_seen}
 use Rattle.grove_data.specs.Trees.{forest_of}

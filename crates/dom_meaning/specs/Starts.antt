@@ -3,8 +3,8 @@ use Rattle.std.specs.Prelude.{◌≡◌, List, map}
 use Rattle.model_shapes.specs.Trees.{Trees}
 use Rattle.model_shapes.specs.Values.{Value}
 use Rattle.model_formulas.specs.Formulas.{Named}
-use Rattle.model_programs.specs.Theories.{ProcedureOf}
-use Rattle.model_programs.specs.Machine as model
+use Rattle.model_commands.specs.Theories.{ProcedureOf}
+use Rattle.model_machine.specs.Machine as model
 use Rattle.dom_terms.specs.Terms.{prog_var_of}
 use Rattle.dom_meaning.specs.declared.configurations.Config.{Config}
 use Rattle.dom_meaning.specs.Configs.{config_of}

@@ -1,7 +1,8 @@
 -- What one step answers, as that of the machine of the definitions.
 use Rattle.std.specs.Prelude.{List, [], ◌∷◌, Option, None}
-use Rattle.model_programs.specs.Machine as model
-use Rattle.model_programs.specs.Outcomes.{LimitKind, standard_limits, step_limit}
+use Rattle.model_machine.specs.Machine as model
+use Rattle.model_limits.specs.Limits.{LimitKind, standard_limits}
+use Rattle.model_machine.specs.Outcomes.{step_limit}
 use Rattle.dom_meaning.specs.declared.steps.StepOut.{StepOut}
 use Rattle.dom_meaning.specs.declared.steps.StepOut.TheVariants as o
 use Rattle.dom_meaning.specs.Faults.{fault_kind_of}

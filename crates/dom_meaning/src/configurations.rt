@@ -36,7 +36,7 @@ pub struct Config {
 }
 
 impl Copied for Pending {
-    ghost use Rattle.model_programs.specs.Machine as model;
+    ghost use Rattle.model_machine.specs.Machine as model;
     ghost use Rattle.dom_meaning.specs.Configs.{piece_of};
 
     ghost Seen = { model.Piece };
@@ -62,8 +62,8 @@ impl Copied for Pending {
 
 impl Copied for Config {
     ghost use Rattle.std.specs.Prelude.{List};
-    ghost use Rattle.model_programs.specs.Stores as stores;
-    ghost use Rattle.model_programs.specs.Machine as model;
+    ghost use Rattle.model_terms.specs.Stores as stores;
+    ghost use Rattle.model_machine.specs.Machine as model;
     ghost use Rattle.dom_meaning.specs.Configs.{config_of};
 
     ghost Seen = { model.Config × List stores.ProgVar };

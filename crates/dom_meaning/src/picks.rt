@@ -1,8 +1,8 @@
 // The numbers that a new node is given.
 ghost use Rattle.std.specs.Prelude.{◌≡◌};
 ghost use Rattle.model_shapes.specs.Trees.{node_uses, list_uses, WellFormed};
-ghost use Rattle.model_programs.specs.Groves.{positive};
-ghost use Rattle.model_programs.specs.Machine as model;
+ghost use Rattle.model_groves.specs.Groves.{positive};
+ghost use Rattle.model_machine.specs.Machine as model;
 ghost use Rattle.grove_data.specs.Trees.{forest_of};
 ghost use Rattle.dom_meaning.specs.Configs.{pick_of};
 

@@ -1,7 +1,7 @@
 // The values of the results at the end of a run.
 ghost use Rattle.std.specs.Prelude.{◌≡◌, map, IfOk};
-ghost use Rattle.model_programs.specs.Stores.{default, value_in};
-ghost use Rattle.model_programs.specs.Outcomes.{values_in};
+ghost use Rattle.model_terms.specs.Stores.{default, value_in};
+ghost use Rattle.model_machine.specs.Outcomes.{values_in};
 ghost use Rattle.dom_terms.specs.Sorts.{value_sort_of};
 ghost use Rattle.dom_terms.specs.Terms.{prog_var_of};
 ghost use Rattle.dom_terms.specs.Values.{value_seen};

@@ -2,12 +2,12 @@
 ghost use Rattle.std.specs.Prelude as plain;
 ghost use Rattle.std.specs.Prelude.{◌≡◌, ℕ, ◌<◌, [], ◌∷◌, ◌++◌, length, suc, map, true, IfOk, MatchResult};
 ghost use Rattle.std.specs.List.{list_all};
-ghost use Rattle.model_programs.specs.Stores as stores;
-ghost use Rattle.model_programs.specs.Theories.{procedures_of};
-ghost use Rattle.model_programs.specs.FileFaults.{IsWellFormedTheory};
-ghost use Rattle.model_programs.specs.Machine as machine;
-ghost use Rattle.model_programs.specs.Outcomes as model;
-ghost use Rattle.model_programs.specs.Outcomes.{values_in};
+ghost use Rattle.model_terms.specs.Stores as stores;
+ghost use Rattle.model_commands.specs.Theories.{procedures_of};
+ghost use Rattle.model_files.specs.FileFaults.{IsWellFormedTheory};
+ghost use Rattle.model_machine.specs.Machine as machine;
+ghost use Rattle.model_machine.specs.Outcomes as model;
+ghost use Rattle.model_machine.specs.Outcomes.{values_in};
 ghost use Rattle.dom_terms.specs.Terms.{prog_var_of};
 ghost use Rattle.dom_terms.specs.Stores.{store_of};
 ghost use Rattle.grove_data.specs.Trees.{forest_of};

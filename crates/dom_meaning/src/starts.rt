@@ -3,10 +3,10 @@ ghost use Rattle.std.specs.Prelude.{◌≡◌, ◌<◌, length, map, Some, true,
 ghost use Rattle.model_shapes.specs.Sorts.{shape};
 ghost use Rattle.model_shapes.specs.Sorts as sorts;
 ghost use Rattle.model_shapes.specs.Shapes.{Shaped};
-ghost use Rattle.model_programs.specs.Theories.{procedures_of};
-ghost use Rattle.model_programs.specs.FileFaults.{IsWellFormedTheory};
-ghost use Rattle.model_programs.specs.Machine.{holding_values};
-ghost use Rattle.model_programs.specs.Fitting.{ValuesFit, FitsConfig};
+ghost use Rattle.model_commands.specs.Theories.{procedures_of};
+ghost use Rattle.model_files.specs.FileFaults.{IsWellFormedTheory};
+ghost use Rattle.model_machine.specs.Machine.{holding_values};
+ghost use Rattle.model_machine.specs.Fitting.{ValuesFit, FitsConfig};
 ghost use Rattle.dom_terms.specs.Terms.{prog_var_of};
 ghost use Rattle.dom_terms.specs.Values.{value_seen};
 ghost use Rattle.dom_terms.specs.Stores.{store_of};

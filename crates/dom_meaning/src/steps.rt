@@ -1,12 +1,12 @@
 // One step of the machine.
 ghost use Rattle.std.specs.Prelude as plain;
 ghost use Rattle.std.specs.Prelude.{◌≡◌, ◌≢◌, ◌<◌, [], ◌∷◌, ◌++◌, length, Ok, IfOk, OnOk, OnErr};
-ghost use Rattle.model_programs.specs.Theories.{procedures_of};
-ghost use Rattle.model_programs.specs.FileFaults.{IsWellFormedTheory};
-ghost use Rattle.model_programs.specs.Machine as model;
+ghost use Rattle.model_commands.specs.Theories.{procedures_of};
+ghost use Rattle.model_files.specs.FileFaults.{IsWellFormedTheory};
+ghost use Rattle.model_machine.specs.Machine as model;
 ghost use Rattle.model_shapes.specs.Trees.{beside};
 ghost use Rattle.model_shapes.specs.Values.{FitsValue};
-ghost use Rattle.model_programs.specs.Stores.{set};
+ghost use Rattle.model_terms.specs.Stores.{set};
 ghost use Rattle.dom_terms.specs.Sorts.{value_sort_of};
 ghost use Rattle.dom_terms.specs.Terms.{prog_var_of};
 ghost use Rattle.dom_terms.specs.Values.{value_seen};

@@ -1,9 +1,9 @@
 ghost use Rattle.std.specs.Prelude as plain;
 ghost use Rattle.std.specs.Prelude.{◌≡◌, ℕ, ◌∷◌, [], map, IfOk};
 ghost use Rattle.model_shapes.specs.Values as values;
-ghost use Rattle.model_programs.specs.Stores as stores;
-ghost use Rattle.model_programs.specs.Theories.{procedures_of};
-ghost use Rattle.model_programs.specs.FileFaults.{IsWellFormedTheory};
+ghost use Rattle.model_terms.specs.Stores as stores;
+ghost use Rattle.model_commands.specs.Theories.{procedures_of};
+ghost use Rattle.model_files.specs.FileFaults.{IsWellFormedTheory};
 ghost use Rattle.dom_terms.specs.Sorts.{value_sort_of};
 ghost use Rattle.dom_terms.specs.Terms.{prog_var_of};
 ghost use Rattle.dom_terms.specs.Values.{value_seen};

@@ -3,14 +3,14 @@ use Rattle.std.proofs.Common.{◌≡◌, Bool, true, false, ◌&&◌, List, [], 
 use Rattle.std.specs.Prelude.{◌↔◌}
 use Rattle.std.proofs.lemmas.Slice.Eq.{bytes_eq-Decides}
 use Rattle.model_shapes.proofs.Truth.{both_true}
-use Rattle.model_formulas.specs.Terms.{Term}
+use Rattle.model_terms.specs.Terms.{Term}
 use Rattle.model_formulas.specs.Formulas.{length_is}
 use Rattle.model_formulas.specs.SameFormulas.{same_term}
 use Rattle.model_formulas.proofs.SameFormulas.{term-is, same_formula-both}
-use Rattle.model_programs.specs.Stores.{ProgVar, same_name}
-use Rattle.model_programs.proofs.StoreLaws.{same_name-is, same_name-refl}
-use Rattle.model_programs.specs.Conditions.{Cond, cond_true, cond_false, cond_variable, cond_equal, cond_at_most, cond_not, cond_and, cond_or}
-use Rattle.model_programs.specs.Commands.{Command, skip, block, assign, create_node, node_name, child_nodes, parent_node, list_item, append_child, remove_child, if_else, while_do, local, call, Block, stop, ◌then◌}
+use Rattle.model_terms.specs.Stores.{ProgVar, same_name}
+use Rattle.model_terms.proofs.StoreLaws.{same_name-is, same_name-refl}
+use Rattle.model_terms.specs.Conditions.{Cond, cond_true, cond_false, cond_variable, cond_equal, cond_at_most, cond_not, cond_and, cond_or}
+use Rattle.model_commands.specs.Commands.{Command, skip, block, assign, create_node, node_name, child_nodes, parent_node, list_item, append_child, remove_child, if_else, while_do, local, call, Block, stop, ◌then◌}
 use Rattle.dom_syntax.specs.SameCommands.{same_terms, same_vars, same_cond, same_command, same_block}
 
 term-refl : (t : Term) → same_term t t ≡ true

@@ -1,8 +1,8 @@
 -- The commands of the definitions, those of PODS 2008 with blocks, choice, loops, local variables
 -- and calls, that the commands of the program stand for.
 use Rattle.std.specs.Prelude.{List, [], ◌∷◌, map}
-use Rattle.model_programs.specs.Commands as model
-use Rattle.model_programs.specs.Commands.{stop, ◌then◌}
+use Rattle.model_commands.specs.Commands as model
+use Rattle.model_commands.specs.Commands.{stop, ◌then◌}
 use Rattle.dom_terms.specs.Terms.{prog_var_of, term_of}
 use Rattle.dom_terms.specs.Conditions.{cond_of}
 use Rattle.dom_syntax.specs.declared.commands.Command.{Command, fold-Command}

@@ -2,7 +2,8 @@
 -- program stand for.
 use Rattle.std.specs.Prelude.{map}
 use Rattle.model_formulas.specs.Formulas.{Named}
-use Rattle.model_programs.specs.Theories as model
+use Rattle.model_formulas.specs.Entailments.{EntailmentOf}
+use Rattle.model_commands.specs.Theories as model
 use Rattle.dom_terms.specs.Sorts.{data_sort_of}
 use Rattle.dom_terms.specs.Terms.{term_of}
 use Rattle.formula_syntax.specs.Formulas.{formula_of}
@@ -21,9 +22,13 @@ triple_of triple =
     model.triple (formula_of triple.pre) (command_of triple.command) (formula_of triple.post)
     (data_sort_of triple.sort)
 
+-- the judgement that the entailment holds
+abbrev pub entails_of : EntailmentOf Named → model.JudgementOf Named
+entails_of entailment = model.entails entailment.left entailment.right entailment.sort
+
 -- the judgement
 abbrev pub judgement_of : Judgement → model.JudgementOf Named
-judgement_of (j.Entails entailment) = entailment_of entailment
+judgement_of (j.Entails entailment) = entails_of (entailment_of entailment)
 judgement_of (j.Triple triple) = triple_of triple
 
 -- the reason

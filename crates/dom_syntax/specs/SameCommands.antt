@@ -1,11 +1,11 @@
 -- Equality of commands as a test that computes. Nothing here is to be believed: the contract of the
 -- call that answers it speaks of equality.
 use Rattle.std.specs.Prelude.{Bool, true, false, ◌&&◌, List, [], ◌∷◌, bytes_eq}
-use Rattle.model_formulas.specs.Terms.{Term}
+use Rattle.model_terms.specs.Terms.{Term}
 use Rattle.model_formulas.specs.SameFormulas.{same_term}
-use Rattle.model_programs.specs.Stores.{ProgVar, same_name}
-use Rattle.model_programs.specs.Conditions.{Cond, cond_true, cond_false, cond_variable, cond_equal, cond_at_most, cond_not, cond_and, cond_or}
-use Rattle.model_programs.specs.Commands.{Command, skip, block, assign, create_node, node_name, child_nodes, parent_node, list_item, append_child, remove_child, if_else, while_do, local, call, Block, stop, ◌then◌}
+use Rattle.model_terms.specs.Stores.{ProgVar, same_name}
+use Rattle.model_terms.specs.Conditions.{Cond, cond_true, cond_false, cond_variable, cond_equal, cond_at_most, cond_not, cond_and, cond_or}
+use Rattle.model_commands.specs.Commands.{Command, skip, block, assign, create_node, node_name, child_nodes, parent_node, list_item, append_child, remove_child, if_else, while_do, local, call, Block, stop, ◌then◌}
 
 -- of lists of terms
 abbrev pub same_terms : List Term → List Term → Bool

@@ -1,7 +1,7 @@
 -- The procedures and theories of the definitions that those of the program stand for.
 use Rattle.std.specs.Prelude.{map}
 use Rattle.model_formulas.specs.Formulas.{Named}
-use Rattle.model_programs.specs.Theories as model
+use Rattle.model_commands.specs.Theories as model
 use Rattle.dom_terms.specs.Sorts.{data_sort_of}
 use Rattle.dom_terms.specs.Terms.{prog_var_of, logic_var_of}
 use Rattle.formula_syntax.specs.Formulas.{formula_of}

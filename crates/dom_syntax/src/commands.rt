@@ -41,7 +41,7 @@ pub enum Command {
 }
 
 impl Copied for Command {
-    ghost use Rattle.model_programs.specs.Commands as model;
+    ghost use Rattle.model_commands.specs.Commands as model;
 
     ghost Seen = { model.Command };
 

@@ -31,7 +31,7 @@ pub enum Judgement {
 
 impl Copied for Triple {
     ghost use Rattle.model_formulas.specs.Formulas.{Named};
-    ghost use Rattle.model_programs.specs.Theories.{JudgementOf};
+    ghost use Rattle.model_commands.specs.Theories.{JudgementOf};
 
     ghost Seen = { JudgementOf Named };
 
@@ -51,7 +51,7 @@ impl Copied for Triple {
 
 impl Copied for Judgement {
     ghost use Rattle.model_formulas.specs.Formulas.{Named};
-    ghost use Rattle.model_programs.specs.Theories.{JudgementOf};
+    ghost use Rattle.model_commands.specs.Theories.{JudgementOf};
 
     ghost Seen = { JudgementOf Named };
 

@@ -1,6 +1,6 @@
 // When two commands are the same.
 ghost use Rattle.std.specs.Prelude.{◌≡◌, ◌↔◌, IsTrue, map};
-ghost use Rattle.model_programs.specs.Stores.{same_name};
+ghost use Rattle.model_terms.specs.Stores.{same_name};
 ghost use Rattle.model_formulas.specs.SameFormulas as formula_tests;
 ghost use Rattle.dom_terms.specs.Terms.{prog_var_of, term_of};
 ghost use Rattle.dom_terms.specs.Conditions.{cond_of};

@@ -35,7 +35,7 @@ pub struct Step {
 }
 
 impl Copied for Reason {
-    ghost use Rattle.model_programs.specs.Theories as model;
+    ghost use Rattle.model_commands.specs.Theories as model;
 
     ghost Seen = { model.Reason };
 
@@ -61,7 +61,7 @@ impl Copied for Reason {
 
 impl Copied for Step {
     ghost use Rattle.model_formulas.specs.Formulas.{Named};
-    ghost use Rattle.model_programs.specs.Theories.{StepOf};
+    ghost use Rattle.model_commands.specs.Theories.{StepOf};
 
     ghost Seen = { StepOf Named };
 

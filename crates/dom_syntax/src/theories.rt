@@ -44,7 +44,7 @@ pub struct Theory {
 
 impl Copied for Procedure {
     ghost use Rattle.model_formulas.specs.Formulas.{Named};
-    ghost use Rattle.model_programs.specs.Theories.{ProcedureOf};
+    ghost use Rattle.model_commands.specs.Theories.{ProcedureOf};
 
     ghost Seen = { ProcedureOf Named };
 
@@ -67,7 +67,7 @@ impl Copied for Procedure {
 }
 
 impl Copied for Theory {
-    ghost use Rattle.model_programs.specs.Theories as model;
+    ghost use Rattle.model_commands.specs.Theories as model;
 
     ghost Seen = { model.Theory };
 

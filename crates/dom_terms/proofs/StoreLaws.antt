@@ -1,5 +1,5 @@
 -- What a look-up and a change of the cells of a store are in the store of the definitions.
-use Rattle.std.proofs.Common.{◌≡◌, ℕ, ◌<◌, ◌≤◌, zero, suc, ◌+◌, ◌++◌, List, [], ◌∷◌, Bool, true, false, not, cond, Option, Some, None, length, get_or, refl, sym, ap, ◌∙◌, subst, arith}
+use Rattle.std.proofs.Common.{◌≡◌, ℕ, ◌<◌, ◌≤◌, zero, suc, ◌++◌, List, [], ◌∷◌, Bool, true, false, not, cond, Some, None, length, get_or, refl, sym, ap, ◌∙◌, arith}
 use Rattle.std.specs.Prelude.{nat_lt, option_map, map}
 use Rattle.std.specs.List.{find, position, prefix_len}
 use Rattle.std.proofs.Math.ListN as list
@@ -7,7 +7,7 @@ use Rattle.std.proofs.lemmas.Bool.{ltb-false}
 use Rattle.std.proofs.lemmas.List.Sums.{prefix_len_passes}
 use Rattle.std.proofs.lemmas.List.Quantifiers.{position-Some}
 use Rattle.model_shapes.specs.Values as values
-use Rattle.model_programs.specs.Stores.{ProgVar, sort_of, Store, unset, holding, same_name, default, value_in, set}
+use Rattle.model_terms.specs.Stores.{ProgVar, sort_of, Store, unset, holding, same_name, default, value_in, set}
 use Rattle.dom_terms.specs.declared.store.Cell.{Cell}
 use Rattle.dom_terms.specs.declared.values.Value.{Value}
 use Rattle.dom_terms.specs.Terms.{prog_var_of}

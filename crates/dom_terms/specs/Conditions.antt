@@ -1,5 +1,5 @@
 -- The conditions of the definitions that those of the program stand for.
-use Rattle.model_programs.specs.Conditions as model
+use Rattle.model_terms.specs.Conditions as model
 use Rattle.dom_terms.specs.declared.conditions.Cond.{Cond}
 use Rattle.dom_terms.specs.declared.conditions.Cond.TheVariants as c
 use Rattle.dom_terms.specs.Terms.{prog_var_of, term_of}

@@ -1,7 +1,7 @@
 -- When the evaluation of a term is refused: at the first subterm that passes a limit, from left to
 -- right and inner ones first; the limits are the language's own. Want of memory is free.
 use Rattle.std.specs.Prelude.{◌≡◌, Result, Ok, Err, Option, Some, None}
-use Rattle.model_programs.specs.Outcomes.{LimitKind, number_limit, text_limit}
+use Rattle.model_limits.specs.Limits.{LimitKind, number_limit, text_limit}
 use Rattle.dom_terms.specs.declared.verdicts.EvalFault.{EvalFault}
 use Rattle.dom_terms.specs.declared.verdicts.EvalFault.TheVariants as f
 

@@ -2,7 +2,7 @@
 -- variables to values, as in PODS 2008.
 use Rattle.std.specs.Prelude.{List, [], ◌∷◌, Option, Some, None, Bool, cond}
 use Rattle.model_shapes.specs.Values as values
-use Rattle.model_programs.specs.Stores as model
+use Rattle.model_terms.specs.Stores as model
 use Rattle.dom_terms.specs.declared.store.Cell.{Cell}
 use Rattle.dom_terms.specs.Terms.{prog_var_of}
 use Rattle.dom_terms.specs.Values.{value_seen}

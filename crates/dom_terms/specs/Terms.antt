@@ -1,9 +1,9 @@
 -- The variables and terms of the definitions that those of the program stand for. Terms are those
 -- of PODS 2008, with sums, differences and texts; a variable is its name and its sort.
 use Rattle.model_shapes.specs.Values as values
-use Rattle.model_formulas.specs.Variables as model
-use Rattle.model_formulas.specs.Terms as terms
-use Rattle.model_programs.specs.Stores as stores
+use Rattle.model_terms.specs.Variables as model
+use Rattle.model_terms.specs.Terms as terms
+use Rattle.model_terms.specs.Stores as stores
 use Rattle.dom_terms.specs.declared.terms.ProgVar.{ProgVar}
 use Rattle.dom_terms.specs.declared.terms.LogicVar.{LogicVar}
 use Rattle.dom_terms.specs.declared.terms.Term.{Term}

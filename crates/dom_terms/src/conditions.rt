@@ -28,7 +28,7 @@ pub enum Cond {
 }
 
 impl Copied for Cond {
-    ghost use Rattle.model_programs.specs.Conditions as model;
+    ghost use Rattle.model_terms.specs.Conditions as model;
 
     ghost Seen = { model.Cond };
 

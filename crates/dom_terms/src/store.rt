@@ -1,6 +1,6 @@
 ghost use Rattle.std.specs.Prelude.{◌≡◌, IfOk, OnOk, OnErr, map, option_map, option_copied, find, position};
 ghost use Rattle.model_shapes.specs.Values.{FitsValue};
-ghost use Rattle.model_programs.specs.Stores.{unset, set, ProperStore};
+ghost use Rattle.model_terms.specs.Stores.{unset, set, ProperStore};
 ghost use Rattle.dom_terms.specs.Sorts.{value_sort_of};
 ghost use Rattle.dom_terms.specs.Values.{value_seen};
 ghost use Rattle.dom_terms.specs.Terms.{prog_var_of};
@@ -30,7 +30,7 @@ pub struct Store {
 impl Model for Store {
     ghost use Rattle.std.specs.Prelude.{List};
     ghost use Rattle.dom_terms.specs.declared.store.Cell.{Cell};
-    ghost use Rattle.model_programs.specs.Stores.{ProperStore};
+    ghost use Rattle.model_terms.specs.Stores.{ProperStore};
 
     ghost Value = { List Cell };
 
@@ -95,7 +95,7 @@ fn place_of(cells: &[Cell], variable: &ProgVar) -> Option<usize>
 }
 
 impl Copied for Store {
-    ghost use Rattle.model_programs.specs.Stores as model;
+    ghost use Rattle.model_terms.specs.Stores as model;
 
     ghost Seen = { model.Store };
 

@@ -51,7 +51,7 @@ pub enum Term {
 }
 
 impl Copied for ProgVar {
-    ghost use Rattle.model_programs.specs.Stores as model;
+    ghost use Rattle.model_terms.specs.Stores as model;
 
     ghost Seen = { model.ProgVar };
 
@@ -68,7 +68,7 @@ impl Copied for ProgVar {
 }
 
 impl Copied for LogicVar {
-    ghost use Rattle.model_formulas.specs.Variables as model;
+    ghost use Rattle.model_terms.specs.Variables as model;
 
     ghost Seen = { model.Var };
 
@@ -85,7 +85,7 @@ impl Copied for LogicVar {
 }
 
 impl Copied for Term {
-    ghost use Rattle.model_formulas.specs.Terms as model;
+    ghost use Rattle.model_terms.specs.Terms as model;
 
     ghost Seen = { model.Term };
 

@@ -6,7 +6,7 @@ use Rattle.std.proofs.lemmas.List.Folds.{find_at}
 use Rattle.std.proofs.lemmas.Bool.{ltb-true, ltb-false}
 use Rattle.model_shapes.specs.Values.{Value}
 use Rattle.model_formulas.specs.Formulas.{Named}
-use Rattle.model_programs.specs.Theories.{ProcedureOf}
+use Rattle.model_commands.specs.Theories.{ProcedureOf}
 use Rattle.model_answers.specs.Arguments.{arguments_of, procedure_called, with_arguments}
 use Rattle.dom_syntax.specs.declared.theories.Procedure.{Procedure}
 use Rattle.dom_syntax.specs.Theories.{procedure_of}

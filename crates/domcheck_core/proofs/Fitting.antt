@@ -4,12 +4,10 @@ use Rattle.std.specs.Prelude.{nat_le, ◌==◌}
 use Rattle.model_shapes.specs.Sorts.{ValueSort, node_sort, list_sort, int_sort, str_sort, bool_sort}
 use Rattle.model_shapes.specs.Values.{Value, null, nolist, node_number, list_number, int, str, boolean, FitsValue}
 use Rattle.model_formulas.specs.Formulas.{Named}
-use Rattle.model_programs.specs.Stores.{ProgVar, sort_of}
-use Rattle.model_programs.specs.Fitting.{ValuesFit}
-use Rattle.model_programs.specs.Theories.{ProcedureOf, Theory}
-use Rattle.model_documents.specs.Numbers.{most_number}
-use Rattle.model_grammar.specs.Expressions.{most_integer}
-use Rattle.model_grammar.specs.Files.{most_text}
+use Rattle.model_terms.specs.Stores.{ProgVar, sort_of}
+use Rattle.model_machine.specs.Fitting.{ValuesFit}
+use Rattle.model_commands.specs.Theories.{ProcedureOf, Theory}
+use Rattle.model_limits.specs.Limits.{standard_limits}
 use Rattle.model_answers.specs.Words.{decimal_of}
 use Rattle.model_answers.specs.Arguments.{positive_of, marked, negative_of, integer_of, argument_of, value_before, arguments_of, procedure_called, with_arguments, called}
 
@@ -35,7 +33,7 @@ module _ (s : ValueSort) (name : ℕ → Value) (fits : (n : ℕ) → FitsValue 
   marked_fits : (mark : ℕ) (word : List ℕ) → Fits s (marked mark name word)
   marked_fits mark [] = none_fits s
   marked_fits mark (first ∷ digits) =
-      cond_fits s (first == mark) (positive_of name (decimal_of most_number digits)) None (positive_fits (decimal_of most_number digits)) (none_fits s)
+      cond_fits s (first == mark) (positive_of name (decimal_of standard_limits.identifier digits)) None (positive_fits (decimal_of standard_limits.identifier digits)) (none_fits s)
 
 negative_fits : (o : Option ℕ) → Fits int_sort (negative_of o)
 negative_fits None = none_fits int_sort
@@ -49,8 +47,8 @@ plain_fits (Some n) = some_fits int_sort (int (pos n)) tt
 integer_fits : (word : List ℕ) → Fits int_sort (integer_of word)
 integer_fits [] = none_fits int_sort
 integer_fits (first ∷ rest) =
-    cond_fits int_sort (first == 45) (negative_of (decimal_of most_integer rest)) (option_map (λ n. int (pos n)) (decimal_of most_integer (first ∷ rest)))
-    (negative_fits (decimal_of most_integer rest)) (plain_fits (decimal_of most_integer (first ∷ rest)))
+    cond_fits int_sort (first == 45) (negative_of (decimal_of standard_limits.integer rest)) (option_map (λ n. int (pos n)) (decimal_of standard_limits.integer (first ∷ rest)))
+    (negative_fits (decimal_of standard_limits.integer rest)) (plain_fits (decimal_of standard_limits.integer (first ∷ rest)))
 
 argument_fits : (s : ValueSort) (word : List ℕ) → Fits s (argument_of s word)
 argument_fits node_sort word =
@@ -60,7 +58,7 @@ argument_fits list_sort word =
     cond_fits list_sort (bytes_eq word (codes "nolist")) (Some nolist) (marked 37 list_number word) (some_fits list_sort nolist tt)
     (marked_fits list_sort list_number (λ n. omega arith) 37 word)
 argument_fits int_sort word = integer_fits word
-argument_fits str_sort word = cond_fits str_sort (nat_le (length word) most_text) (Some (str word)) None (some_fits str_sort (str word) tt) (none_fits str_sort)
+argument_fits str_sort word = cond_fits str_sort (nat_le (length word) standard_limits.text_bytes) (Some (str word)) None (some_fits str_sort (str word) tt) (none_fits str_sort)
 argument_fits bool_sort word =
     cond_fits bool_sort (bytes_eq word (codes "yes")) (Some (boolean true)) (cond (bytes_eq word (codes "no")) (Some (boolean false)) None)
     (some_fits bool_sort (boolean true) tt)

@@ -1,10 +1,12 @@
 -- What follows from an answer: each clause of the top call.
 use Rattle.std.proofs.Common.{◌≡◌, ◌⊎◌, inl, inr, ℕ, ◌<◌, Bool, true, false, List, Option, Some, None, refl, sym, ◌∙◌, subst, arith, length, Result, Ok, Err, IfOk}
 use Rattle.outside_io.specs.Causes.{Told}
-use Rattle.model_programs.specs.Theories.{Theory}
+use Rattle.model_commands.specs.Theories.{Theory}
 use Rattle.model_rules.specs.Accepted.{IsAccepted}
 use Rattle.model_rules.proofs.Sound.{accepted_hold}
-use Rattle.model_grammar.specs.Files.{SpellsFile, most_bytes, lexemes_of}
+use Rattle.model_grammar.specs.Files.{SpellsFile}
+use Rattle.model_text.specs.Nesting.{lexemes_of}
+use Rattle.model_limits.specs.Limits.{standard_limits}
 use Rattle.model_answers.specs.Words.{Request, check, run}
 use Rattle.model_answers.specs.Output.{accepted_line, bad_words_line}
 use Rattle.proof_text.proofs.Exact.{one_theory}
@@ -82,7 +84,7 @@ bad_words_where (Some (run file procedure document fuel arguments)) books s outp
     (ran file procedure document fuel arguments bytes told (not_called nothing))
 
 -- a file with more bytes than the limit spells nothing
-pub too_large : (bytes : List ℕ) → most_bytes < length bytes → Unreadable bytes
+pub too_large : (bytes : List ℕ) → standard_limits.file_bytes < length bytes → Unreadable bytes
 too_large bytes lt t spells = omega (arith, spells.small)
 
 -- the answer to words without a reading

@@ -3,9 +3,10 @@ use Rattle.std.proofs.Common.{◌≡◌, ℕ, List, Option, Some, None, refl, sy
 use Rattle.model_shapes.specs.Trees.{Trees}
 use Rattle.model_shapes.specs.Values.{Value}
 use Rattle.model_formulas.specs.Formulas.{Named}
-use Rattle.model_programs.specs.Theories.{ProcedureOf, Theory}
+use Rattle.model_commands.specs.Theories.{ProcedureOf, Theory}
 use Rattle.model_rules.specs.Accepted.{IsAccepted}
-use Rattle.model_grammar.specs.Files.{SpellsFile, lexemes_of}
+use Rattle.model_grammar.specs.Files.{SpellsFile}
+use Rattle.model_text.specs.Nesting.{lexemes_of}
 use Rattle.model_answers.specs.Words.{Request, check, run}
 use Rattle.model_answers.specs.Arguments.{called}
 use Rattle.model_answers.specs.Documents.{SpellsDocument}

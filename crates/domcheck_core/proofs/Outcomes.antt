@@ -5,20 +5,20 @@ use Rattle.model_shapes.specs.Sorts.{shape, grove, same_data_sort}
 use Rattle.model_shapes.specs.Trees.{Trees, WellFormed}
 use Rattle.model_shapes.specs.Values.{Value}
 use Rattle.model_formulas.specs.Formulas.{Named}
-use Rattle.model_programs.specs.Stores.{ProgVar, Store}
-use Rattle.model_programs.specs.Commands.{Command, skip, block, assign, create_node, node_name, child_nodes, parent_node, list_item, append_child, remove_child, if_else, while_do, local, call}
-use Rattle.model_programs.specs.CommandParts.{commands_in}
-use Rattle.model_programs.specs.Theories.{ProcedureOf, Theory, Procedures, procedures_of}
-use Rattle.model_programs.specs.FileFaults.{IsWellFormedTheory}
-use Rattle.model_programs.specs.Fitting.{FitsConfig, Fine}
-use Rattle.model_programs.specs.LocalTriples.{Ends}
-use Rattle.model_programs.specs.Behind.{Behind}
-use Rattle.model_programs.specs.Machine as machine
-use Rattle.model_programs.specs.Outcomes as model
-use Rattle.model_programs.specs.Outcomes.{standard_limits}
-use Rattle.model_programs.proofs.Picks.{outcome-behind}
-use Rattle.model_programs.proofs.Fine.{runs-fine}
-use Rattle.model_programs.proofs.WellFormedTheories.{well-formed-bodies}
+use Rattle.model_terms.specs.Stores.{ProgVar, Store}
+use Rattle.model_commands.specs.Commands.{Command, skip, block, assign, create_node, node_name, child_nodes, parent_node, list_item, append_child, remove_child, if_else, while_do, local, call}
+use Rattle.model_commands.specs.CommandParts.{commands_in}
+use Rattle.model_commands.specs.Theories.{ProcedureOf, Theory, Procedures, procedures_of}
+use Rattle.model_files.specs.FileFaults.{IsWellFormedTheory}
+use Rattle.model_machine.specs.Fitting.{FitsConfig, Fine}
+use Rattle.model_machine.specs.LocalTriples.{Ends}
+use Rattle.model_machine.specs.Behind.{Behind}
+use Rattle.model_machine.specs.Machine as machine
+use Rattle.model_machine.specs.Outcomes as model
+use Rattle.model_limits.specs.Limits.{standard_limits}
+use Rattle.model_machine.proofs.Picks.{outcome-behind}
+use Rattle.model_machine.proofs.Fine.{runs-fine}
+use Rattle.model_files.proofs.WellFormedTheories.{well-formed-bodies}
 use Rattle.model_grammar.specs.FirstForm.{is_first_kind, is_first_command, is_first_formula, is_first_step, is_first_procedure}
 use Rattle.dom_syntax.specs.declared.theories.Procedure.{Procedure}
 use Rattle.dom_syntax.specs.Theories.{procedure_of}

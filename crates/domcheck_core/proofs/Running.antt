@@ -4,7 +4,7 @@ use Rattle.outside_io.specs.Causes.{Told, Rose, next_count}
 use Rattle.model_shapes.specs.Trees.{Trees}
 use Rattle.model_shapes.specs.Values.{Value}
 use Rattle.model_formulas.specs.Formulas.{Named}
-use Rattle.model_programs.specs.Theories.{ProcedureOf, Theory}
+use Rattle.model_commands.specs.Theories.{ProcedureOf, Theory}
 use Rattle.model_grammar.specs.Files.{SpellsFile}
 use Rattle.model_answers.specs.Words.{Request, run}
 use Rattle.model_answers.specs.Arguments.{called}

@@ -2,8 +2,8 @@
 use Rattle.std.proofs.Common.{◌≡◌, ℕ, ◌≤◌, ◌<◌, List, [], ◌∷◌, ◌++◌, length, arith, length-append, codes}
 use Rattle.model_formulas.specs.Formulas.{Named}
 use Rattle.model_formulas.specs.WellSorted.{parts}
-use Rattle.model_programs.specs.Stores.{ProgVar}
-use Rattle.model_programs.specs.Theories.{JudgementOf, StepOf, ProcedureOf, Theory}
+use Rattle.model_terms.specs.Stores.{ProgVar}
+use Rattle.model_commands.specs.Theories.{JudgementOf, StepOf, ProcedureOf, Theory}
 use Rattle.model_text.specs.Lexemes.{Lexeme, terminal}
 use Rattle.model_grammar.specs.Expressions.{one, SpellsFormula, true_word, empty_grove, equation, both}
 use Rattle.model_grammar.specs.Grammar.{SpellsJudgement, triple_at, SpellsStep, by_word, SpellsSteps, no_step, one_step, SpellsProcedure, procedure, SpellsProcedures, last_procedure, more_procedures, SpellsTheory, theory}

@@ -5,7 +5,7 @@ use Rattle.model_text.specs.Lexemes.{Lexeme, lexeme_of}
 use Rattle.text_tokens.specs.declared.tokens.Token.{Token}
 use Rattle.text_tokens.specs.Tokens.{token_of}
 use Rattle.token_readers.specs.Leaves.{seen, lexemes_in}
-use Rattle.model_grammar.specs.Files.{lexemes_of}
+use Rattle.model_text.specs.Nesting.{lexemes_of}
 
 seen_all : (ts : List Token) → lexemes_in ts ≡ map lexeme_of (map token_of ts)
 seen_all [] = refl

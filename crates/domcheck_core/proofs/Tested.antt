@@ -5,7 +5,7 @@ use Rattle.model_text.specs.Tokens.{tokens_of}
 use Rattle.text_tokens.specs.declared.tokens.Token.{Token}
 use Rattle.text_tokens.specs.Tokens.{token_of}
 use Rattle.token_readers.specs.Leaves.{lexemes_in}
-use Rattle.model_grammar.specs.Files.{lexemes_of, nests_within, texts_within}
+use Rattle.model_text.specs.Nesting.{lexemes_of, nests_within, texts_within}
 use Rattle.domcheck_core.proofs.Spelling.{same_lexemes}
 
 pub both : (a b : Bool) → (a && b) ≡ true → (a ≡ true) × (b ≡ true)

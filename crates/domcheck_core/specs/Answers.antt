@@ -3,11 +3,13 @@ use Rattle.std.specs.Prelude.{◌≡◌, ℕ, nat_le, Bool, true, false, List, O
 use Rattle.model_shapes.specs.Trees.{Trees}
 use Rattle.model_shapes.specs.Values.{Value}
 use Rattle.model_formulas.specs.Formulas.{Named}
-use Rattle.model_programs.specs.Stores.{ProgVar}
-use Rattle.model_programs.specs.Theories.{ProcedureOf, Theory, procedures_of}
-use Rattle.model_programs.specs.Machine.{start}
-use Rattle.model_programs.specs.Outcomes as outcomes
-use Rattle.model_programs.specs.Outcomes.{Outcome, ends, spends, passes_limit, has_fault, no_pick, standard_limits, size, outcome}
+use Rattle.model_terms.specs.Stores.{ProgVar}
+use Rattle.model_commands.specs.Theories.{ProcedureOf, Theory, procedures_of}
+use Rattle.model_machine.specs.Machine.{start}
+use Rattle.model_machine.specs.Outcomes as outcomes
+use Rattle.model_machine.specs.Outcomes.{Outcome, ends, spends, passes_limit, has_fault, no_pick, outcome}
+use Rattle.model_limits.specs.Limits.{standard_limits}
+use Rattle.model_groves.specs.Sizes.{size}
 use Rattle.model_rules.specs.Accepted.{IsAccepted}
 use Rattle.model_documents.specs.Numbers.{Numbered, first_out_of_range, first_repeat}
 use Rattle.model_grammar.specs.Files.{SpellsFile}

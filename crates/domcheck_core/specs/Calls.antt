@@ -1,7 +1,7 @@
 -- What a call of the program stands for, and what a run needs of it; nothing here is to be believed.
 use Rattle.std.specs.Prelude.{◌≡◌, ℕ, List, Some, slice_get, map}
 use Rattle.model_shapes.specs.Trees.{WellFormed}
-use Rattle.model_programs.specs.Fitting.{ValuesFit}
+use Rattle.model_machine.specs.Fitting.{ValuesFit}
 use Rattle.model_grammar.specs.Files.{IsOfForm}
 use Rattle.dom_terms.specs.Terms.{prog_var_of}
 use Rattle.grove_data.specs.Trees.{forest_of}

@@ -2,8 +2,8 @@
 use Rattle.std.specs.Prelude.{◌≡◌, ◌⊎◌, ℕ, Bool, true, false, List, [], Option, Some, None}
 use Rattle.outside_io.specs.Causes.{Told}
 use Rattle.outside_io.specs.Pieces.{Took, TookPrefix}
-use Rattle.model_programs.specs.Theories.{Theory, procedures_of}
-use Rattle.model_programs.specs.LocalTriples.{MeetsItsSpecification}
+use Rattle.model_commands.specs.Theories.{Theory, procedures_of}
+use Rattle.model_machine.specs.LocalTriples.{MeetsItsSpecification}
 use Rattle.model_rules.specs.Accepted.{Each}
 use Rattle.model_grammar.specs.Files.{SpellsFile}
 use Rattle.model_answers.specs.Words.{Request, check, run}

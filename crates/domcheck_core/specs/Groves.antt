@@ -3,7 +3,8 @@ use Rattle.std.specs.Prelude.{◌≡◌, nat_le, Option, Some}
 use Rattle.model_shapes.specs.Sorts.{shape, grove}
 use Rattle.model_shapes.specs.Trees.{Trees}
 use Rattle.model_shapes.specs.Shapes.{Shaped}
-use Rattle.model_programs.specs.Outcomes.{standard_limits, size}
+use Rattle.model_limits.specs.Limits.{standard_limits}
+use Rattle.model_groves.specs.Sizes.{size}
 use Rattle.model_documents.specs.Numbers.{first_repeat}
 use Rattle.fault_report.specs.Lines.{line_of}
 use Rattle.domcheck_core.specs.Answers.{Answer, unless_unfit, unless_repeated, unless_too_large}

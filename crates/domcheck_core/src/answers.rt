@@ -2,7 +2,7 @@
 ghost use Rattle.std.specs.Prelude.{◌≡◌, ◌≤◌, ℕ, List, true, None, Some, map, string_bytes, length, IfOk, IsErrOf};
 ghost use Rattle.outside_io.specs.Causes.{Rose, Told};
 ghost use Rattle.model_answers.specs.Words.{reading_of, check};
-ghost use Rattle.model_grammar.specs.Files.{most_bytes};
+ghost use Rattle.model_limits.specs.Limits.{standard_limits};
 ghost use Rattle.domcheck_core.specs.Answers.{CheckAnswer, IsAnswer, IsTold};
 ghost use Rattle.domcheck_core.specs.Clauses.{may_answer, ReadRose, speaks};
 
@@ -20,7 +20,7 @@ use std::alloc::Global;
 
 // The answer on the bytes of a file.
 fn judge(alloc: Global, bytes: &[u8]) -> Result<Reply, OutOfMemory>
-    requires { length bytes.now ≤ most_bytes }
+    requires { length bytes.now ≤ standard_limits.file_bytes }
     ensures { IfOk result (λ r. CheckAnswer bytes.now r.status r.output) }
 {
     let Some(theory) = read_file(alloc, bytes)? else {

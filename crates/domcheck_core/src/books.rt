@@ -1,7 +1,7 @@
 // The books that the words name.
 ghost use Rattle.std.specs.Prelude.{◌≡◌, ◌≤◌, ◌<◌, ℕ, List, Some, length, IfOk, IsErrOf, MatchOption};
 ghost use Rattle.outside_io.specs.Causes.{Rose, Told};
-ghost use Rattle.model_grammar.specs.Files.{most_bytes};
+ghost use Rattle.model_limits.specs.Limits.{standard_limits};
 ghost use Rattle.dom_syntax.specs.Theories.{theory_of};
 ghost use Rattle.model_grammar.specs.Files.{SpellsFile};
 ghost use Rattle.model_answers.specs.Documents.{SpellsDocument};
@@ -24,8 +24,8 @@ pub fn read_book<L: Library>(
     name: &str,
 ) -> Result<Option<Vec<u8>>, Refusal>
     ensures whole { IfOk result (λ found. Told (L.book library.old name.now)
-        (λ b. MatchOption found (most_bytes < length b) (λ bytes. bytes.items ≡ b))) }
-    ensures small { IfOk result (λ found. MatchOption found Unit (λ bytes. length bytes.items ≤ most_bytes)) }
+        (λ b. MatchOption found (standard_limits.file_bytes < length b) (λ bytes. bytes.items ≡ b))) }
+    ensures small { IfOk result (λ found. MatchOption found Unit (λ bytes. length bytes.items ≤ standard_limits.file_bytes)) }
     ensures cause { IsErrOf result Refusal.ReadFault
         → Rose (L.faults library.old name.now) (L.faults library.new name.now) }
     ensures kept { (other : List ℕ)

@@ -1,7 +1,7 @@
 // From the bytes of a document to the grove that it spells.
 ghost use Rattle.std.specs.Prelude.{◌≡◌, ◌≤◌, length, IfOk, MatchOption};
 ghost use Rattle.logic_text.specs.RawGroves.{raw_forest_of};
-ghost use Rattle.model_grammar.specs.Files.{most_bytes};
+ghost use Rattle.model_limits.specs.Limits.{standard_limits};
 ghost use Rattle.model_answers.specs.Documents.{SpellsDocument};
 ghost use Rattle.domcheck_core.specs.Answers.{NoDocument};
 
@@ -17,7 +17,7 @@ const MOST_OPEN: u32 = 200;
 
 /// The grove that the bytes spell, whatever its numbers, or none where they spell no document.
 pub fn read_document(alloc: Global, bytes: &[u8]) -> Result<Option<RawGrove>, OutOfMemory>
-    requires { length bytes.now ≤ most_bytes }
+    requires { length bytes.now ≤ standard_limits.file_bytes }
     ensures { IfOk result (λ found. MatchOption found (NoDocument bytes.now)
         (λ g. SpellsDocument bytes.now (raw_forest_of g))) }
 {

@@ -1,7 +1,8 @@
 // From the bytes of a file to its theory.
 ghost use Rattle.std.specs.Prelude.{◌≡◌, ◌≤◌, length, IfOk, MatchOption};
 ghost use Rattle.dom_syntax.specs.Theories.{theory_of};
-ghost use Rattle.model_grammar.specs.Files.{SpellsFile, most_bytes};
+ghost use Rattle.model_grammar.specs.Files.{SpellsFile};
+ghost use Rattle.model_limits.specs.Limits.{standard_limits};
 ghost use Rattle.domcheck_core.specs.Answers.{Unreadable};
 
 use crate::form::is_of_form;
@@ -18,7 +19,7 @@ const MOST_OPEN: u32 = 100;
 
 /// The theory that the bytes spell, or none where they spell none of the form that is read.
 pub fn read_file(alloc: Global, bytes: &[u8]) -> Result<Option<Theory>, OutOfMemory>
-    requires { length bytes.now ≤ most_bytes }
+    requires { length bytes.now ≤ standard_limits.file_bytes }
     ensures { IfOk result (λ found. MatchOption found (Unreadable bytes.now) (λ t. SpellsFile bytes.now (theory_of t))) }
 {
     let tokens = token_list(alloc, bytes)?;

@@ -1,8 +1,10 @@
 // Which tokens and theories are within the limits of a file.
+ghost use Rattle.model_limits.specs.Limits.{standard_limits};
 ghost use Rattle.std.specs.Prelude.{◌≡◌, ◌<◌, ◌≤◌, ◌&&◌, MatchOption, map};
 ghost use Rattle.dom_syntax.specs.Theories.{procedure_of};
 ghost use Rattle.token_readers.specs.Leaves.{seen, lexemes_in};
-ghost use Rattle.model_grammar.specs.Files as files;
+ghost use Rattle.model_text.specs.Nesting as nesting;
+ghost use Rattle.model_files.specs.FileLimits as files;
 
 use dom_syntax::Procedure;
 use text_tokens::Token;
@@ -19,14 +21,14 @@ const MOST_STEPS: usize = 65_535;
 
 // Whether the token is an opening bracket.
 fn opens(token: &Token) -> bool
-    ensures { result ≡ files.opens (seen token.now) }
+    ensures { result ≡ nesting.opens (seen token.now) }
 {
     is_this(token, "(") || is_this(token, "[") || is_this(token, "{") || is_this(token, "<")
 }
 
 // Whether the token is a closing bracket.
 fn closes(token: &Token) -> bool
-    ensures { result ≡ files.closes (seen token.now) }
+    ensures { result ≡ nesting.closes (seen token.now) }
 {
     is_this(token, ")") || is_this(token, "]") || is_this(token, "}") || is_this(token, ">")
 }
@@ -34,7 +36,7 @@ fn closes(token: &Token) -> bool
 // How many brackets are open behind the token, where so many are open before it.
 fn open_behind(before: u32, token: &Token) -> u32
     requires { before ≤ 1000 }
-    ensures { result ≡ files.open_behind before (seen token.now) }
+    ensures { result ≡ nesting.open_behind before (seen token.now) }
 {
     if opens(token) {
         before + 1
@@ -48,7 +50,7 @@ fn open_behind(before: u32, token: &Token) -> u32
 // Whether never more brackets are open than the most.
 fn nest_within(tokens: &[Token], most: u32) -> bool
     requires { most ≤ 1000 }
-    ensures { result ≡ files.nests_within most 0 (lexemes_in tokens.now) }
+    ensures { result ≡ nesting.nests_within most 0 (lexemes_in tokens.now) }
 {
     let mut rest = tokens;
     let mut depth = 0u32;
@@ -64,7 +66,7 @@ fn nest_within(tokens: &[Token], most: u32) -> bool
 
 // Whether the token stands for no longer text than the most.
 fn is_text_within(token: &Token) -> bool
-    ensures { result ≡ files.text_within (seen token.now) }
+    ensures { result ≡ nesting.text_within (seen token.now) }
 {
     match token.literal() {
         Some(text) => text.len() <= MOST_TEXT,
@@ -74,7 +76,7 @@ fn is_text_within(token: &Token) -> bool
 
 // Whether no literal stands for a longer text than the most.
 fn texts_within(tokens: &[Token]) -> bool
-    ensures { result ≡ files.texts_within (lexemes_in tokens.now) }
+    ensures { result ≡ nesting.texts_within (lexemes_in tokens.now) }
 {
     let mut rest = tokens;
     'tokens: while let [first, others @ ..] = rest {
@@ -89,7 +91,7 @@ fn texts_within(tokens: &[Token]) -> bool
 /// Whether at most so many brackets are open at each token, and the literals are within the limit.
 pub fn are_within(tokens: &[Token], most_open: u32) -> bool
     requires { most_open ≤ 1000 }
-    ensures { result ≡ (files.nests_within most_open 0 (lexemes_in tokens.now) && files.texts_within (lexemes_in tokens.now)) }
+    ensures { result ≡ (nesting.nests_within most_open 0 (lexemes_in tokens.now) && nesting.texts_within (lexemes_in tokens.now)) }
 {
     nest_within(tokens, most_open) && texts_within(tokens)
 }

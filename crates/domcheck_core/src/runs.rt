@@ -2,7 +2,7 @@
 ghost use Rattle.std.specs.Prelude.{◌≡◌, ◌≤◌, ◌⊎◌, ℕ, List, Some, true, map, slice_get, IfOk, IsErrOf};
 ghost use Rattle.outside_io.specs.Causes.{Rose, Told};
 ghost use Rattle.model_shapes.specs.Trees.{WellFormed};
-ghost use Rattle.model_programs.specs.Outcomes as outcomes;
+ghost use Rattle.model_machine.specs.Outcomes as outcomes;
 ghost use Rattle.model_answers.specs.Words.{run};
 ghost use Rattle.dom_terms.specs.Terms.{prog_var_of};
 ghost use Rattle.dom_terms.specs.Values.{value_seen};

@@ -4,14 +4,14 @@ use Rattle.std.specs.List.{list_all, list_any, flat_map}
 use Rattle.std.proofs.lemmas.List.Folds.{list_all-append}
 use Rattle.model_shapes.specs.Sorts.{ValueSort, same_value_sort}
 use Rattle.model_shapes.proofs.Truth.{false≢true, both_true}
-use Rattle.model_formulas.specs.Variables.{Var, prog, logic, bound}
-use Rattle.model_formulas.specs.VariableTests.{same_value_sort-is, same_value_sort-refl}
-use Rattle.model_formulas.specs.Terms.{Term, literal, variable, sum, difference, appended}
-use Rattle.model_formulas.specs.WellSorted.{or_else}
-use Rattle.model_programs.specs.Stores.{ProgVar, named}
-use Rattle.model_programs.specs.CommandParts.{variables_of_term}
-use Rattle.model_programs.specs.Theories.{Procedures}
-use Rattle.model_programs.specs.FileFaults.{Scope, name_of, distinct_by, is_among, declared_sort, is_known, is_as_declared, sort_agrees, only_among, is_program}
+use Rattle.model_terms.specs.Variables.{Var, prog, logic, bound}
+use Rattle.model_terms.specs.VariableTests.{same_value_sort-is, same_value_sort-refl}
+use Rattle.model_terms.specs.Terms.{Term, literal, variable, sum, difference, appended}
+use Rattle.model_terms.specs.TermLimits.{or_else}
+use Rattle.model_terms.specs.Stores.{ProgVar, named}
+use Rattle.model_commands.specs.CommandParts.{variables_of_term}
+use Rattle.model_commands.specs.Theories.{Procedures}
+use Rattle.model_files.specs.FileFaults.{Scope, name_of, distinct_by, is_among, declared_sort, is_known, is_as_declared, sort_agrees, only_among, is_program}
 use Rattle.first_form.specs.FormTests.{is_sort_found, sort_in, is_declared, is_term_declared, are_apart}
 
 -- TRUTH VALUES

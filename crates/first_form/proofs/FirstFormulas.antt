@@ -3,14 +3,15 @@ use Rattle.std.proofs.Common.{◌≡◌, ◌∙◌, sym, refl, ap, ℕ, ◌+◌,
 use Rattle.std.specs.List.{list_all}
 use Rattle.model_shapes.specs.Sorts.{shape, node_sort, list_sort, int_sort, str_sort, bool_sort, tree, forest, grove}
 use Rattle.model_shapes.proofs.Truth.{false≢true, both_true}
-use Rattle.model_formulas.specs.Variables.{Var, prog, logic, bound}
-use Rattle.model_formulas.specs.Terms.{Term, literal, variable, sum, difference, appended}
+use Rattle.model_terms.specs.Variables.{Var, prog, logic, bound}
+use Rattle.model_terms.specs.Terms.{Term, literal, variable, sum, difference, appended}
 use Rattle.model_formulas.specs.Formulas.{Named, truth, conjunction, equality, empty}
-use Rattle.model_formulas.specs.WellSorted.{has_sort, both_have, one_sort, alike, own, or_else, first_fault, parts}
-use Rattle.model_programs.specs.Stores.{ProgVar}
-use Rattle.model_programs.specs.CommandParts.{variables_of_term}
-use Rattle.model_programs.specs.FileFaults.{variables_of, is_argument, is_logic_variable}
-use Rattle.model_programs.proofs.FileTests.{all-append}
+use Rattle.model_formulas.specs.WellSorted.{has_sort, both_have, one_sort, alike, own, first_fault, parts}
+use Rattle.model_terms.specs.TermLimits.{or_else}
+use Rattle.model_terms.specs.Stores.{ProgVar}
+use Rattle.model_commands.specs.CommandParts.{variables_of_term}
+use Rattle.model_files.specs.FileFaults.{variables_of, is_argument, is_logic_variable}
+use Rattle.model_files.proofs.FileTests.{all-append}
 use Rattle.model_grammar.specs.FirstForm.{is_first_formula}
 use Rattle.first_form.specs.FormTests.{is_declared, is_term_declared, are_alike, does_formula_fit, does_argument_fit}
 use Rattle.first_form.proofs.Declared.{join, all-join, term-declared}

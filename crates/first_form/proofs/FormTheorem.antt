@@ -3,15 +3,16 @@ use Rattle.std.proofs.Common.{◌≡◌, ◌∙◌, sym, refl, ap, ℕ, ◌+◌,
 use Rattle.std.specs.List.{list_all, list_any}
 use Rattle.model_shapes.specs.Sorts.{shape, grove, same_data_sort}
 use Rattle.model_shapes.proofs.Truth.{false≢true, both_true}
-use Rattle.model_formulas.specs.Variables.{Var}
-use Rattle.model_formulas.specs.VariableTests.{same_data_sort-is, same_data_sort-refl}
+use Rattle.model_terms.specs.Variables.{Var}
+use Rattle.model_terms.specs.VariableTests.{same_data_sort-is, same_data_sort-refl}
 use Rattle.model_formulas.specs.Formulas.{Named}
-use Rattle.model_formulas.specs.WellSorted.{or_else, first_fault}
-use Rattle.model_programs.specs.Stores.{ProgVar}
-use Rattle.model_programs.specs.CommandParts.{commands_in, variables_of_command, locals_of}
-use Rattle.model_programs.specs.Theories.{StepOf, ProcedureOf, Theory, procedures_of}
-use Rattle.model_programs.specs.FileFaults.{FileKind, version_kind, twice_kind, sort_kind, scope_kind, FileFault, unless_kind, name_of, logic_name, distinct_by, Scope, scope_of, variables_of, is_judged_at, is_logic_sort, only_among, command_kind, head_kind, step_kind, fault_at, steps_fault, procedures_fault, declarations_kind, first_file_fault, IsWellFormedTheory}
-use Rattle.model_programs.proofs.FileTests.{all-append}
+use Rattle.model_terms.specs.TermLimits.{or_else}
+use Rattle.model_formulas.specs.WellSorted.{first_fault}
+use Rattle.model_terms.specs.Stores.{ProgVar}
+use Rattle.model_commands.specs.CommandParts.{commands_in, variables_of_command, locals_of}
+use Rattle.model_commands.specs.Theories.{StepOf, ProcedureOf, Theory, procedures_of}
+use Rattle.model_files.specs.FileFaults.{FileKind, version_kind, twice_kind, sort_kind, scope_kind, FileFault, unless_kind, name_of, logic_name, distinct_by, Scope, scope_of, variables_of, is_judged_at, is_logic_sort, only_among, command_kind, head_kind, step_kind, fault_at, steps_fault, procedures_fault, declarations_kind, first_file_fault, IsWellFormedTheory}
+use Rattle.model_files.proofs.FileTests.{all-append}
 use Rattle.model_grammar.specs.FirstForm.{is_first_formula, is_first_kind, is_first_command, is_first_step, is_first_procedure, is_first_form, declares_none}
 use Rattle.first_form.specs.FormTests.{is_declared, does_formula_fit, does_command_fit, do_steps_fit, are_apart, does_head_fit, do_procedures_fit, is_name_among, do_names_differ, does_theory_fit}
 use Rattle.first_form.proofs.Declared.{join, all-join, form_scope, params-only, only-params, declared-only, distinct-apart}

@@ -3,18 +3,18 @@ use Rattle.std.proofs.Common.{◌≡◌, ◌⊎◌, inl, inr, ◌∙◌, sym, re
 use Rattle.std.specs.List.{list_all, list_any, flat_map}
 use Rattle.model_shapes.specs.Sorts.{Sort, shape, tree, forest, grove, same_data_sort}
 use Rattle.model_shapes.proofs.Truth.{false≢true, both_true}
-use Rattle.model_formulas.specs.Variables.{Var}
-use Rattle.model_formulas.specs.VariableTests.{bytes-is, same_data_sort-is}
-use Rattle.model_formulas.specs.Terms.{Term}
+use Rattle.model_terms.specs.Variables.{Var}
+use Rattle.model_terms.specs.VariableTests.{bytes-is, same_data_sort-is}
+use Rattle.model_terms.specs.Terms.{Term}
 use Rattle.model_formulas.specs.Formulas.{Named}
 use Rattle.model_formulas.specs.WellSorted.{first_fault}
-use Rattle.model_programs.specs.Stores.{ProgVar}
-use Rattle.model_programs.specs.Commands.{Command}
-use Rattle.model_programs.specs.CommandParts.{commands_in, variables_of_term, variables_of_command, own_variables, locals}
-use Rattle.model_programs.specs.Theories.{JudgementOf, entails, triple, Reason, auto, by_rule, StepOf, ProcedureOf, Procedures, Theory, procedures_of}
-use Rattle.model_programs.specs.RuleNames.{is_rule_name}
-use Rattle.model_programs.specs.FileFaults.{FileKind, unknown_kind, sort_kind, constant_kind, results_kind, rule_kind, number_kind, unless_kind, name_of, distinct_by, Scope, scope_of, is_known, is_as_declared, variables_of, parts_fit, is_judged_at, is_argument, callee_known, spares, results_apart, command_kind, only_among, head_kind, variables_of_judgement, judgement_sorted, commands_of_judgement, arguments_of, rule_known, step_kind}
-use Rattle.model_programs.proofs.FileTests.{all-append}
+use Rattle.model_terms.specs.Stores.{ProgVar}
+use Rattle.model_commands.specs.Commands.{Command}
+use Rattle.model_commands.specs.CommandParts.{commands_in, variables_of_term, variables_of_command, own_variables, locals}
+use Rattle.model_commands.specs.Theories.{JudgementOf, entails, triple, Reason, auto, by_rule, StepOf, ProcedureOf, Procedures, Theory, procedures_of}
+use Rattle.model_files.specs.RuleNames.{is_rule_name}
+use Rattle.model_files.specs.FileFaults.{FileKind, unknown_kind, sort_kind, constant_kind, results_kind, rule_kind, number_kind, unless_kind, name_of, distinct_by, Scope, scope_of, is_known, is_as_declared, variables_of, parts_fit, is_judged_at, is_argument, callee_known, spares, results_apart, command_kind, only_among, head_kind, variables_of_judgement, judgement_sorted, commands_of_judgement, arguments_of, rule_known, step_kind}
+use Rattle.model_files.proofs.FileTests.{all-append}
 use Rattle.model_grammar.specs.FirstForm.{is_first_formula, is_first_kind, is_first_command, is_first_reason, is_first_judgement, is_first_step}
 use Rattle.first_form.specs.FormTests.{is_declared, is_term_declared, are_alike, does_formula_fit, does_command_fit, does_judgement_fit, does_argument_fit, do_arguments_fit, are_apart, does_head_fit}
 use Rattle.first_form.proofs.Declared.{join, all-join, all-weaker, all-both, all-flat, all-known, known-all, form_scope, term-declared, params-only, only-params, declared-only, distinct-apart}

@@ -4,14 +4,15 @@
 use Rattle.std.specs.Prelude.{ℕ, ◌+◌, ◌==◌, Bool, true, false, not, ◌&&◌, ◌||◌, List, [], ◌∷◌, Option, Some, None, is_none, bytes_eq}
 use Rattle.std.specs.List.{list_all, list_any}
 use Rattle.model_shapes.specs.Sorts.{ValueSort, node_sort, list_sort, int_sort, str_sort, bool_sort, grove, same_value_sort, same_data_sort}
-use Rattle.model_formulas.specs.Variables.{Var, prog}
-use Rattle.model_formulas.specs.Terms.{Term, literal, variable, sum, difference, appended}
+use Rattle.model_terms.specs.Variables.{Var, prog}
+use Rattle.model_terms.specs.Terms.{Term, literal, variable, sum, difference, appended}
 use Rattle.model_formulas.specs.Formulas.{Named, truth, conjunction, equality, empty}
-use Rattle.model_formulas.specs.WellSorted.{has_sort, both_have, or_else}
-use Rattle.model_programs.specs.Stores.{ProgVar, named, sort_of, as_var}
-use Rattle.model_programs.specs.Commands.{Command, skip, block, assign, create_node, node_name, Block, stop, ◌then◌}
-use Rattle.model_programs.specs.Theories.{JudgementOf, entails, triple, Reason, auto, by_rule, StepOf, ProcedureOf, Theory}
-use Rattle.model_programs.specs.FileFaults.{declared_sort, is_among, has_command}
+use Rattle.model_formulas.specs.WellSorted.{has_sort, both_have}
+use Rattle.model_terms.specs.TermLimits.{or_else}
+use Rattle.model_terms.specs.Stores.{ProgVar, named, sort_of, as_var}
+use Rattle.model_commands.specs.Commands.{Command, skip, block, assign, create_node, node_name, Block, stop, ◌then◌}
+use Rattle.model_commands.specs.Theories.{JudgementOf, entails, triple, Reason, auto, by_rule, StepOf, ProcedureOf, Theory}
+use Rattle.model_files.specs.FileFaults.{declared_sort, is_among, has_command}
 use Rattle.model_grammar.specs.FirstForm.{is_first_reason, declares_none}
 
 -- declared with this sort

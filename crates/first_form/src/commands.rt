@@ -3,7 +3,7 @@ ghost use Rattle.std.specs.Prelude.{◌≡◌, map};
 ghost use Rattle.dom_terms.specs.Sorts.{value_sort_of};
 ghost use Rattle.dom_terms.specs.Terms.{prog_var_of, term_of};
 ghost use Rattle.dom_syntax.specs.Commands.{block_of, command_of};
-ghost use Rattle.model_programs.specs.FileFaults as faults;
+ghost use Rattle.model_files.specs.FileFaults as faults;
 ghost use Rattle.first_form.specs.FormTests as tests;
 
 use crate::scopes::{is_among, is_declared};

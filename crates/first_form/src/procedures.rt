@@ -1,6 +1,6 @@
 // Procedures and theories of the first form.
 ghost use Rattle.std.specs.Prelude.{◌≡◌, ◌↔◌, [], IsTrue, IfOk, map};
-ghost use Rattle.model_programs.specs.FileFaults.{IsWellFormedTheory};
+ghost use Rattle.model_files.specs.FileFaults.{IsWellFormedTheory};
 ghost use Rattle.dom_syntax.specs.Theories.{procedure_of, theory_of};
 ghost use Rattle.model_grammar.specs.FirstForm as form;
 ghost use Rattle.model_grammar.specs.FirstForm.{is_first_form};

@@ -1,6 +1,6 @@
 // The variables that are declared: the parameters and the results of a procedure.
 ghost use Rattle.std.specs.Prelude.{◌≡◌, MatchOption, None, Some, map};
-ghost use Rattle.model_programs.specs.FileFaults as faults;
+ghost use Rattle.model_files.specs.FileFaults as faults;
 ghost use Rattle.dom_terms.specs.Sorts.{value_sort_of};
 ghost use Rattle.dom_terms.specs.Terms.{prog_var_of, var_of};
 ghost use Rattle.first_form.specs.FormTests as tests;

@@ -9,7 +9,7 @@ ghost use Rattle.std.specs.Prelude.{◌≡◌, ◌↔◌, map};
 ghost use Rattle.model_shapes.specs.Sorts.{Sort};
 ghost use Rattle.model_shapes.specs.Shapes.{Same};
 ghost use Rattle.model_shapes.specs.Trees.{Trees};
-ghost use Rattle.model_formulas.specs.Variables.{Var};
+ghost use Rattle.model_terms.specs.Variables.{Var};
 ghost use Rattle.model_formulas.specs.Substitution.{formula_with, FreeIn};
 ghost use Rattle.model_formulas.specs.Nameless.{SameFormula, nameless};
 ghost use Rattle.model_formulas.specs.Satisfaction.{Environment, meaning_of};

@@ -1,7 +1,7 @@
 -- The binders that a walk down a formula has passed. A variable is named by the number of binders
 -- between it and its binder, as the nameless form of a formula has it.
 use Rattle.std.specs.Prelude.{List, [], ◌∷◌}
-use Rattle.model_formulas.specs.Variables.{Var}
+use Rattle.model_terms.specs.Variables.{Var}
 use Rattle.dom_terms.specs.Terms.{logic_var_of}
 use Rattle.formula_syntax.specs.declared.binders.Binders.{Binders}
 use Rattle.formula_syntax.specs.declared.binders.Binders.TheVariants as b

@@ -1,11 +1,14 @@
 -- The entailments of the definitions that those of the program stand for.
 use Rattle.model_formulas.specs.Formulas.{Named}
-use Rattle.model_programs.specs.Theories.{JudgementOf, entails}
+use Rattle.model_formulas.specs.Entailments.{EntailmentOf}
 use Rattle.dom_terms.specs.Sorts.{sort_of}
 use Rattle.formula_syntax.specs.declared.entailments.Entailment.{Entailment}
 use Rattle.formula_syntax.specs.Formulas.{formula_of}
 
--- the judgement that the left formula entails the right one at the sort
-abbrev pub entailment_of : Entailment → JudgementOf Named
-entailment_of entailment =
-    entails (formula_of entailment.left) (formula_of entailment.right) (sort_of entailment.sort)
+-- that the left formula entails the right one at the sort
+abbrev pub entailment_of : Entailment → EntailmentOf Named
+entailment_of entailment = record {
+  left = formula_of entailment.left;
+  right = formula_of entailment.right;
+  sort = sort_of entailment.sort;
+}

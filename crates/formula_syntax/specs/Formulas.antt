@@ -1,8 +1,8 @@
 -- The formulas of the definitions, those of POPL 2005 and PODS 2008 with the names that they are
 -- written with, that the formulas of the program stand for; and its variables and pairs.
 use Rattle.model_shapes.specs.Sorts.{forest, grove}
-use Rattle.model_formulas.specs.Variables.{Var}
-use Rattle.model_formulas.specs.Terms as terms
+use Rattle.model_terms.specs.Variables.{Var}
+use Rattle.model_terms.specs.Terms as terms
 use Rattle.model_formulas.specs.Formulas as model
 use Rattle.dom_terms.specs.Sorts.{data_sort_of, sort_of}
 use Rattle.dom_terms.specs.Terms.{var_of, logic_var_of, term_of}

@@ -1,7 +1,7 @@
 -- What a walk down a formula has found so far, and what binders leave of it.
 -- Nothing here is to be believed: it divides the list of the free variables into steps.
 use Rattle.std.specs.Prelude.{cond, List, [], ◌∷◌, ◌++◌}
-use Rattle.model_formulas.specs.Variables.{Var}
+use Rattle.model_terms.specs.Variables.{Var}
 use Rattle.formula_syntax.specs.FreeVariables.{is_among, without}
 
 -- the list without what these binders bind

@@ -2,7 +2,7 @@
 -- `own` in `first_fault`. Nothing here is to be believed: the sort test is stated by `first_fault`.
 use Rattle.std.specs.Prelude.{Bool, ◌&&◌}
 use Rattle.model_shapes.specs.Sorts.{Sort, shape, context, node_sort, list_sort, int_sort, str_sort, tree, forest, grove, is_sort, outer, giving, same_sort}
-use Rattle.model_formulas.specs.Variables.{var_sort}
+use Rattle.model_terms.specs.Variables.{var_sort}
 use Rattle.model_formulas.specs.Formulas.{Named, truth, falsity, conjunction, disjunction, implication, negation, existential, universal, equality, at_most, empty, bare_hole, node_formula, one_tree, one_root, concatenation, grove_sum, grove_sum_hole, application, hole_adjoint, context_adjoint, same_as, length_is, value_meets}
 use Rattle.model_formulas.specs.WellSorted.{has_sort, both_have, is_form, one_sort, is_shape, is_context, gives, side_fits, variable_at}
 

@@ -1,7 +1,7 @@
 -- What a walk of the substitution answers, below the binders that it has passed.
 -- Nothing here is to be believed: the substitution itself is stated without it.
 use Rattle.std.specs.Prelude.{◌≡◌, map}
-use Rattle.model_formulas.specs.Terms.{Term, Substitution, term_with}
+use Rattle.model_terms.specs.Terms.{Term, Substitution, term_with}
 use Rattle.model_formulas.specs.Formulas.{Named}
 use Rattle.model_formulas.specs.Nameless.{naming, walked}
 use Rattle.model_formulas.specs.Substitution.{formula_with}

@@ -18,9 +18,9 @@ pub struct Entailment {
 
 impl Copied for Entailment {
     ghost use Rattle.model_formulas.specs.Formulas.{Named};
-    ghost use Rattle.model_programs.specs.Theories.{JudgementOf};
+    ghost use Rattle.model_formulas.specs.Entailments.{EntailmentOf};
 
-    ghost Seen = { JudgementOf Named };
+    ghost Seen = { EntailmentOf Named };
 
     ghost seen = { entailment_of };
 

@@ -1,6 +1,6 @@
 ghost use Rattle.std.specs.Prelude.{◌≡◌, ◌<◌, ◌^◌, MatchOption, MatchBool, length, map};
-ghost use Rattle.model_formulas.specs.Variables.{same_var};
-ghost use Rattle.model_formulas.specs.Terms.{term_with, variable, Substitution};
+ghost use Rattle.model_terms.specs.Variables.{same_var};
+ghost use Rattle.model_terms.specs.Terms.{term_with, variable, Substitution};
 ghost use Rattle.model_formulas.specs.Nameless.{names, naming};
 ghost use Rattle.model_formulas.specs.SameFormulas as tests;
 ghost use Rattle.dom_terms.specs.Terms.{logic_var_of, term_of};

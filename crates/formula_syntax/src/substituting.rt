@@ -1,5 +1,5 @@
 ghost use Rattle.std.specs.Prelude.{◌≡◌, ◌≤◌, IfOk, None, true, ◌∷◌, map};
-ghost use Rattle.model_formulas.specs.Terms as terms;
+ghost use Rattle.model_terms.specs.Terms as terms;
 ghost use Rattle.model_formulas.specs.Nameless.{nameless, walked};
 ghost use Rattle.model_formulas.specs.Substitution.{formula_with};
 ghost use Rattle.model_formulas.specs.WellSorted.{parts};

@@ -23,7 +23,7 @@ pub struct Pair {
 }
 
 impl Copied for AnyVar {
-    ghost use Rattle.model_formulas.specs.Variables as model;
+    ghost use Rattle.model_terms.specs.Variables as model;
 
     ghost Seen = { model.Var };
 
@@ -40,8 +40,8 @@ impl Copied for AnyVar {
 }
 
 impl Copied for Pair {
-    ghost use Rattle.model_formulas.specs.Variables as model;
-    ghost use Rattle.model_formulas.specs.Terms as terms;
+    ghost use Rattle.model_terms.specs.Variables as model;
+    ghost use Rattle.model_terms.specs.Terms as terms;
 
     ghost Seen = { model.Var × terms.Term };
 

@@ -1,7 +1,7 @@
 -- The greatest numbers and the size of a forest, tree by tree.
 use Rattle.std.proofs.Common.{◌≡◌, ℕ, ◌<◌, ◌+◌, max, List, length, get_or, drop, ◌∙◌, ap, arith}
 use Rattle.model_shapes.specs.Trees.{Trees, none, node, hole, beside}
-use Rattle.model_programs.specs.Outcomes.{greatest_node, greatest_list, size}
+use Rattle.model_groves.specs.Sizes.{greatest_node, greatest_list, size}
 use Rattle.grove_data.specs.Trees.{tree_of, forest_of}
 use Rattle.grove_data.specs.declared.trees.Tree.{Tree, out-Tree}
 use Rattle.grove_data.proofs.Walks.{tree_is, forest_at}

@@ -4,9 +4,9 @@ use Rattle.std.proofs.Math.Decide.{ℕ_discrete}
 use Rattle.std.specs.Option.{option_or}
 use Rattle.model_shapes.specs.Trees.{Trees, none, node, hole, beside, width, WellFormed}
 use Rattle.model_shapes.proofs.Basics.{beside-none}
-use Rattle.model_programs.specs.Stores.{is_yes}
-use Rattle.model_programs.specs.Groves.{nodes_where, has_root, numbered, listed}
-use Rattle.model_programs.proofs.Groves.{those-beside, those-pass, Roots, width-numbered, width-listed}
+use Rattle.model_groves.specs.Groves.{is_yes}
+use Rattle.model_groves.specs.Groves.{nodes_where, has_root, numbered, listed}
+use Rattle.model_groves.proofs.Groves.{those-beside, those-pass, Roots, width-numbered, width-listed}
 use Rattle.grove_data.specs.Finding.{first_tree}
 use Rattle.grove_data.specs.Trees.{tree_of, forest_of}
 use Rattle.grove_data.specs.declared.trees.Tree.{Tree, out-Tree}

@@ -4,9 +4,9 @@ use Rattle.std.proofs.Math.Decide.{ℕ_discrete}
 use Rattle.model_shapes.specs.Values.{null, node_number}
 use Rattle.model_shapes.specs.Trees.{Trees, none, node, hole, beside, width, node_uses, tally, WellFormed}
 use Rattle.model_shapes.proofs.Basics.{width-beside}
-use Rattle.model_programs.specs.Stores.{is_yes}
-use Rattle.model_programs.specs.Groves.{nodes_where, has_root, numbered, parental, first_number}
-use Rattle.model_programs.proofs.Groves.{bit, width-parental, width-numbered, those-pass, Roots}
+use Rattle.model_groves.specs.Groves.{is_yes}
+use Rattle.model_groves.specs.Groves.{nodes_where, has_root, numbered, parental, first_number}
+use Rattle.model_groves.proofs.Groves.{bit, width-parental, width-numbered, those-pass, Roots}
 use Rattle.grove_data.specs.Trees.{tree_of}
 use Rattle.grove_data.specs.Finding.{first_tree}
 use Rattle.grove_data.specs.declared.trees.Tree.{Tree, out-Tree}

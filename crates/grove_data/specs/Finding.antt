@@ -3,7 +3,7 @@
 use Rattle.std.specs.Prelude.{ℕ, Bool, Option, Some, None}
 use Rattle.model_shapes.specs.Values.{Value, null, node_number}
 use Rattle.model_shapes.specs.Trees.{Trees, none, node, hole}
-use Rattle.model_programs.specs.Groves.{numbered, listed, parental}
+use Rattle.model_groves.specs.Groves.{numbered, listed, parental}
 use Rattle.grove_data.specs.declared.finding.Wanted.{Wanted}
 use Rattle.grove_data.specs.declared.finding.Wanted.TheVariants as w
 

@@ -1,6 +1,6 @@
 // The greatest numbers of a grove, and how many nodes it has.
 ghost use Rattle.std.specs.Prelude.{◌≡◌, ◌+◌, ◌<◌, max, nat_le, MatchOption};
-ghost use Rattle.model_programs.specs.Outcomes.{greatest_node, greatest_list, size};
+ghost use Rattle.model_groves.specs.Sizes.{greatest_node, greatest_list, size};
 ghost use Rattle.grove_data.specs.Trees.{tree_of, forest_of};
 
 use crate::trees::{Forest, Grove, Tree};

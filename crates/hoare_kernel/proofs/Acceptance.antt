@@ -3,15 +3,15 @@ use Rattle.std.proofs.Common.{◌≡◌, ℕ, Bool, true, false, ◌&&◌, ◌==
 use Rattle.std.specs.Option.{option_map}
 use Rattle.std.proofs.lemmas.Slice.Eq.{bytes_eq-Decides}
 use Rattle.model_shapes.specs.Sorts.{DataSort, Sort, same_data_sort}
-use Rattle.model_formulas.specs.VariableTests.{same_data_sort-is, same_data_sort-refl}
-use Rattle.model_formulas.specs.Terms.{Term}
+use Rattle.model_terms.specs.VariableTests.{same_data_sort-is, same_data_sort-refl}
+use Rattle.model_terms.specs.Terms.{Term}
 use Rattle.model_formulas.specs.Formulas.{Named, Formula}
 use Rattle.model_formulas.specs.Nameless.{nameless}
 use Rattle.model_formulas.specs.Substitution.{formula_with, replacing}
-use Rattle.model_programs.specs.Stores.{ProgVar, as_var, sort_of}
-use Rattle.model_programs.specs.Commands.{Command, skip, assign, block, Block, stop, ◌then◌}
-use Rattle.model_programs.specs.Theories.{JudgementOf, Judgement, entails, triple, Reason, auto, by_rule, StepOf, Step, ProcedureOf, Theory, nameless_judgement, nameless_step, nameless_procedure, procedures_of}
-use Rattle.model_programs.specs.FileFaults.{evaluates, has_command}
+use Rattle.model_terms.specs.Stores.{ProgVar, as_var, sort_of}
+use Rattle.model_commands.specs.Commands.{Command, skip, assign, block, Block, stop, ◌then◌}
+use Rattle.model_commands.specs.Theories.{JudgementOf, Judgement, entails, triple, Reason, auto, by_rule, StepOf, Step, ProcedureOf, Theory, nameless_judgement, nameless_step, nameless_procedure, procedures_of}
+use Rattle.model_files.specs.FileFaults.{evaluates, has_command}
 use Rattle.model_rules.specs.Rows.{Chain, last_link, more_links, Row, skip_row, assign_row, seq_row}
 use Rattle.model_rules.specs.Accepted.{judgement_numbered, Cites, InstanceBy, AllInstances, last_judgement, own_triple, IsProved, Each, IsAccepted}
 use Rattle.dom_syntax.specs.SameCommands.{same_command}

@@ -2,18 +2,19 @@
 use Rattle.std.proofs.Common.{◌≡◌, ◌⊎◌, inl, inr, ℕ, Bool, true, false, ◌&&◌, List, [], ◌∷◌, map, refl, sym, ap, subst, ◌∙◌, IsTrue}
 use Rattle.model_formulas.specs.Formulas.{Named, formula_eq}
 use Rattle.model_formulas.specs.Nameless.{nameless}
-use Rattle.model_programs.specs.Stores.{ProgVar, as_var, is_yes}
-use Rattle.model_programs.specs.Commands.{Command, skip, block, assign, create_node, node_name, child_nodes, parent_node, list_item, append_child, remove_child, if_else, while_do, local, call}
+use Rattle.model_terms.specs.Stores.{ProgVar, as_var}
+use Rattle.model_groves.specs.Groves.{is_yes}
+use Rattle.model_commands.specs.Commands.{Command, skip, block, assign, create_node, node_name, child_nodes, parent_node, list_item, append_child, remove_child, if_else, while_do, local, call}
 use Rattle.std.specs.Prelude.{◌↔◌}
 use Rattle.std.specs.List.{list_all}
 use Rattle.std.proofs.Common.{◌++◌}
-use Rattle.model_formulas.specs.Variables.{Var}
-use Rattle.model_programs.specs.FileFaults.{is_program}
+use Rattle.model_terms.specs.Variables.{Var}
+use Rattle.model_files.specs.FileFaults.{is_program}
 use Rattle.dom_syntax.specs.SameCommands.{same_command}
 use Rattle.dom_syntax.proofs.SameCommands.{same_command-is, same_command-refl}
-use Rattle.model_formulas.specs.Terms.{Term}
+use Rattle.model_terms.specs.Terms.{Term}
 use mathlib.Core.Path.{fun_ext}
-use Rattle.model_formulas.specs.Terms.{variable, var_eq}
+use Rattle.model_terms.specs.Terms.{variable, var_eq}
 use Rattle.formula_syntax.specs.Substitution.{replacing_each, replaced_or}
 use Rattle.model_formulas.specs.Substitution.{formula_with, replacing, replacing_at}
 use Rattle.hoare_kernel.specs.Tests.{same_test, replaced_test, is_skip, no_items}

@@ -2,7 +2,7 @@
 use Rattle.std.specs.Prelude.{ℕ, ◌<◌, List, [], ◌∷◌}
 use Rattle.model_formulas.specs.Formulas.{Named}
 use Rattle.model_formulas.specs.WellSorted.{parts}
-use Rattle.model_programs.specs.Theories.{JudgementOf, entails, triple, StepOf, ProcedureOf, Theory}
+use Rattle.model_commands.specs.Theories.{JudgementOf, entails, triple, StepOf, ProcedureOf, Theory}
 
 -- a formula has fewer than 4,294,967,295 parts
 abbrev pub IsSmall : Named → Type 0

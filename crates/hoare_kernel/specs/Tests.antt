@@ -2,14 +2,15 @@
 -- definition of accepted theories.
 use Rattle.std.specs.Prelude.{ℕ, Bool, true, false, ◌&&◌, ◌||◌, ◌==◌, cond, List, [], ◌∷◌, ◌++◌, Option, Some, None, bytes_eq, codes}
 use Rattle.model_shapes.specs.Sorts.{DataSort, same_data_sort}
-use Rattle.model_formulas.specs.Terms.{Term}
+use Rattle.model_terms.specs.Terms.{Term}
 use Rattle.model_formulas.specs.Formulas.{Named, formula_eq}
 use Rattle.model_formulas.specs.Nameless.{nameless}
 use Rattle.model_formulas.specs.Substitution.{formula_with, replacing}
-use Rattle.model_programs.specs.Stores.{ProgVar, as_var, sort_of, is_yes}
-use Rattle.model_programs.specs.Commands.{Command, skip, assign, block, Block, stop, ◌then◌}
-use Rattle.model_programs.specs.Theories.{JudgementOf, entails, triple, Reason, auto, by_rule, StepOf, ProcedureOf}
-use Rattle.model_programs.specs.FileFaults.{evaluates, has_command}
+use Rattle.model_terms.specs.Stores.{ProgVar, as_var, sort_of}
+use Rattle.model_groves.specs.Groves.{is_yes}
+use Rattle.model_commands.specs.Commands.{Command, skip, assign, block, Block, stop, ◌then◌}
+use Rattle.model_commands.specs.Theories.{JudgementOf, entails, triple, Reason, auto, by_rule, StepOf, ProcedureOf}
+use Rattle.model_files.specs.FileFaults.{evaluates, has_command}
 use Rattle.dom_syntax.specs.SameCommands.{same_command}
 
 -- the formulas are the same

@@ -1,6 +1,6 @@
 // Which terms may be assigned.
 ghost use Rattle.std.specs.Prelude.{◌≡◌};
-ghost use Rattle.model_programs.specs.FileFaults as faults;
+ghost use Rattle.model_files.specs.FileFaults as faults;
 ghost use Rattle.dom_terms.specs.Sorts.{value_sort_of};
 ghost use Rattle.dom_terms.specs.Terms.{term_of};
 

@@ -4,11 +4,9 @@ use Rattle.std.specs.List.{find}
 use Rattle.model_shapes.specs.Sorts.{ValueSort, node_sort, list_sort, int_sort, str_sort, bool_sort}
 use Rattle.model_shapes.specs.Values.{Value, null, nolist, node_number, list_number, int, str, boolean}
 use Rattle.model_formulas.specs.Formulas.{Named}
-use Rattle.model_programs.specs.Stores.{ProgVar, sort_of}
-use Rattle.model_programs.specs.Theories.{ProcedureOf, Theory}
-use Rattle.model_documents.specs.Numbers.{most_number}
-use Rattle.model_grammar.specs.Expressions.{most_integer}
-use Rattle.model_grammar.specs.Files.{most_text}
+use Rattle.model_terms.specs.Stores.{ProgVar, sort_of}
+use Rattle.model_commands.specs.Theories.{ProcedureOf, Theory}
+use Rattle.model_limits.specs.Limits.{standard_limits}
 use Rattle.model_answers.specs.Words.{decimal_of}
 
 -- a positive number of a node or a list
@@ -21,7 +19,7 @@ positive_of named (Some (suc n)) = Some (named (suc n))
 abbrev pub marked : ℕ → (ℕ → Value) → List ℕ → Option Value
 marked mark named [] = None
 marked mark named (first ∷ digits) =
-    cond (first == mark) (positive_of named (decimal_of most_number digits)) None
+    cond (first == mark) (positive_of named (decimal_of standard_limits.identifier digits)) None
 
 -- an integer below 0, from the digits behind its sign
 abbrev pub negative_of : Option ℕ → Option Value
@@ -32,8 +30,8 @@ negative_of (Some (suc n)) = Some (int (negsuc n))
 -- an integer: a decimal, or `-` and a decimal that isn't 0
 abbrev pub integer_of : List ℕ → Option Value
 integer_of [] = None
-integer_of (first ∷ rest) = cond (first == 45) (negative_of (decimal_of most_integer rest))
-    (option_map (λ n. int (pos n)) (decimal_of most_integer (first ∷ rest)))
+integer_of (first ∷ rest) = cond (first == 45) (negative_of (decimal_of standard_limits.integer rest))
+    (option_map (λ n. int (pos n)) (decimal_of standard_limits.integer (first ∷ rest)))
 
 -- AN ARGUMENT: the value that a word reads as at a sort; 35 is `#`, 37 is `%`
 abbrev pub argument_of : ValueSort → List ℕ → Option Value
@@ -42,7 +40,7 @@ argument_of node_sort word =
 argument_of list_sort word =
     cond (bytes_eq word (codes "nolist")) (Some nolist) (marked 37 list_number word)
 argument_of int_sort word = integer_of word
-argument_of str_sort word = cond (nat_le (length word) most_text) (Some (str word)) None
+argument_of str_sort word = cond (nat_le (length word) standard_limits.text_bytes) (Some (str word)) None
 argument_of bool_sort word = cond (bytes_eq word (codes "yes")) (Some (boolean true))
     (cond (bytes_eq word (codes "no")) (Some (boolean false)) None)
 

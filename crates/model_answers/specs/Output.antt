@@ -3,14 +3,14 @@ use Rattle.std.specs.Prelude.{ℕ, cond, List, [], ◌∷◌, ◌++◌, length, 
 use Rattle.std.specs.Fmt.{decimal, signed_decimal}
 use Rattle.model_shapes.specs.Trees.{Trees}
 use Rattle.model_shapes.specs.Values.{Value, null, nolist, node_number, list_number, int, str, boolean}
-use Rattle.model_programs.specs.Stores.{ProgVar, named}
-use Rattle.model_programs.specs.Theories.{Theory}
-use Rattle.model_programs.specs.Machine.{FaultKind, no_node, no_list, cycle, not_child}
-use Rattle.model_programs.specs.Outcomes.{LimitKind, file_limit, nesting_limit, text_limit, variables_limit, steps_limit, nodes_limit, identifier_limit, number_limit, depth_limit}
+use Rattle.model_terms.specs.Stores.{ProgVar, named}
+use Rattle.model_commands.specs.Theories.{Theory}
+use Rattle.model_machine.specs.Machine.{FaultKind, no_node, no_list, cycle, not_child}
+use Rattle.model_limits.specs.Limits.{LimitKind, file_limit, nesting_limit, text_limit, variables_limit, steps_limit, nodes_limit, identifier_limit, number_limit, depth_limit}
 use Rattle.model_documents.specs.Numbers.{Numbered, node_numbered, list_numbered}
 use Rattle.model_documents.specs.Roots.{sorted_roots}
 use Rattle.model_documents.specs.Printed.{quoted, grove_text}
-use Rattle.model_grammar.specs.Files.{step_count}
+use Rattle.model_files.specs.FileLimits.{step_count}
 
 -- a text with the newline that ends it
 abbrev pub line : List ℕ → List ℕ

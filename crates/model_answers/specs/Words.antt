@@ -1,4 +1,5 @@
 -- What the words after the program's name ask for.
+use Rattle.model_limits.specs.Limits.{standard_limits}
 use Rattle.std.specs.Prelude.{ℕ, nat_le, ◌&&◌, List, [], ◌∷◌, Option, Some, None, cond, option_map, bytes_eq, codes}
 use Rattle.std.specs.Str.Parse.{digits_value}
 use Rattle.model_text.specs.Tokens.{is_number}
@@ -17,10 +18,6 @@ decimal_of most (first ∷ rest) =
     cond (is_number (first ∷ rest) && nat_le (digits_value 10 (first ∷ rest)) most)
     (Some (digits_value 10 (first ∷ rest))) None
 
--- the most fuel
-abbrev pub most_fuel : ℕ
-most_fuel = 1000000
-
 -- the form `check FILE`
 abbrev pub check_of : List (List ℕ) → Option Request
 check_of (file ∷ []) = Some (check file)
@@ -29,7 +26,7 @@ check_of words = None
 -- the form `run FILE PROC DOC FUEL ARG*`
 abbrev pub run_of : List (List ℕ) → Option Request
 run_of (file ∷ procedure ∷ document ∷ fuel ∷ arguments) =
-    option_map (λ number. run file procedure document number arguments) (decimal_of most_fuel fuel)
+    option_map (λ number. run file procedure document number arguments) (decimal_of standard_limits.fuel fuel)
 run_of words = None
 
 -- THE READING of the words; nothing else has one

@@ -1,5 +1,6 @@
 -- The numbers of the nodes and children lists of a document: the first that is out of range, and the
 -- first that repeats.
+use Rattle.model_limits.specs.Limits.{standard_limits}
 use Rattle.std.specs.Prelude.{ℕ, Bool, false, not, ◌&&◌, ◌==◌, nat_le, cond, List, [], ◌∷◌, ◌++◌, Option, Some, None}
 use Rattle.std.specs.List.{list_any, find}
 use Rattle.model_shapes.specs.Trees.{Trees, none, node, hole}
@@ -21,14 +22,10 @@ numbers_written (node name number kids list rest) =
     node_numbered number ∷ (numbers_written kids ++ (list_numbered list ∷ numbers_written rest))
 numbers_written (hole rest) = numbers_written rest
 
--- the greatest number of a node or a list
-abbrev pub most_number : ℕ
-most_number = 4294967295
-
 -- from 1 to the greatest
 abbrev pub is_in_range : Numbered → Bool
-is_in_range (node_numbered n) = nat_le 1 n && nat_le n most_number
-is_in_range (list_numbered n) = nat_le 1 n && nat_le n most_number
+is_in_range (node_numbered n) = nat_le 1 n && nat_le n standard_limits.identifier
+is_in_range (list_numbered n) = nat_le 1 n && nat_le n standard_limits.identifier
 
 -- OUT OF RANGE: the first number in the order of the text that is
 abbrev pub first_out_of_range : Trees → Option Numbered

@@ -5,9 +5,9 @@ use Rattle.model_shapes.specs.Values.{str, node_number, list_number}
 use Rattle.model_shapes.specs.Trees.{Trees, none, node, hole, beside, root_uses}
 use Rattle.model_shapes.specs.Things.{Thing, val, trees, Fits}
 use Rattle.model_shapes.proofs.Representatives.{first-alone}
-use Rattle.model_formulas.specs.Variables.{Var, var_sort}
-use Rattle.model_formulas.specs.VariableTests.{var_eq}
-use Rattle.model_formulas.specs.Terms.{Term, variable}
+use Rattle.model_terms.specs.Variables.{Var, var_sort}
+use Rattle.model_terms.specs.VariableTests.{var_eq}
+use Rattle.model_terms.specs.Terms.{Term, variable}
 use Rattle.model_formulas.specs.Formulas.{Formula, truth, conjunction, implication, equality, bare_hole, empty, grove_sum_hole, node_formula, one_root, value_meets}
 use Rattle.model_formulas.specs.Substitution.{forall}
 use Rattle.model_formulas.specs.Satisfaction.{Environment, Meets, Entails, IfNode, IfTrees, Classically, meaning_of}

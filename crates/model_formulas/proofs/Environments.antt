@@ -7,7 +7,7 @@ use Rattle.model_shapes.specs.Things.{Thing, val, trees, Fits}
 use Rattle.model_shapes.specs.Values.{null}
 use Rattle.model_shapes.proofs.Truth.{false≢true}
 use Rattle.model_shapes.proofs.Inhabited.{some_thing}
-use Rattle.model_formulas.specs.Variables.{prog, logic, bound}
+use Rattle.model_terms.specs.Variables.{prog, logic, bound}
 use Rattle.model_formulas.specs.Formulas.{truth, falsity}
 use Rattle.model_formulas.specs.WellSorted.{is_form}
 use Rattle.model_formulas.specs.Satisfaction.{Environment, Proper, Entails}

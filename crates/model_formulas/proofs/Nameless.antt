@@ -3,9 +3,9 @@
 use Rattle.std.proofs.Common.{◌≡◌, zero, suc, sym, refl, ap, ◌∙◌, List, [], ◌∷◌}
 use mathlib.Core.Path.{fun_ext}
 use Rattle.model_formulas.specs.Formulas.{Named, Formula, truth, falsity, conjunction, disjunction, implication, negation, existential, universal, equality, at_most, empty, bare_hole, node_formula, one_tree, one_root, concatenation, grove_sum, grove_sum_hole, application, hole_adjoint, context_adjoint, same_as, length_is, value_meets}
-use Rattle.model_formulas.specs.Variables.{Var, prog, logic, bound, var_sort}
-use Rattle.model_formulas.specs.VariableTests.{var_eq}
-use Rattle.model_formulas.specs.Terms.{Term, literal, variable, sum, difference, appended, raised, under_binder, Substitution, term_with, raised_var}
+use Rattle.model_terms.specs.Variables.{Var, prog, logic, bound, var_sort}
+use Rattle.model_terms.specs.VariableTests.{var_eq}
+use Rattle.model_terms.specs.Terms.{Term, literal, variable, sum, difference, appended, raised, under_binder, Substitution, term_with, raised_var}
 use Rattle.model_formulas.specs.Substitution.{formula_with, closing, closing_at, exists, forall}
 use Rattle.model_formulas.specs.Nameless.{nameless, walked, names, naming, name_or}
 

@@ -1,9 +1,9 @@
 -- Only the free variables of a formula are substituted, so bound variables may be renamed.
 use Rattle.std.proofs.Common.{◌≡◌, zero, suc, sym, refl, ap, ◌∙◌, subst, inl, inr}
 use Rattle.model_formulas.specs.Formulas.{Formula, truth, falsity, conjunction, disjunction, implication, negation, existential, universal, equality, at_most, empty, bare_hole, node_formula, one_tree, one_root, concatenation, grove_sum, grove_sum_hole, application, hole_adjoint, context_adjoint, same_as, length_is, value_meets}
-use Rattle.model_formulas.specs.Variables.{Var, prog, logic, bound, var_sort}
-use Rattle.model_formulas.specs.VariableTests.{var_eq}
-use Rattle.model_formulas.specs.Terms.{Term, literal, variable, sum, difference, appended, raised, raised_var, under_binder, Substitution, term_with, InTerm}
+use Rattle.model_terms.specs.Variables.{Var, prog, logic, bound, var_sort}
+use Rattle.model_terms.specs.VariableTests.{var_eq}
+use Rattle.model_terms.specs.Terms.{Term, literal, variable, sum, difference, appended, raised, raised_var, under_binder, Substitution, term_with, InTerm}
 use Rattle.model_formulas.specs.Substitution.{formula_with, FreeIn, closing, closing_at, replacing, replacing_at, exists, forall}
 use Rattle.model_formulas.proofs.Nameless.{then_with, formula-then}
 

@@ -3,9 +3,9 @@ use Rattle.std.proofs.Common.{◌≡◌, refl, ap, subst, true, ◌&&◌}
 use Rattle.model_shapes.specs.Tests.{same_data_sort, same_sort}
 use Rattle.model_shapes.proofs.Truth.{false≢true, both_true}
 use Rattle.model_shapes.proofs.Tests.{same_data_sort-is, same_data_sort-refl, same_sort-is, same_sort-refl, same_value-is, same_value-refl}
-use Rattle.model_formulas.specs.Variables.{Var}
-use Rattle.model_formulas.specs.VariableTests.{same_var, same_var-is, same_var-refl}
-use Rattle.model_formulas.specs.Terms.{Term, literal, variable, sum, difference, appended}
+use Rattle.model_terms.specs.Variables.{Var}
+use Rattle.model_terms.specs.VariableTests.{same_var, same_var-is, same_var-refl}
+use Rattle.model_terms.specs.Terms.{Term, literal, variable, sum, difference, appended}
 use Rattle.model_formulas.specs.Formulas.{Formula, truth, falsity, conjunction, disjunction, implication, negation, existential, universal, equality, at_most, empty, bare_hole, node_formula, one_tree, one_root, concatenation, grove_sum, grove_sum_hole, application, hole_adjoint, context_adjoint, same_as, length_is, value_meets, Side, whole, hole_left, hole_right}
 use Rattle.model_formulas.specs.SameFormulas.{same_side, same_term, same_formula}
 

@@ -5,9 +5,9 @@ use Rattle.model_shapes.specs.Sorts.{value, ValueSort, int_sort, str_sort, is_so
 use Rattle.model_shapes.specs.Values.{Value, null, nolist, node_number, list_number, int, str, boolean, FitsValue, value_sort}
 use Rattle.model_shapes.specs.Things.{Fits}
 use Rattle.model_shapes.proofs.Truth.{false≢true, both_true}
-use Rattle.model_formulas.specs.Variables.{prog, logic, bound}
+use Rattle.model_terms.specs.Variables.{prog, logic, bound}
 use Rattle.model_shapes.proofs.Tests.{same_value_sort-is, same_sort-is}
-use Rattle.model_formulas.specs.Terms.{Term, literal, variable, sum, difference, appended}
+use Rattle.model_terms.specs.Terms.{Term, literal, variable, sum, difference, appended}
 use Rattle.model_formulas.specs.WellSorted.{has_sort, is_literal}
 use Rattle.model_formulas.specs.Satisfaction.{Environment, Proper, meaning_of}
 

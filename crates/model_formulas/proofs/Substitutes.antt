@@ -7,8 +7,8 @@ use Rattle.model_shapes.specs.Shapes.{Same, Shaped}
 use Rattle.model_shapes.specs.Things.{Thing, val}
 use Rattle.model_shapes.specs.Values.{int, str, node_number, list_number}
 use Rattle.model_formulas.specs.Formulas.{Formula, truth, falsity, conjunction, disjunction, implication, negation, existential, universal, equality, at_most, empty, bare_hole, node_formula, one_tree, one_root, concatenation, grove_sum, grove_sum_hole, application, hole_adjoint, context_adjoint, same_as, length_is, value_meets, whole, hole_left}
-use Rattle.model_formulas.specs.Variables.{Var, prog, logic, bound}
-use Rattle.model_formulas.specs.Terms.{Term, literal, variable, sum, difference, appended, raised, raised_var, under_binder, Substitution, term_with, InTerm}
+use Rattle.model_terms.specs.Variables.{Var, prog, logic, bound}
+use Rattle.model_terms.specs.Terms.{Term, literal, variable, sum, difference, appended, raised, raised_var, under_binder, Substitution, term_with, InTerm}
 use Rattle.model_formulas.specs.Substitution.{formula_with, FreeIn}
 use Rattle.model_formulas.specs.Satisfaction.{Environment, Meets, Classically, SomeShape, EachShape, SomeThing, EachThing, Splits, choosing, IfNode, IfTrees, meaning_of, number_of, text_of}
 

@@ -2,8 +2,8 @@
 use Rattle.std.proofs.Common.{◌≡◌, ◌∷◌, [], refl, true, false, Bool, Some, None, pos}
 use Rattle.model_shapes.specs.Sorts.{value, shape, context, int_sort, node_sort, tree, forest, grove}
 use Rattle.model_shapes.specs.Values.{null, nolist, int, str}
-use Rattle.model_formulas.specs.Variables.{Var, logic, prog, bound}
-use Rattle.model_formulas.specs.Terms.{Term, literal, variable, sum}
+use Rattle.model_terms.specs.Variables.{Var, logic, prog, bound}
+use Rattle.model_terms.specs.Terms.{Term, literal, variable, sum}
 use Rattle.model_formulas.specs.Formulas.{Named, truth, conjunction, negation, existential, universal, equality, at_most, empty, bare_hole, same_as, node_formula, application, length_is, value_meets, is_pure}
 use Rattle.model_formulas.specs.Substitution.{formula_with, replacing}
 use Rattle.model_formulas.specs.Nameless.{nameless}

@@ -2,8 +2,8 @@
 -- equations and order of terms, length of forests, and `is`, which speaks of a variable's value.
 use Rattle.std.specs.Prelude.{Bool, true, false, ◌&&◌}
 use Rattle.model_shapes.specs.Sorts.{DataSort, Sort, shape, outer}
-use Rattle.model_formulas.specs.Variables.{Var}
-use Rattle.model_formulas.specs.Terms.{Term}
+use Rattle.model_terms.specs.Variables.{Var}
+use Rattle.model_terms.specs.Terms.{Term}
 
 -- where the hole of a concatenation is: none, in the left part, or in the right part
 pub data Side : Type 0 where

@@ -1,6 +1,3 @@
-pub mod Variables
-pub mod VariableTests
-pub mod Terms
 pub mod Formulas
 pub mod Substitution
 pub mod Nameless
@@ -8,4 +5,5 @@ pub mod WellSorted
 pub mod Parts
 pub mod SameFormulas
 pub mod Satisfaction
+pub mod Entailments
 pub mod Setting

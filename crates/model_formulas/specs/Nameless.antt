@@ -2,9 +2,9 @@
 -- first. Two formulas are the same where their nameless forms are equal: that is, where they are
 -- equal up to the names of bound variables.
 use Rattle.std.specs.Prelude.{◌≡◌, zero, List, [], ◌∷◌}
-use Rattle.model_formulas.specs.Variables.{Var, bound, var_sort}
-use Rattle.model_formulas.specs.VariableTests.{var_eq}
-use Rattle.model_formulas.specs.Terms.{variable, raised_var, Substitution, term_with}
+use Rattle.model_terms.specs.Variables.{Var, bound, var_sort}
+use Rattle.model_terms.specs.VariableTests.{var_eq}
+use Rattle.model_terms.specs.Terms.{variable, raised_var, Substitution, term_with}
 use Rattle.model_formulas.specs.Formulas.{Named, Formula}
 use Rattle.model_formulas.specs.Substitution.{with_terms}
 

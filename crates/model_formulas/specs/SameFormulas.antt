@@ -4,8 +4,8 @@ use Rattle.std.specs.Prelude.{Bool, true, false, ◌&&◌}
 use mathlib.Core.HLevel.{Discrete}
 use Rattle.model_shapes.specs.Sorts.{DataSort-discrete}
 use Rattle.model_shapes.specs.Tests.{same_sort, same_data_sort, same_value, sort_eq, value_eq}
-use Rattle.model_formulas.specs.VariableTests.{same_var, var_eq}
-use Rattle.model_formulas.specs.Terms.{Term, Term-discrete, literal, variable, sum, difference, appended}
+use Rattle.model_terms.specs.VariableTests.{same_var, var_eq}
+use Rattle.model_terms.specs.Terms.{Term, Term-discrete, literal, variable, sum, difference, appended}
 use Rattle.model_formulas.specs.Formulas.{Formula, FormulaOf-discrete, Side, Side-discrete, whole, hole_left, hole_right, truth, falsity, conjunction, disjunction, implication, negation, existential, universal, equality, at_most, empty, bare_hole, node_formula, one_tree, one_root, concatenation, grove_sum, grove_sum_hole, application, hole_adjoint, context_adjoint, same_as, length_is, value_meets}
 
 -- terms are equal or not

@@ -6,8 +6,8 @@ use Rattle.model_shapes.specs.Values.{Name, Text, Value, node_number, list_numbe
 use Rattle.model_shapes.specs.Trees.{Trees, none, node, hole, beside, fill, width}
 use Rattle.model_shapes.specs.Shapes.{Shaped, Same}
 use Rattle.model_shapes.specs.Things.{Thing, val, trees, Fits}
-use Rattle.model_formulas.specs.Variables.{Var, prog, logic, bound}
-use Rattle.model_formulas.specs.Terms.{Term, literal, variable, sum, difference, appended}
+use Rattle.model_terms.specs.Variables.{Var, prog, logic, bound}
+use Rattle.model_terms.specs.Terms.{Term, literal, variable, sum, difference, appended}
 use Rattle.model_formulas.specs.Formulas.{Side, whole, hole_left, Formula, truth, falsity, conjunction, disjunction, implication, negation, existential, universal, equality, at_most, empty, bare_hole, node_formula, one_tree, one_root, concatenation, grove_sum, grove_sum_hole, application, hole_adjoint, context_adjoint, same_as, length_is, value_meets, left_sort, right_sort}
 
 -- What each variable stands for. One environment holds the store's values, those of the logic

@@ -2,8 +2,8 @@
 -- how the laws about quantifiers speak of named variables.
 use Rattle.std.specs.Prelude.{◌≡◌}
 use Rattle.model_shapes.specs.Things.{Thing}
-use Rattle.model_formulas.specs.Variables.{Var}
-use Rattle.model_formulas.specs.VariableTests.{var_eq}
+use Rattle.model_terms.specs.Variables.{Var}
+use Rattle.model_terms.specs.VariableTests.{var_eq}
 use Rattle.model_formulas.specs.Satisfaction.{Environment}
 
 -- what a variable stands for: the thing where it is the one that is set, and else what it did

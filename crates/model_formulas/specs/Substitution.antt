@@ -2,9 +2,9 @@
 -- A quantifier has no name there, so nothing can be captured.
 use Rattle.std.specs.Prelude.{◌≡◌, ◌⊎◌, zero}
 use Rattle.model_shapes.specs.Sorts.{Sort}
-use Rattle.model_formulas.specs.Variables.{Var, bound, var_sort}
-use Rattle.model_formulas.specs.VariableTests.{var_eq}
-use Rattle.model_formulas.specs.Terms.{Term, variable, raised, raised_var, InTerm, Substitution, under_binder, term_with}
+use Rattle.model_terms.specs.Variables.{Var, bound, var_sort}
+use Rattle.model_terms.specs.VariableTests.{var_eq}
+use Rattle.model_terms.specs.Terms.{Term, variable, raised, raised_var, InTerm, Substitution, under_binder, term_with}
 use Rattle.model_formulas.specs.Formulas.{FormulaOf, Formula, truth, falsity, conjunction, disjunction, implication, negation, existential, universal, equality, at_most, empty, bare_hole, node_formula, one_tree, one_root, concatenation, grove_sum, grove_sum_hole, application, hole_adjoint, context_adjoint, same_as, length_is, value_meets}
 
 -- A formula with each of its terms changed, and of each binder its sort alone. How terms are

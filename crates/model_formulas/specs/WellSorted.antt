@@ -5,8 +5,8 @@ use Rattle.std.specs.List.{position_from}
 use Rattle.model_shapes.specs.Tests.{same_sort, same_data_sort, same_value_sort}
 use Rattle.model_shapes.specs.Sorts.{Sort, value, shape, context, ValueSort, node_sort, list_sort, int_sort, str_sort, bool_sort, DataSort, tree, forest, grove, is_sort, outer, inner, with_outer}
 use Rattle.model_shapes.specs.Values.{Value, node_number, list_number, value_sort}
-use Rattle.model_formulas.specs.Variables.{Var, prog, logic, bound}
-use Rattle.model_formulas.specs.Terms.{Term, literal, variable, sum, difference, appended}
+use Rattle.model_terms.specs.Variables.{Var, prog, logic, bound}
+use Rattle.model_terms.specs.Terms.{Term, literal, variable, sum, difference, appended}
 use Rattle.model_formulas.specs.Formulas.{Named, Side, whole, truth, falsity, conjunction, disjunction, implication, negation, existential, universal, equality, at_most, empty, bare_hole, node_formula, one_tree, one_root, concatenation, grove_sum, grove_sum_hole, application, hole_adjoint, context_adjoint, same_as, length_is, value_meets, left_sort, right_sort}
 
 -- the values that are literals: no number of a node or a list can be written

@@ -8,9 +8,9 @@ ghost use Rattle.model_shapes.specs.Sorts.{Sort, value, shape, context, ValueSor
 ghost use Rattle.model_shapes.specs.Shapes.{Same, Shaped};
 ghost use Rattle.model_shapes.specs.Trees.{Trees};
 ghost use Rattle.model_shapes.specs.Things.{Fits};
-ghost use Rattle.model_formulas.specs.Variables.{Var, var_sort};
-ghost use Rattle.model_formulas.specs.VariableTests.{same_var};
-ghost use Rattle.model_formulas.specs.Terms.{Term, variable, Substitution};
+ghost use Rattle.model_terms.specs.Variables.{Var, var_sort};
+ghost use Rattle.model_terms.specs.VariableTests.{same_var};
+ghost use Rattle.model_terms.specs.Terms.{Term, variable, Substitution};
 ghost use Rattle.model_formulas.specs.Formulas.{Formula, Named, truth, falsity, conjunction, implication, existential, universal, equality, bare_hole, empty, grove_sum_hole, node_formula, one_root, value_meets, is_pure};
 ghost use Rattle.model_formulas.specs.Substitution.{formula_with, FreeIn, exists, forall, replacing};
 ghost use Rattle.model_formulas.specs.Nameless.{SameFormula, nameless};

@@ -3,14 +3,15 @@
 -- A program variable is written as its name alone. Its sort is that of the first declaration of the
 -- name among the parameters and results of its procedure; `declared` is the list of these. A name
 -- that isn't declared has sort node.
+use Rattle.model_limits.specs.Limits.{standard_limits}
 use Rattle.std.specs.Prelude.{ℕ, suc, ◌≤◌, true, false, cond, List, [], ◌∷◌, ◌++◌, bytes_eq, codes, pos, negsuc}
 use Rattle.model_shapes.specs.Sorts.{ValueSort, node_sort, grove}
 use Rattle.model_shapes.specs.Values.{null, nolist, int, str, boolean}
-use Rattle.model_formulas.specs.Variables.{prog}
-use Rattle.model_formulas.specs.Terms.{Term, literal, variable, sum, difference, appended}
+use Rattle.model_terms.specs.Variables.{prog}
+use Rattle.model_terms.specs.Terms.{Term, literal, variable, sum, difference, appended}
 use Rattle.model_formulas.specs.Formulas.{Named, truth, conjunction, equality, empty}
-use Rattle.model_programs.specs.Stores.{ProgVar, named}
-use Rattle.model_programs.specs.Commands.{Command, skip, block, assign, create_node, node_name, Block, stop, ◌then◌}
+use Rattle.model_terms.specs.Stores.{ProgVar, named}
+use Rattle.model_commands.specs.Commands.{Command, skip, block, assign, create_node, node_name, Block, stop, ◌then◌}
 use Rattle.model_text.specs.Lexemes.{Lexeme, terminal, name_lexeme, number_lexeme, literal_lexeme}
 
 -- a reserved word or symbol by itself
@@ -22,10 +23,6 @@ abbrev pub sort_among : List ProgVar → List ℕ → ValueSort
 sort_among [] name = node_sort
 sort_among (named other s ∷ declared) name =
     cond (bytes_eq name other) s (sort_among declared name)
-
--- the greatest number that a literal has
-abbrev pub most_integer : ℕ
-most_integer = 9223372036854775807
 
 -- "+" | "-" | "++"
 pub data SpellsOperator : (Term → Term → Term) → List Lexeme → Type 0 where
@@ -39,9 +36,9 @@ pub data SpellsTerm (declared : List ProgVar) : Term → List Lexeme → Type 0 
   variable_name : (w : List ℕ)
       → SpellsTerm declared (variable (prog w (sort_among declared w))) (name_lexeme w ∷ [])
   text_literal : (w : List ℕ) → SpellsTerm declared (literal (str w)) (literal_lexeme w ∷ [])
-  number_literal : (n : ℕ) → n ≤ most_integer
+  number_literal : (n : ℕ) → n ≤ standard_limits.integer
       → SpellsTerm declared (literal (int (pos n))) (number_lexeme n ∷ [])
-  negative_literal : (n : ℕ) → suc n ≤ most_integer
+  negative_literal : (n : ℕ) → suc n ≤ standard_limits.integer
       → SpellsTerm declared (literal (int (negsuc n))) (terminal (codes "-") ∷ (number_lexeme (suc n) ∷ []))
   null_word : SpellsTerm declared (literal null) (one (codes "null"))
   nolist_word : SpellsTerm declared (literal nolist) (one (codes "nolist"))

@@ -2,14 +2,14 @@
 -- nodes and read their names, at the sort of groves, whose proofs go by the rules skip, assign and
 -- seq, without logic variables. Their terms are then literals, program variables, sums, differences
 -- and joined texts.
-use Rattle.std.specs.Prelude.{ℕ, Bool, true, false, ◌&&◌, List, [], ◌∷◌, bytes_eq, codes}
+use Rattle.std.specs.Prelude.{Bool, true, false, ◌&&◌, List, [], ◌∷◌, bytes_eq, codes}
 use Rattle.std.specs.List.{list_all, list_any}
 use Rattle.model_shapes.specs.Sorts.{grove, same_data_sort}
-use Rattle.model_formulas.specs.Variables.{Var}
+use Rattle.model_terms.specs.Variables.{Var}
 use Rattle.model_formulas.specs.Formulas.{Named, truth, conjunction, equality, empty}
-use Rattle.model_programs.specs.Commands.{Command, skip, block, assign, create_node, node_name}
-use Rattle.model_programs.specs.CommandParts.{commands_in}
-use Rattle.model_programs.specs.Theories.{JudgementOf, entails, triple, Reason, auto, by_rule, StepOf, ProcedureOf, Theory}
+use Rattle.model_commands.specs.Commands.{Command, skip, block, assign, create_node, node_name}
+use Rattle.model_commands.specs.CommandParts.{commands_in}
+use Rattle.model_commands.specs.Theories.{JudgementOf, entails, triple, Reason, auto, by_rule, StepOf, ProcedureOf, Theory}
 
 -- a formula of true, and, = and 0g
 abbrev pub is_first_formula : Named → Bool

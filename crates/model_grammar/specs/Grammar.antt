@@ -1,12 +1,13 @@
 -- The grammar of theory files, one case for each production that is read today: no logic variables,
 -- no entailments and no gaps, data sort g. Terms, formulas and commands stand in Expressions.antt.
+use Rattle.model_limits.specs.Limits.{standard_limits}
 use Rattle.std.specs.Prelude.{◌≡◌, ℕ, ◌≤◌, true, List, [], ◌∷◌, ◌++◌, codes}
 use Rattle.model_shapes.specs.Sorts.{ValueSort, node_sort, list_sort, int_sort, str_sort, bool_sort, DataSort, grove}
-use Rattle.model_formulas.specs.Terms.{Term}
+use Rattle.model_terms.specs.Terms.{Term}
 use Rattle.model_formulas.specs.Formulas.{Named}
-use Rattle.model_programs.specs.Stores.{ProgVar, named}
-use Rattle.model_programs.specs.Commands.{Command}
-use Rattle.model_programs.specs.Theories.{JudgementOf, triple, by_rule, StepOf, ProcedureOf, Theory}
+use Rattle.model_terms.specs.Stores.{ProgVar, named}
+use Rattle.model_commands.specs.Commands.{Command}
+use Rattle.model_commands.specs.Theories.{JudgementOf, triple, by_rule, StepOf, ProcedureOf, Theory}
 use Rattle.model_text.specs.Lexemes.{Lexeme, terminal, step_word, name_lexeme, number_lexeme, is_reserved}
 use Rattle.model_grammar.specs.Expressions.{one, SpellsTerm, SpellsFormula, SpellsCommand}
 
@@ -46,7 +47,7 @@ pub data SpellsWord : List ℕ → List Lexeme → Type 0 where
 
 -- NUM, of a step, a premise or a version: at most 4,294,967,295
 pub data SpellsNumber : ℕ → List Lexeme → Type 0 where
-  small_number : (n : ℕ) → n ≤ 4294967295 → SpellsNumber n (number_lexeme n ∷ [])
+  small_number : (n : ℕ) → n ≤ standard_limits.numeral → SpellsNumber n (number_lexeme n ∷ [])
 
 -- NAME ":" VSORT
 pub data SpellsDeclaration : ProgVar → List Lexeme → Type 0 where

@@ -8,22 +8,23 @@ use Rattle.model_shapes.specs.Trees.{Trees, fill}
 use Rattle.model_shapes.specs.Shapes.{SameAt, Shaped}
 use Rattle.model_shapes.specs.Things.{Thing, val, trees, Fits}
 use Rattle.model_shapes.proofs.Shapes.{SameAt-sym, SameAt-trans, SameAt-eq, same-Shaped}
-use Rattle.model_formulas.specs.Variables.{prog, logic}
+use Rattle.model_terms.specs.Variables.{prog, logic}
 use Rattle.model_formulas.specs.Formulas.{Formula}
 use Rattle.model_formulas.specs.Satisfaction.{Environment, Meets, Proper, joint}
 use Rattle.model_formulas.proofs.Stable.{stable-not, stable-Shaped, stable-≤}
-use Rattle.model_programs.specs.Stores.{Store, lookup}
-use Rattle.model_programs.specs.Commands.{Command}
-use Rattle.model_programs.specs.Theories.{Procedures}
-use Rattle.model_programs.specs.Sorting.{Sorted}
-use Rattle.model_programs.specs.Fitting.{BodiesSorted, Fine}
-use Rattle.model_programs.specs.Machine.{run, RunOutcome, running, ended, fault, picked_badly, runs}
-use Rattle.model_programs.specs.SameMoves.{SameOutcome}
-use Rattle.model_programs.specs.LocalTriples.{Ends, Stands, TripleFor}
-use Rattle.model_programs.proofs.StoreLaws.{proper-store, other-store}
-use Rattle.model_programs.proofs.Runs.{Well, Ends-map}
-use Rattle.model_programs.proofs.Fine.{runs-fine}
-use Rattle.model_programs.proofs.SameRuns.{same-runs}
+use Rattle.model_terms.specs.Stores.{Store, lookup}
+use Rattle.model_commands.specs.Commands.{Command}
+use Rattle.model_commands.specs.Theories.{Procedures}
+use Rattle.model_commands.specs.Sorting.{Sorted}
+use Rattle.model_commands.specs.Sorting.{BodiesSorted}
+use Rattle.model_machine.specs.Fitting.{Fine}
+use Rattle.model_machine.specs.Machine.{run, RunOutcome, running, ended, fault, picked_badly, runs}
+use Rattle.model_machine.specs.SameMoves.{SameOutcome}
+use Rattle.model_machine.specs.LocalTriples.{Ends, Stands, TripleFor}
+use Rattle.model_commands.proofs.StoreLaws.{proper-store, other-store}
+use Rattle.model_machine.proofs.Runs.{Well, Ends-map}
+use Rattle.model_machine.proofs.Fine.{runs-fine}
+use Rattle.model_machine.proofs.SameRuns.{same-runs}
 
 -- at most so many steps
 abbrev pub UpTo : ℕ → ℕ → Type 0

@@ -1,32 +1,45 @@
 -- Each row is sound: one lemma for each rule, by the number of steps.
-use Rattle.std.proofs.Common.{◌≡◌, ℕ, zero, suc, List, [], ◌∷◌, cond, sym, refl, ap, ◌∙◌, subst, arith, append-nil, IsTrue}
+use Rattle.std.proofs.Common.{true, ◌≡◌, ℕ, zero, suc, List, [], ◌∷◌, cond, sym, refl, ap, ◌∙◌, subst, arith, append-nil, IsTrue}
 use mathlib.Core.Path.{fun_ext}
 use Rattle.model_shapes.specs.Sorts.{shape, context, DataSort, grove}
 use Rattle.model_shapes.specs.Values.{Value}
 use Rattle.model_shapes.specs.Trees.{Trees}
 use Rattle.model_shapes.specs.Shapes.{Shaped}
 use Rattle.model_shapes.specs.Things.{val}
-use Rattle.model_formulas.specs.Variables.{Var, prog, logic, bound}
-use Rattle.model_formulas.specs.Terms.{Term, var_eq}
+use Rattle.model_terms.specs.VariableTests.{same_var-refl}
+use Rattle.model_terms.specs.Variables.{same_var, Var, prog, logic, bound}
+use Rattle.model_terms.specs.Terms.{Term, var_eq}
 use Rattle.model_formulas.specs.Formulas.{Formula}
 use Rattle.model_formulas.specs.Substitution.{formula_with, replacing}
 use Rattle.model_formulas.specs.Satisfaction.{Environment, Meets, Entails, joint}
 use Rattle.model_formulas.specs.Setting.{setting, setting_at}
 use Rattle.model_formulas.proofs.Quantified.{replacing-env}
 use Rattle.model_formulas.proofs.Substitutes.{meets-with}
-use Rattle.model_programs.specs.Stores.{ProgVar, named, as_var, sort_of, is_yes, Store, set, value_in, lookup, value_of, Computes}
-use Rattle.model_programs.specs.Commands.{skip, block, assign, Block}
-use Rattle.model_programs.specs.Theories.{Procedures, Judgement, entails, triple}
-use Rattle.model_programs.specs.Sorting.{Sorted, BlockSorted}
-use Rattle.model_programs.specs.Fitting.{BodiesSorted}
-use Rattle.model_programs.specs.FileFaults.{evaluates}
-use Rattle.model_programs.specs.Machine.{run, pieces_of}
-use Rattle.model_programs.specs.LocalTriples.{TripleFor}
-use Rattle.model_programs.proofs.StoreLaws.{value_in-decided, set-proper, value-fits, meaning-value, proper-store, other-store}
-use Rattle.model_programs.proofs.Runs.{Well, Well-less, at_end, at_step, at_zero, followed}
-use Rattle.model_programs.proofs.FileTests.{sorted-command}
+use Rattle.model_terms.specs.Stores.{ProgVar, named, as_var, same_name, sort_of, Store, set, value_in, lookup, value_of, Computes}
+use Rattle.model_groves.specs.Groves.{is_yes}
+use Rattle.model_commands.specs.Commands.{skip, block, assign, Block}
+use Rattle.model_commands.specs.Theories.{Procedures, Judgement, entails, triple}
+use Rattle.model_commands.specs.Sorting.{Sorted, BlockSorted}
+use Rattle.model_commands.specs.Sorting.{BodiesSorted}
+use Rattle.model_files.specs.FileFaults.{evaluates}
+use Rattle.model_machine.specs.Machine.{run, pieces_of}
+use Rattle.model_machine.specs.LocalTriples.{TripleFor}
+use Rattle.model_terms.proofs.StoreLaws.{value_in-set, same_name-not, set-proper, value-fits}
+use Rattle.model_commands.proofs.StoreLaws.{meaning-value, proper-store, other-store}
+use Rattle.model_machine.proofs.Runs.{Well, Well-less, at_end, at_step, at_zero, followed}
+use Rattle.model_files.proofs.FileTests.{sorted-command}
 use Rattle.model_rules.specs.Rows.{Chain, last_link, more_links, Row, skip_row, assign_row, seq_row}
 use Rattle.model_rules.proofs.Ends.{UpTo, At, At-map, Sound, to_sound, from_sound}
+
+-- the same, by the decision on variables
+value_in-decided : (x : ProgVar) (v : Value) (st : Store) (y : ProgVar)
+    → value_in (set x v st) y ≡ cond (is_yes (var_eq (as_var y) (as_var x))) v (value_in st y)
+value_in-decided x v st y =
+    value_in-set x v st y ∙ ap (λ b. cond b v (value_in st y)) (by_test (var_eq (as_var y) (as_var x)))
+  where
+    by_test : (d : Dec (as_var y ≡ as_var x)) → same_name y x ≡ is_yes d
+    by_test (yes q) = subst (λ z. same_var (as_var y) z ≡ true) q (same_var-refl (as_var y))
+    by_test (no n) = same_name-not y x (λ q. n (ap as_var q))
 
 -- a store with one variable set is the environment with that variable set
 set-env : (x : ProgVar) (v : Value) (st : Store) (e : Environment)

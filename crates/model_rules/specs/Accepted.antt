@@ -1,6 +1,6 @@
 -- Instances of rules, and accepted theories.
 use Rattle.std.specs.Prelude.{◌≡◌, ℕ, ◌==◌, cond, List, [], ◌∷◌, ◌++◌, Option, Some, None}
-use Rattle.model_programs.specs.Theories.{Judgement, triple, Reason, auto, by_rule, Step, Procedure, Procedures, Theory, procedures_of}
+use Rattle.model_commands.specs.Theories.{Judgement, triple, Reason, auto, by_rule, Step, Procedure, Procedures, Theory, procedures_of}
 use Rattle.model_rules.specs.Rows.{Row}
 
 -- the judgement of the first step with the number

@@ -3,13 +3,13 @@
 -- conclusion. Formulas stand without the names of bound variables, so they are compared up to these.
 use Rattle.std.specs.Prelude.{ℕ, List, [], ◌∷◌, codes, IsTrue}
 use Rattle.model_shapes.specs.Sorts.{DataSort}
-use Rattle.model_formulas.specs.Terms.{Term}
+use Rattle.model_terms.specs.Terms.{Term}
 use Rattle.model_formulas.specs.Formulas.{Formula}
 use Rattle.model_formulas.specs.Substitution.{formula_with, replacing}
-use Rattle.model_programs.specs.Stores.{ProgVar, as_var, sort_of}
-use Rattle.model_programs.specs.Commands.{Command, skip, assign, block, Block, stop, ◌then◌}
-use Rattle.model_programs.specs.Theories.{Judgement, triple}
-use Rattle.model_programs.specs.FileFaults.{evaluates}
+use Rattle.model_terms.specs.Stores.{ProgVar, as_var, sort_of}
+use Rattle.model_commands.specs.Commands.{Command, skip, assign, block, Block, stop, ◌then◌}
+use Rattle.model_commands.specs.Theories.{Judgement, triple}
+use Rattle.model_files.specs.FileFaults.{evaluates}
 
 -- The triples of the commands of a block, in order and all at one sort: the first begins with the
 -- one formula, each further one with the formula after the one before it, and the last ends with

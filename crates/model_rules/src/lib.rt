@@ -3,8 +3,8 @@
 //! Stands on model_programs.
 #![tactic(auto)]
 
-ghost use Rattle.model_programs.specs.Theories.{Theory, procedures_of};
-ghost use Rattle.model_programs.specs.LocalTriples.{MeetsItsSpecification};
+ghost use Rattle.model_commands.specs.Theories.{Theory, procedures_of};
+ghost use Rattle.model_machine.specs.LocalTriples.{MeetsItsSpecification};
 ghost use Rattle.model_rules.specs.Accepted.{IsAccepted, Each};
 
 /// In an accepted theory each procedure meets its specification: it never faults and ends as its

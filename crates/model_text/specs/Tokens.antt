@@ -1,6 +1,7 @@
 -- The tokens of a text: what they are, and which ones the bytes of a file have.
 -- A text is a list of characters, each given by its code; what stands at its front has a length,
 -- which is a number of characters, and 0 where it doesn't stand there.
+use Rattle.model_limits.specs.Limits.{standard_limits}
 use Rattle.std.specs.Prelude.{ℕ, zero, suc, ◌+◌, ◌-◌, max, Bool, true, false, not, ◌&&◌, ◌||◌, List, [], ◌∷◌, length, take, drop, bytes_eq, codes, nat_eq, nat_lt, nat_le, ◌==◌, if◌then◌else◌, encode_utf8_all, count_by}
 use Rattle.std.specs.Char.{is_ascii_digit}
 use Rattle.std.specs.List.{list_all, prefix_len, starts_with}
@@ -126,7 +127,7 @@ leading_zero (first ∷ second ∷ rest) = first == 48
 
 -- these are digits, and the number that they write is at most 9,223,372,036,854,775,807
 abbrev pub digits_fit : List ℕ → Bool
-digits_fit run = list_all is_ascii_digit run && nat_le (digits_value 10 run) 9223372036854775807
+digits_fit run = list_all is_ascii_digit run && nat_le (digits_value 10 run) standard_limits.integer
 
 -- a number is digits that fit, with no leading zero but in `0` itself
 abbrev pub is_number : List ℕ → Bool

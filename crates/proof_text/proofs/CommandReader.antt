@@ -1,9 +1,9 @@
 -- The reader of commands reads what the grammar spells, and only that.
 use Rattle.std.proofs.Common.{◌≡◌, ℕ, zero, suc, ◌≤◌, List, [], ◌∷◌, ◌++◌, refl, sym, ap, subst, append_assoc, append-nil, codes, arith}
-use Rattle.model_formulas.specs.Terms.{Term}
-use Rattle.model_programs.specs.Stores.{ProgVar, named}
-use Rattle.model_programs.specs.Commands as model
-use Rattle.model_programs.specs.Commands.{Command, Block, skip, block, assign, create_node, node_name}
+use Rattle.model_terms.specs.Terms.{Term}
+use Rattle.model_terms.specs.Stores.{ProgVar, named}
+use Rattle.model_commands.specs.Commands as model
+use Rattle.model_commands.specs.Commands.{Command, Block, skip, block, assign, create_node, node_name}
 use Rattle.model_text.specs.Lexemes.{Lexeme, terminal, name_lexeme}
 use Rattle.model_grammar.specs.Grammar.{SpellsName, plain_name}
 use Rattle.model_grammar.specs.Expressions.{one, sort_among, SpellsTerm, variable_name, text_literal, number_literal, negative_literal, null_word, nolist_word, yes_word, no_word, operation, SpellsQuery, create_word, name_word, SpellsSetting, to_value, to_answer, SpellsCommand, skip_word, braces, setting, SpellsBlock, last_command, more_commands}

@@ -1,6 +1,6 @@
 -- Reading a whole list of lexemes as a theory is exact.
 use Rattle.std.proofs.Common.{◌≡◌, ◌⊎◌, ℕ, ◌+◌, ◌-◌, suc, List, length, Result, Ok, Err, refl, arith}
-use Rattle.model_programs.specs.Theories.{Theory}
+use Rattle.model_commands.specs.Theories.{Theory}
 use Rattle.model_text.specs.Lexemes.{Lexeme}
 use Rattle.model_grammar.specs.Grammar.{SpellsTheory}
 use Rattle.token_readers.specs.Reading.{Read, Stop, At, Deep, not_begun, the_terminal}

@@ -2,9 +2,9 @@
 use Rattle.std.proofs.Common.{◌≡◌, ℕ, zero, suc, List, [], ◌∷◌, ◌++◌, refl, sym, subst, append_assoc, append-nil, codes}
 use Rattle.model_shapes.specs.Sorts.{grove}
 use Rattle.model_shapes.specs.Values.{null}
-use Rattle.model_formulas.specs.Terms.{Term, literal}
+use Rattle.model_terms.specs.Terms.{Term, literal}
 use Rattle.model_formulas.specs.Formulas.{Named, truth, conjunction, equality, empty}
-use Rattle.model_programs.specs.Stores.{ProgVar}
+use Rattle.model_terms.specs.Stores.{ProgVar}
 use Rattle.model_text.specs.Lexemes.{Lexeme, terminal}
 use Rattle.model_grammar.specs.Expressions.{one, SpellsTerm, variable_name, text_literal, number_literal, negative_literal, null_word, nolist_word, yes_word, no_word, operation, SpellsFormula, true_word, empty_grove, equation, both}
 use Rattle.token_readers.specs.Reading.{Read, Deep}

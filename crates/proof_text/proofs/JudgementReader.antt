@@ -2,11 +2,11 @@
 -- only that.
 use Rattle.std.proofs.Common.{◌≡◌, ℕ, ◌≤◌, true, List, [], ◌∷◌, ◌++◌, refl, sym, subst, append-nil, codes}
 use Rattle.model_shapes.specs.Sorts.{ValueSort, DataSort}
-use Rattle.model_formulas.specs.Terms.{Term}
+use Rattle.model_terms.specs.Terms.{Term}
 use Rattle.model_formulas.specs.Formulas.{Named}
-use Rattle.model_programs.specs.Stores.{ProgVar, named}
-use Rattle.model_programs.specs.Commands.{Command}
-use Rattle.model_programs.specs.Theories.{JudgementOf, triple}
+use Rattle.model_terms.specs.Stores.{ProgVar, named}
+use Rattle.model_commands.specs.Commands.{Command}
+use Rattle.model_commands.specs.Theories.{JudgementOf, triple}
 use Rattle.model_text.specs.Lexemes.{Lexeme, terminal}
 use Rattle.model_grammar.specs.Expressions.{one, SpellsTerm, SpellsFormula, SpellsCommand}
 use Rattle.model_grammar.specs.Grammar.{SpellsName, plain_name, SpellsValueSort, SpellsDataSort, SpellsNumber, small_number, Bracketed, SpellsDeclaration, declaration, SpellsArguments, no_argument, some_arguments, SpellsJudgement, triple_at}

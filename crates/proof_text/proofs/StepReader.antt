@@ -1,8 +1,8 @@
 -- The reader of steps reads what the grammar spells, and only that.
 use Rattle.std.proofs.Common.{◌≡◌, ℕ, ◌≤◌, true, List, [], ◌∷◌, ◌++◌, Option, Some, refl, sym, ap, subst, codes}
 use Rattle.model_formulas.specs.Formulas.{Named}
-use Rattle.model_programs.specs.Stores.{ProgVar}
-use Rattle.model_programs.specs.Theories.{StepOf}
+use Rattle.model_terms.specs.Stores.{ProgVar}
+use Rattle.model_commands.specs.Theories.{StepOf}
 use Rattle.model_text.specs.Lexemes.{Lexeme, terminal, step_word}
 use Rattle.model_grammar.specs.Grammar.{SpellsStep, by_word, SpellsSteps, no_step, one_step}
 use Rattle.token_readers.specs.Reading.{Read, leaf, many, not_begun}

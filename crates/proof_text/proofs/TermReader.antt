@@ -3,11 +3,12 @@ use Rattle.std.proofs.Common.{◌≡◌, ℕ, zero, suc, ◌≤◌, Bool, true, 
 use Rattle.std.specs.Prelude.{nat_le, pos, negsuc}
 use Rattle.std.proofs.lemmas.Bool.{leb-true, le-leb}
 use Rattle.model_shapes.specs.Values.{null, nolist, int, str, boolean}
-use Rattle.model_formulas.specs.Variables.{prog}
-use Rattle.model_formulas.specs.Terms.{Term, literal, variable, sum, difference, appended}
-use Rattle.model_programs.specs.Stores.{ProgVar}
+use Rattle.model_terms.specs.Variables.{prog}
+use Rattle.model_terms.specs.Terms.{Term, literal, variable, sum, difference, appended}
+use Rattle.model_terms.specs.Stores.{ProgVar}
 use Rattle.model_text.specs.Lexemes.{Lexeme, terminal, name_lexeme, number_lexeme, literal_lexeme}
-use Rattle.model_grammar.specs.Expressions.{one, sort_among, most_integer, SpellsOperator, plus_sign, minus_sign, append_sign, SpellsTerm, variable_name, text_literal, number_literal, negative_literal, null_word, nolist_word, yes_word, no_word, operation}
+use Rattle.model_grammar.specs.Expressions.{one, sort_among, SpellsOperator, plus_sign, minus_sign, append_sign, SpellsTerm, variable_name, text_literal, number_literal, negative_literal, null_word, nolist_word, yes_word, no_word, operation}
+use Rattle.model_limits.specs.Limits.{standard_limits}
 use Rattle.token_readers.specs.Reading.{Read, leaf, Deep}
 use Rattle.token_readers.proofs.Sound.{Sound, After, s_ret, s_fail, s_then, s_when, s_case, s_leaf, s_deep, s_expect, s_close}
 use Rattle.token_readers.proofs.Only.{Only, OrDeep, deep, read, Prefix_free, o_last, o_then}
@@ -22,16 +23,16 @@ leaf_term_is d (literal_lexeme w) a e =
     let h : literal (str w) ≡ a = cc in
     subst (λ (z : Term). SpellsTerm d z (literal_lexeme w ∷ [])) h (text_literal w)
 leaf_term_is d (number_lexeme n) a e =
-    let h = chosen (nat_le n most_integer) (literal (int (pos n))) a e in
-    subst (λ (z : Term). SpellsTerm d z (number_lexeme n ∷ [])) h.1 (number_literal n (leb-true n most_integer h.0))
+    let h = chosen (nat_le n standard_limits.integer) (literal (int (pos n))) a e in
+    subst (λ (z : Term). SpellsTerm d z (number_lexeme n ∷ [])) h.1 (number_literal n (leb-true n standard_limits.integer h.0))
 leaf_term_is d _ a e = absurd cc
 
 negated_is : (d : List ProgVar) (n : ℕ) (a : Term) → negated n ≡ Some a → SpellsTerm d a (terminal (codes "-") ∷ (number_lexeme n ∷ []))
 negated_is d zero a e = absurd cc
 negated_is d (suc n) a e =
-    let h = chosen (nat_le (suc n) most_integer) (literal (int (negsuc n))) a e in
+    let h = chosen (nat_le (suc n) standard_limits.integer) (literal (int (negsuc n))) a e in
     subst (λ (z : Term). SpellsTerm d z (terminal (codes "-") ∷ (number_lexeme (suc n) ∷ []))) h.1
-    (negative_literal n (leb-true (suc n) most_integer h.0))
+    (negative_literal n (leb-true (suc n) standard_limits.integer h.0))
 
 leaf_negative_is : (d : List ProgVar) (t : Lexeme) (a : Term) → leaf_negative t ≡ Some a → SpellsTerm d a (terminal (codes "-") ∷ (t ∷ []))
 leaf_negative_is d (number_lexeme n) a e = negated_is d n a e
@@ -79,8 +80,8 @@ unfolding term_at operation_at word_at
 term_reads d zero a s rest l = deep
 term_reads d (suc n) a s rest (variable_name w) = read
 term_reads d (suc n) a s rest (text_literal w) = read
-term_reads d (suc n) a s rest (number_literal m h) = taken (nat_le m most_integer) (literal (int (pos m))) rest _ (le-leb m most_integer h)
-term_reads d (suc n) a s rest (negative_literal m h) = taken (nat_le (suc m) most_integer) (literal (int (negsuc m))) rest _ (le-leb (suc m) most_integer h)
+term_reads d (suc n) a s rest (number_literal m h) = taken (nat_le m standard_limits.integer) (literal (int (pos m))) rest _ (le-leb m standard_limits.integer h)
+term_reads d (suc n) a s rest (negative_literal m h) = taken (nat_le (suc m) standard_limits.integer) (literal (int (negsuc m))) rest _ (le-leb (suc m) standard_limits.integer h)
 term_reads d (suc n) a s rest null_word = read
 term_reads d (suc n) a s rest nolist_word = read
 term_reads d (suc n) a s rest yes_word = read

@@ -2,8 +2,8 @@
 use Rattle.std.proofs.Common.{◌≡◌, ℕ, ◌≤◌, true, List, [], ◌∷◌, ◌++◌, refl, sym, subst, append-nil, codes}
 use Rattle.model_shapes.specs.Sorts.{DataSort}
 use Rattle.model_formulas.specs.Formulas.{Named}
-use Rattle.model_programs.specs.Stores.{ProgVar}
-use Rattle.model_programs.specs.Theories.{ProcedureOf, Theory}
+use Rattle.model_terms.specs.Stores.{ProgVar}
+use Rattle.model_commands.specs.Theories.{ProcedureOf, Theory}
 use Rattle.model_text.specs.Lexemes.{Lexeme, terminal}
 use Rattle.model_grammar.specs.Grammar.{SpellsName, Bracketed, SpellsDeclaration, SpellsDataSort, SpellsProcedure, procedure, SpellsProcedures, last_procedure, more_procedures, SpellsTheory, theory}
 use Rattle.token_readers.specs.Reading.{Read, many, the_terminal, not_begun}

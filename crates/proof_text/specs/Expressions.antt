@@ -5,14 +5,15 @@
 use Rattle.std.specs.Prelude.{ℕ, zero, suc, nat_le, true, false, cond, List, [], ◌∷◌, Option, Some, None, Err, codes, pos, negsuc}
 use Rattle.model_shapes.specs.Sorts.{grove}
 use Rattle.model_shapes.specs.Values.{null, nolist, int, str, boolean}
-use Rattle.model_formulas.specs.Variables.{prog}
-use Rattle.model_formulas.specs.Terms.{Term, literal, variable, sum, difference, appended}
+use Rattle.model_terms.specs.Variables.{prog}
+use Rattle.model_terms.specs.Terms.{Term, literal, variable, sum, difference, appended}
 use Rattle.model_formulas.specs.Formulas.{Named, truth, conjunction, equality, empty}
-use Rattle.model_programs.specs.Stores.{ProgVar, named}
-use Rattle.model_programs.specs.Commands.{Command, skip, block, assign, create_node, node_name}
+use Rattle.model_terms.specs.Stores.{ProgVar, named}
+use Rattle.model_commands.specs.Commands.{Command, skip, block, assign, create_node, node_name}
 use Rattle.dom_syntax.specs.Commands.{block_with}
 use Rattle.model_text.specs.Lexemes.{Lexeme, name_lexeme, number_lexeme, literal_lexeme}
-use Rattle.model_grammar.specs.Expressions.{sort_among, most_integer}
+use Rattle.model_grammar.specs.Expressions.{sort_among}
+use Rattle.model_limits.specs.Limits.{standard_limits}
 use Rattle.token_readers.specs.Leaves.{leaf_name}
 use Rattle.token_readers.specs.Reading.{Read, Deep, ret, fail, then, when, expect, leaf, sep_list}
 
@@ -25,13 +26,13 @@ abbrev pub leaf_term : List ProgVar → Lexeme → Option Term
 leaf_term declared (name_lexeme w) = Some (variable (prog w (sort_among declared w)))
 leaf_term declared (literal_lexeme w) = Some (literal (str w))
 leaf_term declared (number_lexeme n) =
-    cond (nat_le n most_integer) (Some (literal (int (pos n)))) None
+    cond (nat_le n standard_limits.integer) (Some (literal (int (pos n)))) None
 leaf_term declared _ = None
 
 -- the number behind a sign
 abbrev pub negated : ℕ → Option Term
 negated zero = None
-negated (suc n) = cond (nat_le (suc n) most_integer) (Some (literal (int (negsuc n)))) None
+negated (suc n) = cond (nat_le (suc n) standard_limits.integer) (Some (literal (int (negsuc n)))) None
 
 -- the literal behind its sign
 abbrev pub leaf_negative : Lexeme → Option Term

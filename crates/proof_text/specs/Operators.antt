@@ -1,5 +1,5 @@
 -- The operators of terms that those of the program stand for.
-use Rattle.model_formulas.specs.Terms.{Term, sum, difference, appended}
+use Rattle.model_terms.specs.Terms.{Term, sum, difference, appended}
 use Rattle.proof_text.specs.declared.terms.Operator.{Operator}
 use Rattle.proof_text.specs.declared.terms.Operator.TheVariants as o
 

@@ -4,10 +4,10 @@
 -- sorts of the names.
 use Rattle.std.specs.Prelude.{ℕ, ◌+◌, cond, List, [], ◌∷◌, ◌++◌, Option, Some, None, bytes_eq, codes}
 use Rattle.model_shapes.specs.Sorts.{ValueSort, node_sort, list_sort, int_sort, str_sort, bool_sort, DataSort, grove}
-use Rattle.model_formulas.specs.Terms.{Term}
+use Rattle.model_terms.specs.Terms.{Term}
 use Rattle.model_formulas.specs.Formulas.{Named}
-use Rattle.model_programs.specs.Stores.{ProgVar, named}
-use Rattle.model_programs.specs.Theories.{JudgementOf, triple, by_rule, StepOf, ProcedureOf, Theory}
+use Rattle.model_terms.specs.Stores.{ProgVar, named}
+use Rattle.model_commands.specs.Theories.{JudgementOf, triple, by_rule, StepOf, ProcedureOf, Theory}
 use Rattle.model_text.specs.Lexemes.{Lexeme, name_lexeme}
 use Rattle.token_readers.specs.Leaves.{leaf_name, leaf_word, leaf_number, leaf_step}
 use Rattle.token_readers.specs.Reading.{Read, ret, then, when, expect, leaf, sep_list, many, the_terminal}

@@ -2,7 +2,7 @@
 ghost use Rattle.std.specs.Prelude.{◌≡◌, map};
 ghost use Rattle.std.specs.Option.{option_map};
 ghost use Rattle.model_shapes.specs.Values.{int};
-ghost use Rattle.model_formulas.specs.Terms.{literal};
+ghost use Rattle.model_terms.specs.Terms.{literal};
 ghost use Rattle.model_grammar.specs.Expressions.{sort_among};
 ghost use Rattle.dom_terms.specs.Sorts.{value_sort_of};
 ghost use Rattle.dom_terms.specs.Terms.{prog_var_of, term_of};

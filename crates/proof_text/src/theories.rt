@@ -1,6 +1,6 @@
 // Theories.
 ghost use Rattle.std.specs.Prelude.{◌≡◌, IfOk, IsErrOf};
-ghost use Rattle.model_programs.specs.Theories.{Theory as Spelled};
+ghost use Rattle.model_commands.specs.Theories.{Theory as Spelled};
 ghost use Rattle.model_grammar.specs.Grammar.{SpellsTheory};
 ghost use Rattle.dom_syntax.specs.Theories.{theory_of};
 ghost use Rattle.token_readers.specs.Giving.{Gives};

@@ -1,6 +1,6 @@
 ghost use Rattle.std.specs.Prelude.{◌≡◌, IfOk};
 ghost use Rattle.model_shapes.specs.Sorts as model;
-ghost use Rattle.model_programs.specs.Stores.{Computes};
+ghost use Rattle.model_terms.specs.Stores.{Computes};
 ghost use Rattle.dom_terms.specs.declared.sorts.ValueSort.TheVariants as sorts;
 ghost use Rattle.dom_terms.specs.Terms.{term_of};
 

@@ -1,5 +1,5 @@
 use Rattle.std.proofs.Common.{◌≡◌, map, Bor}
-use Rattle.model_programs.specs.Machine.{run}
+use Rattle.model_machine.specs.Machine.{run}
 use Rattle.dom_syntax.specs.declared.commands.Command.{Command}
 use Rattle.dom_syntax.specs.Commands.{command_of}
 use Rattle.dom_meaning.specs.Configs.{piece_of}

@@ -1,7 +1,8 @@
 use Rattle.std.proofs.Common.{◌≡◌, ◌∙◌, sym, ap, subst}
-use Rattle.model_programs.specs.Commands.{Command, create_node}
-use Rattle.model_programs.specs.Machine.{run}
-use Rattle.model_programs.specs.Outcomes.{standard_limits, step_limit}
+use Rattle.model_commands.specs.Commands.{Command, create_node}
+use Rattle.model_machine.specs.Machine.{run}
+use Rattle.model_limits.specs.Limits.{standard_limits}
+use Rattle.model_machine.specs.Outcomes.{step_limit}
 use Rattle.dom_terms.specs.Terms.{prog_var_of, term_of}
 use Rattle.dom_terms.specs.Stores.{store_of}
 use Rattle.grove_data.specs.Trees.{forest_of}

@@ -1,6 +1,6 @@
 use Rattle.std.proofs.Common.{◌∙◌, sym, ap, map, arith}
 use Rattle.std.proofs.lemmas.List.{take_all}
-use Rattle.model_programs.specs.Stores.{value_in}
+use Rattle.model_terms.specs.Stores.{value_in}
 use Rattle.dom_terms.specs.declared.terms.ProgVar.{ProgVar}
 use Rattle.dom_terms.specs.Terms.{prog_var_of}
 use Rattle.dom_terms.specs.Stores.{store_of}

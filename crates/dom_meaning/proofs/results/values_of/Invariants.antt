@@ -1,5 +1,5 @@
 use Rattle.std.proofs.Common.{◌≡◌, map, take}
-use Rattle.model_programs.specs.Stores.{value_in}
+use Rattle.model_terms.specs.Stores.{value_in}
 use Rattle.dom_terms.specs.declared.terms.ProgVar.{ProgVar}
 use Rattle.dom_terms.specs.Terms.{prog_var_of}
 use Rattle.dom_terms.specs.Values.{value_seen}

@@ -1,7 +1,7 @@
 use Rattle.std.proofs.Common.{◌≡◌, ◌∙◌, ◌-◌, ◌∷◌, length, take, true, inl, inr, sym, ap}
 use Rattle.model_shapes.proofs.Truth.{false≢true}
-use Rattle.model_programs.specs.Machine.{run}
-use Rattle.model_programs.specs.Outcomes.{has_fault}
+use Rattle.model_machine.specs.Machine.{run}
+use Rattle.model_machine.specs.Outcomes.{has_fault}
 use Rattle.dom_syntax.specs.Commands.{command_of}
 use Rattle.dom_meaning.specs.declared.configurations.Pending.TheVariants.{Run}
 use Rattle.dom_meaning.specs.Configs.{piece_of, pieces_in}

@@ -1,6 +1,6 @@
 use Rattle.std.proofs.Common.{◌≡◌, ℕ, suc, ◌-◌, List, map, sym, subst, arith}
-use Rattle.model_programs.specs.Theories.{procedures_of}
-use Rattle.model_programs.specs.Outcomes.{Outcome}
+use Rattle.model_commands.specs.Theories.{procedures_of}
+use Rattle.model_machine.specs.Outcomes.{Outcome}
 use Rattle.dom_terms.specs.declared.terms.ProgVar.{ProgVar}
 use Rattle.dom_terms.specs.Terms.{prog_var_of}
 use Rattle.dom_syntax.specs.Theories.{theory_of}

@@ -1,5 +1,5 @@
 use Rattle.std.proofs.Common.{◌≡◌, ◌-◌, map}
-use Rattle.model_programs.specs.Theories.{procedures_of}
+use Rattle.model_commands.specs.Theories.{procedures_of}
 use Rattle.dom_terms.specs.Terms.{prog_var_of}
 use Rattle.dom_syntax.specs.Theories.{theory_of}
 use Rattle.dom_meaning.specs.Configs.{config_of}

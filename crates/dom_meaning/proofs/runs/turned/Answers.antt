@@ -1,7 +1,7 @@
 use Rattle.std.proofs.Common.{◌≡◌, ◌∙◌, sym, ap, subst, map}
-use Rattle.model_programs.specs.Theories.{procedures_of}
-use Rattle.model_programs.specs.Machine.{step}
-use Rattle.model_programs.specs.Outcomes.{Outcome, ends, values_in}
+use Rattle.model_commands.specs.Theories.{procedures_of}
+use Rattle.model_machine.specs.Machine.{step}
+use Rattle.model_machine.specs.Outcomes.{Outcome, ends, values_in}
 use Rattle.dom_terms.specs.Terms.{prog_var_of}
 use Rattle.dom_terms.specs.Stores.{store_of}
 use Rattle.grove_data.specs.Trees.{forest_of}

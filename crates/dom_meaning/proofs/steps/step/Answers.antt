@@ -1,7 +1,8 @@
 use Rattle.std.proofs.Common.{◌∙◌, sym, subst, rules}
-use Rattle.model_programs.specs.Theories.{procedures_of}
-use Rattle.model_programs.specs.Outcomes.{standard_limits, step_limit}
-use Rattle.model_programs.proofs.WellFormedTheories.{well-formed-bodies}
+use Rattle.model_commands.specs.Theories.{procedures_of}
+use Rattle.model_limits.specs.Limits.{standard_limits}
+use Rattle.model_machine.specs.Outcomes.{step_limit}
+use Rattle.model_files.proofs.WellFormedTheories.{well-formed-bodies}
 use Rattle.dom_terms.specs.Stores.{store_of}
 use Rattle.grove_data.specs.Trees.{forest_of}
 use Rattle.dom_syntax.specs.Theories.{theory_of}

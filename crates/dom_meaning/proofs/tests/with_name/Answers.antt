@@ -1,9 +1,9 @@
 use Rattle.std.proofs.Common.{[], ◌∷◌, codes, map, sym, ap, subst}
 use Rattle.model_shapes.specs.Sorts.{str_sort}
 use Rattle.model_formulas.specs.Formulas.{Named}
-use Rattle.model_programs.specs.Stores.{named}
-use Rattle.model_programs.specs.Theories.{ProcedureOf}
-use Rattle.model_programs.specs.Fitting.{ValuesFit}
+use Rattle.model_terms.specs.Stores.{named}
+use Rattle.model_commands.specs.Theories.{ProcedureOf}
+use Rattle.model_machine.specs.Fitting.{ValuesFit}
 use Rattle.dom_terms.specs.Values.{value_seen}
 use Rattle.dom_meaning.specs.Built.{is_built}
 use Rattle.dom_meaning.proofs.ExampleLaws.{first, example_is}

@@ -1,7 +1,7 @@
 use Rattle.std.proofs.Common.{List, [], map, sym, ap, subst}
 use Rattle.model_formulas.specs.Formulas.{Named}
-use Rattle.model_programs.specs.Theories.{ProcedureOf}
-use Rattle.model_programs.specs.Fitting.{ValuesFit}
+use Rattle.model_commands.specs.Theories.{ProcedureOf}
+use Rattle.model_machine.specs.Fitting.{ValuesFit}
 use Rattle.dom_terms.specs.declared.values.Value.{Value}
 use Rattle.dom_terms.specs.Values.{value_seen}
 use Rattle.dom_meaning.specs.Built.{is_built}

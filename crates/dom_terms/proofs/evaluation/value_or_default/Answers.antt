@@ -1,7 +1,7 @@
 use Rattle.std.proofs.Common.{◌≡◌, ◌∙◌, sym, subst}
 use Rattle.std.proofs.lemmas.Result.{IfOk-weaker}
 use Rattle.model_shapes.specs.Values.{FitsValue}
-use Rattle.model_programs.specs.Stores.{value_in}
+use Rattle.model_terms.specs.Stores.{value_in}
 use Rattle.dom_terms.specs.Sorts.{value_sort_of}
 use Rattle.dom_terms.specs.Values.{value_seen}
 use Rattle.dom_terms.specs.Terms.{prog_var_of}

@@ -2,7 +2,8 @@ use Rattle.std.proofs.Common.{◌≡◌, ◌<◌, ◌≤◌, ℕ, List, length, 
 use Rattle.std.proofs.lemmas.List.{length-map}
 use Rattle.model_text.specs.Tokens.{tokens_of}
 use Rattle.model_text.specs.Lexemes.{lexeme_of}
-use Rattle.model_grammar.specs.Files.{lexemes_of, most_bytes}
+use Rattle.model_text.specs.Nesting.{lexemes_of}
+use Rattle.model_limits.specs.Limits.{standard_limits}
 use Rattle.domcheck_core.proofs.Counts.{few_tokens}
 use Rattle.dom_syntax.specs.Theories.{theory_of}
 use Rattle.domcheck_core.specs.Answers.{CheckAnswer, says_yes, says_no, reads_nothing}
@@ -13,7 +14,7 @@ use Rattle.domcheck_core.proofs.answers.judge.Goals as goal
 not_both : (b : Bool) → b ≡ false → b ≡ true → ⊥
 not_both b e f = cc
 
-few_lexemes : (bytes : List ℕ) → length bytes ≤ most_bytes → length (lexemes_of bytes) < 4294967295
+few_lexemes : (bytes : List ℕ) → length bytes ≤ standard_limits.file_bytes → length (lexemes_of bytes) < 4294967295
 few_lexemes bytes h = omega (arith, few_tokens bytes, length-map (tokens_of bytes) lexeme_of)
 
 pub returns-in_default : goal.returns-in_default

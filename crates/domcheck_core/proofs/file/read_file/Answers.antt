@@ -4,9 +4,10 @@ use Rattle.model_text.specs.Tokens.{tokens_of}
 use Rattle.text_tokens.specs.declared.tokens.Token.{Token}
 use Rattle.text_tokens.specs.Tokens.{token_of}
 use Rattle.token_readers.specs.Leaves.{lexemes_in}
-use Rattle.model_programs.specs.Theories.{Theory}
+use Rattle.model_commands.specs.Theories.{Theory}
 use Rattle.model_grammar.specs.Grammar.{SpellsTheory}
-use Rattle.model_grammar.specs.Files.{IsOfForm, lexemes_of, nests_within, texts_within}
+use Rattle.model_grammar.specs.Files.{IsOfForm}
+use Rattle.model_text.specs.Nesting.{lexemes_of, nests_within, texts_within}
 use Rattle.dom_syntax.specs.Theories.{theory_of}
 use Rattle.proof_text.proofs.Exact.{one_theory}
 use Rattle.domcheck_core.proofs.Spelling.{same_lexemes}

@@ -1,6 +1,6 @@
 use Rattle.std.proofs.Common.{◌≡◌, ◌≤◌, ◌+◌, length, map}
 use Rattle.dom_syntax.specs.Theories.{procedure_of}
-use Rattle.model_grammar.specs.Files.{step_count}
+use Rattle.model_files.specs.FileLimits.{step_count}
 use Rattle.domcheck_core.proofs.limits.count_steps.Given as goal
 
 abbrev pub invariant-procedures : goal.invariant-procedures

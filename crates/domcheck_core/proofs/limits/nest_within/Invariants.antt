@@ -1,6 +1,6 @@
 use Rattle.std.proofs.Common.{◌≡◌, ◌≤◌, length}
 use Rattle.token_readers.specs.Leaves.{lexemes_in}
-use Rattle.model_grammar.specs.Files.{nests_within}
+use Rattle.model_text.specs.Nesting.{nests_within}
 use Rattle.domcheck_core.proofs.limits.nest_within.Given as goal
 
 abbrev pub invariant-tokens : goal.invariant-tokens

@@ -1,6 +1,6 @@
 use Rattle.std.proofs.Common.{◌≡◌, length}
 use Rattle.token_readers.specs.Leaves.{lexemes_in}
-use Rattle.model_grammar.specs.Files.{texts_within}
+use Rattle.model_text.specs.Nesting.{texts_within}
 use Rattle.domcheck_core.proofs.limits.texts_within.Given as goal
 
 abbrev pub invariant-tokens : goal.invariant-tokens

@@ -1,6 +1,6 @@
 use Rattle.std.proofs.Common.{◌≡◌, length, map}
 use Rattle.dom_syntax.specs.Theories.{procedure_of}
-use Rattle.model_grammar.specs.Files.{variables_within}
+use Rattle.model_files.specs.FileLimits.{variables_within}
 use Rattle.domcheck_core.proofs.limits.variables_within.Given as goal
 
 abbrev pub invariant-procedures : goal.invariant-procedures

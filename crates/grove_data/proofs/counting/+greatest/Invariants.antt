@@ -1,5 +1,5 @@
 use Rattle.std.proofs.Common.{◌≡◌, max, drop}
-use Rattle.model_programs.specs.Outcomes.{greatest_node, greatest_list}
+use Rattle.model_groves.specs.Sizes.{greatest_node, greatest_list}
 use Rattle.grove_data.specs.Trees.{forest_of}
 use Rattle.grove_data.proofs.counting.+greatest.Given as goal
 

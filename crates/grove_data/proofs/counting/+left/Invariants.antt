@@ -1,5 +1,5 @@
 use Rattle.std.proofs.Common.{◌≡◌, ◌+◌, drop}
-use Rattle.model_programs.specs.Outcomes.{size}
+use Rattle.model_groves.specs.Sizes.{size}
 use Rattle.grove_data.specs.Trees.{forest_of}
 use Rattle.grove_data.proofs.counting.+left.Given as goal
 

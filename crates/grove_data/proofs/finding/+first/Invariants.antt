@@ -1,5 +1,5 @@
 use Rattle.std.proofs.Common.{◌≡◌, drop}
-use Rattle.model_programs.specs.Groves.{nodes_where}
+use Rattle.model_groves.specs.Groves.{nodes_where}
 use Rattle.grove_data.specs.Trees.{forest_of}
 use Rattle.grove_data.specs.Finding.{test_of, first_tree}
 use Rattle.grove_data.proofs.finding.+first.Given as goal

@@ -1,5 +1,5 @@
 use Rattle.std.proofs.Common.{◌≡◌, drop}
-use Rattle.model_programs.specs.Groves.{has_root}
+use Rattle.model_groves.specs.Groves.{has_root}
 use Rattle.grove_data.specs.Trees.{forest_of}
 use Rattle.grove_data.proofs.finding.has_root.Given as goal
 

@@ -1,7 +1,7 @@
 use Rattle.std.proofs.Common.{◌≡◌, ◌∙◌, sym, ap, refl, ℕ, ◌≤◌, ◌<◌, false, List, [], ◌∷◌, length, drop, arith, map, length-drop}
 use Rattle.model_shapes.specs.Sorts.{DataSort}
 use Rattle.model_formulas.specs.Formulas.{Named}
-use Rattle.model_programs.specs.Theories.{StepOf}
+use Rattle.model_commands.specs.Theories.{StepOf}
 use Rattle.dom_terms.specs.Sorts.{data_sort_of}
 use Rattle.formula_syntax.specs.Formulas.{formula_of}
 use Rattle.dom_syntax.specs.Commands.{block_of}

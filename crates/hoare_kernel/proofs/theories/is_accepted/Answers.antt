@@ -1,7 +1,7 @@
 use Rattle.std.proofs.Common.{◌≡◌, sym, ◌∙◌, Result, Ok, Err, Bool, true, IfOk, IsTrue, map, ap}
 use Rattle.std.specs.Prelude.{◌↔◌}
 use Rattle.model_rules.specs.Accepted.{IsAccepted, Each, IsProved}
-use Rattle.model_programs.specs.Theories.{nameless_procedure, ProcedureOf}
+use Rattle.model_commands.specs.Theories.{nameless_procedure, ProcedureOf}
 use Rattle.model_formulas.specs.Formulas.{Named}
 use Rattle.std.specs.Prelude.{List}
 use Rattle.hoare_kernel.specs.Tests.{accepted_test}

@@ -1,5 +1,5 @@
 use Rattle.std.proofs.Common.{◌≡◌, ◌∙◌, ℕ, sym, List, ◌⊎◌, inl, inr, Result, Ok, Err}
-use Rattle.model_programs.specs.Theories.{Theory}
+use Rattle.model_commands.specs.Theories.{Theory}
 use Rattle.model_text.specs.Lexemes.{Lexeme}
 use Rattle.model_grammar.specs.Grammar.{SpellsTheory}
 use Rattle.token_readers.specs.Reading.{Stop, At, Deep}

@@ -1,8 +1,7 @@
-use Rattle.std.proofs.Common.{◌≡◌, ◌++◌, [], ◌∷◌, Some, None, ap, ◌∙◌, sym, subst}
+use Rattle.std.proofs.Common.{ap, ◌∙◌, sym, subst}
 use Rattle.std.specs.Prelude.{position}
-use Rattle.std.proofs.Math.ListN as list
-use Rattle.model_programs.specs.Stores.{ProperStore, set}
-use Rattle.model_programs.proofs.StoreLaws.{set-proper}
+use Rattle.model_terms.specs.Stores.{ProperStore, set}
+use Rattle.model_terms.proofs.StoreLaws.{set-proper}
 use Rattle.dom_terms.specs.Values.{value_seen}
 use Rattle.dom_terms.specs.Terms.{prog_var_of}
 use Rattle.dom_terms.specs.Stores.{store_of, has_variable}

@@ -1,0 +1,6 @@
+pub mod ConditionFormulas
+pub mod Commands
+pub mod CommandParts
+pub mod Theories
+pub mod Sorting
+pub mod Scopes

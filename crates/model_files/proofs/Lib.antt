@@ -1,0 +1,4 @@
+pub mod FileTests
+pub mod Scopes
+pub mod WellFormedTheories
+pub mod WorkedFiles

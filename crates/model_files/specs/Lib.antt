@@ -1,0 +1,3 @@
+pub mod RuleNames
+pub mod FileFaults
+pub mod FileLimits

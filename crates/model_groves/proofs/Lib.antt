@@ -1,0 +1,4 @@
+pub mod Decided
+pub mod Groves
+pub mod InContext
+pub mod NextPicks

@@ -1,0 +1,12 @@
+pub mod Runs
+pub mod Fine
+pub mod SameRuns
+pub mod Unmodified
+pub mod Blocks
+pub mod BySteps
+pub mod NextMoves
+pub mod Picks
+pub mod WorkedRuns
+pub mod Plain
+pub mod Starts
+pub mod Unchanged

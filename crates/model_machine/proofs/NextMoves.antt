@@ -1,0 +1,105 @@
+-- The next pick is free, so no step of a run that takes next picks meets a bad one.
+use Rattle.std.proofs.Common.{◌≡◌, ℕ, zero, suc, List, [], ◌∷◌, ◌++◌, Bool, true, false, cond, refl, subst, Option, Some, None}
+use Rattle.model_shapes.specs.Trees.{Trees, none, node, hole, beside, node_uses}
+use Rattle.model_shapes.specs.Values.{Value, node_number}
+use Rattle.model_terms.specs.Terms.{Term}
+use Rattle.model_terms.specs.Stores.{ProgVar, Store, set, value_of, text_in}
+use Rattle.model_commands.specs.Commands.{skip, block, assign, create_node, node_name, child_nodes, parent_node, list_item, append_child, remove_child, if_else, while_do, local, call}
+use Rattle.model_commands.specs.Theories.{Procedures, Procedure, procedure_named}
+use Rattle.model_machine.specs.Machine.{Piece, run, restore, return, Move, becomes, faults, bad_pick, move, reading, appending, removing, calling, no_node, no_list, cycle, not_child, FaultKind}
+use Rattle.model_groves.specs.Groves.{positive, has_root, without, adding, node_at, list_at}
+use Rattle.model_groves.proofs.NextPicks.{next-free}
+use Rattle.model_groves.specs.Picks.{next_pick}
+use Rattle.model_limits.specs.Limits.{Limits, LimitKind}
+use Rattle.model_machine.specs.Outcomes.{outcome, on_move, within, limit_of, no_pick}
+
+-- only a new node has a pick, and the next pick is free
+reading-picks : (a : Trees) (f : FaultKind) (v : List ℕ → ℕ → Trees → ℕ
+    → Rattle.model_shapes.specs.Values.Value) (x : ProgVar) (st : Store) (g : Trees)
+    → reading a f v x st g ≡ bad_pick → ⊥
+reading-picks none f v x st g e = cc
+reading-picks (hole r) f v x st g e = cc
+reading-picks (node s i k l r) f v x st g e = cc
+
+cond-picks : (b : Bool) (m n : Move) → (m ≡ bad_pick → ⊥) → (n ≡ bad_pick → ⊥)
+    → cond b m n ≡ bad_pick → ⊥
+cond-picks true m n x y e = x e
+cond-picks false m n x y e = y e
+
+appending-picks : (a b : Trees) (st : Store) (g : Trees) → appending a b st g ≡ bad_pick → ⊥
+appending-picks none b st g e = cc
+appending-picks (hole r) b st g e = cc
+appending-picks (node s i k l r) none st g e = cc
+appending-picks (node s i k l r) (hole r') st g e = cc
+appending-picks (node s i k l r) (node s' j k' l' r') st g e =
+    cond-picks (positive (node_uses i (node s' j k' l' none))) (faults cycle)
+    (becomes [] st (adding i (node s' j k' l' none) (without j g))) (λ x. cc) (λ x. cc) e
+
+removing-picks : (a b : Trees) (st : Store) (g : Trees) → removing a b st g ≡ bad_pick → ⊥
+removing-picks none b st g e = cc
+removing-picks (hole r) b st g e = cc
+removing-picks (node s i k l r) none st g e = cc
+removing-picks (node s i k l r) (hole r') st g e = cc
+removing-picks (node s i k l r) (node s' j k' l' r') st g e =
+    cond-picks (has_root j k) (becomes [] st (beside (without j g) (node s' j k' l' none)))
+    (faults not_child) (λ x. cc) (λ x. cc) e
+
+calling-picks : (o : Option Procedure) (xs : List ProgVar) (es : List Term) (st : Store)
+    (g : Trees) → calling o xs es st g ≡ bad_pick → ⊥
+calling-picks None xs es st g e = cc
+calling-picks (Some f) xs es st g e = cc
+
+-- so no move with it meets a bad one
+pub next-moves : (th : Procedures) (x : Piece) (st : Store) (g : Trees)
+    → move th (next_pick g) x st g ≡ bad_pick → ⊥
+next-moves th (run skip) st g e = cc
+next-moves th (run (block b)) st g e = cc
+next-moves th (run (assign x t)) st g e = cc
+next-moves th (run (if_else c a b)) st g e = cc
+next-moves th (run (while_do c b)) st g e = cc
+next-moves th (run (local x b)) st g e = cc
+next-moves th (restore x v) st g e = cc
+next-moves th (return st0 rs xs) st g e = cc
+next-moves th (run (call xs f es)) st g e = calling-picks (procedure_named f th) xs es st g e
+next-moves th (run (create_node x t)) st g e =
+    let z : cond true
+    (becomes [] (set x (node_number (next_pick g).node) st)
+    (beside g
+    (node (text_in (value_of st t)) (next_pick g).node none (next_pick g).list none))) bad_pick
+    ≡ bad_pick =
+    subst (λ b.
+    cond b (becomes [] (set x (node_number (next_pick g).node) st)
+    (beside g
+    (node (text_in (value_of st t)) (next_pick g).node none (next_pick g).list none))) bad_pick
+    ≡ bad_pick) (next-free g) e in (cc)
+next-moves th (run (node_name x t)) st g e =
+    reading-picks (node_at (value_of st t) g) no_node _ x st g e
+next-moves th (run (child_nodes x t)) st g e =
+    reading-picks (node_at (value_of st t) g) no_node _ x st g e
+next-moves th (run (parent_node x t)) st g e =
+    reading-picks (node_at (value_of st t) g) no_node _ x st g e
+next-moves th (run (list_item x t u)) st g e =
+    reading-picks (list_at (value_of st t) g) no_list _ x st g e
+next-moves th (run (append_child t u)) st g e =
+    appending-picks (node_at (value_of st t) g) (node_at (value_of st u) g) st g e
+next-moves th (run (remove_child t u)) st g e =
+    removing-picks (node_at (value_of st t) g) (node_at (value_of st u) g) st g e
+
+-- and no outcome is that of a bad pick
+pub outcome-picks : (limits : Limits) (th : Procedures) (rs : List ProgVar) (fuel taken : ℕ)
+    (k : List Piece) (st : Store) (g : Trees) → outcome limits th rs fuel taken k st g ≡ no_pick → ⊥
+outcome-picks limits th rs zero taken [] st g e = cc
+outcome-picks limits th rs zero taken (x ∷ k) st g e = cc
+outcome-picks limits th rs (suc fuel) taken [] st g e = cc
+outcome-picks limits th rs (suc fuel) taken (x ∷ k) st g e =
+    go (limit_of limits x k st g) (move th (next_pick g) x st g) (next-moves th x st g)
+    (λ k' st' g'. outcome-picks limits th rs fuel (suc taken) k' st' g') e
+  where
+    go : (l : Option LimitKind) (m : Move) → (m ≡ bad_pick → ⊥)
+        → ((k' : List Piece) (st' : Store) (g' : Trees)
+        → outcome limits th rs fuel (suc taken) k' st' g' ≡ no_pick → ⊥)
+        → within l (on_move (outcome limits th rs fuel (suc taken)) taken x k m) ≡ no_pick → ⊥
+    go (Some l) m n rec e = cc
+    go None (becomes ys st' g') n rec e = rec (ys ++ k) st' g' e
+    go None (faults f) n rec e = cc
+    go None bad_pick n rec e = n refl

@@ -1,0 +1,63 @@
+-- A triple that is proved with "some data" read classically holds with it read plainly.
+use Rattle.std.proofs.Common.{[], ◌∷◌}
+use Rattle.model_shapes.specs.Trees.{Trees, fill}
+use Rattle.model_shapes.specs.Sorts.{shape, context, DataSort, grove}
+use Rattle.model_shapes.specs.Shapes.{Shaped}
+use Rattle.model_formulas.specs.Formulas.{Formula}
+use Rattle.model_formulas.specs.Satisfaction.{Environment}
+use Rattle.model_shapes.proofs.Shapes.{same-Shaped}
+use Rattle.model_formulas.proofs.Plainly.{plain_end}
+use Rattle.model_terms.specs.Stores.{Store, lookup}
+use Rattle.model_commands.specs.Commands.{Command}
+use Rattle.model_commands.specs.Theories.{Procedures}
+use Rattle.model_commands.specs.Sorting.{Sorted}
+use Rattle.model_commands.specs.Sorting.{BodiesSorted}
+use Rattle.model_machine.specs.Fitting.{Fine}
+use Rattle.model_machine.specs.Machine.{run, RunOutcome, running, ended, fault, picked_badly, runs}
+use Rattle.model_machine.specs.LocalTriples.{Ends, EndsWith, Stands, HoldsLocally, TripleFor}
+use Rattle.model_machine.proofs.Fine.{runs-fine}
+use Rattle.model_commands.proofs.StoreLaws.{proper-store}
+
+-- the data that stands in the context at the end
+pub plainly : (d : DataSort) (c : Trees) (q : Formula) (e : Environment) (st : Store) (g : Trees)
+    → Shaped (context d grove) c → Shaped (shape grove) g → Stands d c q e st g
+    → EndsWith d c q e st g
+plainly d c q e st g wc w s =
+    plain_end d c q e (lookup st) g wc (λ n. s (λ y. n (
+      y.0,
+      y.1,
+      (same-Shaped (shape grove) g (fill c y.0) y.2.0 w, y.2.0, y.2.1),
+    )))
+
+-- and back
+pub standing : (d : DataSort) (c : Trees) (q : Formula) (e : Environment) (st : Store) (g : Trees)
+    → EndsWith d c q e st g → Stands d c q e st g
+standing d c q e st g x = λ n. n (x.0, x.1, (x.3, x.4))
+
+module _ (th : Procedures) (p : Formula) (c : Command) (q : Formula) (d : DataSort) where
+  -- a classical triple over all runs is a local one
+  pub classical-plain : BodiesSorted th → Sorted th c → TripleFor th (λ n. Unit) p c q d
+      → HoldsLocally th p c q d
+  classical-plain bodies sorted triple e st pr r wr mr around wa wf picks =
+      go (runs th picks (run c ∷ []) st (fill around r))
+      (triple e st pr r wr mr around wa wf picks tt)
+      (runs-fine th bodies picks (run c ∷ []) st (fill around r) (sorted, tt)
+      (record { proper = proper-store st e pr; whole = wf }))
+    where
+      go : (o : RunOutcome) → Ends ⊥ (Stands d around q e) o → Ends Unit Fine o
+          → Ends ⊥ (EndsWith d around q e) o
+      go running s f = tt
+      go picked_badly s f = tt
+      go (fault k) s f = s
+      go (ended st' g) s f = plainly d around q e st' g wa f.whole s
+
+  -- and the other way round
+  pub plain-classical : HoldsLocally th p c q d → TripleFor th (λ n. Unit) p c q d
+  plain-classical triple e st pr r wr mr around wa wf picks long =
+      go (runs th picks (run c ∷ []) st (fill around r)) (triple e st pr r wr mr around wa wf picks)
+    where
+      go : (o : RunOutcome) → Ends ⊥ (EndsWith d around q e) o → Ends ⊥ (Stands d around q e) o
+      go running s = tt
+      go picked_badly s = tt
+      go (fault k) s = s
+      go (ended st' g) s = standing d around q e st' g s

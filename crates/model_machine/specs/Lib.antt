@@ -1,0 +1,9 @@
+pub mod Machine
+pub mod Outcomes
+pub mod Changes
+pub mod Fitting
+pub mod LocalTriples
+pub mod Behind
+pub mod ByStep
+pub mod Blocks
+pub mod SameMoves

@@ -1,0 +1,132 @@
+//! The definitions of the machine, its runs and outcomes, and of local triples, with no Rust data.
+//! Promises that they say what is meant: their laws are functions here, each with an empty body.
+//! Stands on model_commands and model_groves.
+#![tactic(auto)]
+
+ghost use Rattle.std.specs.Prelude.{◌≡◌, ℕ, List, [], ◌∷◌, map, true, None};
+ghost use Rattle.model_shapes.specs.Sorts.{DataSort, grove, shape, context};
+ghost use Rattle.model_shapes.specs.Values.{Value};
+ghost use Rattle.model_shapes.specs.Trees.{Trees, WellFormed};
+ghost use Rattle.model_shapes.specs.Shapes.{Shaped, SameAt};
+ghost use Rattle.model_terms.specs.Terms.{Term};
+ghost use Rattle.model_formulas.specs.Formulas.{Formula};
+ghost use Rattle.model_formulas.specs.Satisfaction.{Environment};
+ghost use Rattle.model_terms.specs.Stores.{ProgVar, Store, value_in, value_of};
+ghost use Rattle.model_commands.specs.Commands.{Command, Block, block, Modifies};
+ghost use Rattle.model_commands.specs.Theories.{Procedure, Procedures, triple};
+ghost use Rattle.model_commands.specs.Sorting.{Sorted};
+ghost use Rattle.model_groves.specs.Picks.{Pick, is_free};
+ghost use Rattle.model_machine.specs.Machine.{Piece, run, becomes, move, pieces_of, entering, holding_values, start, Config, next, step, ended, runs};
+ghost use Rattle.model_limits.specs.Limits.{Limits};
+ghost use Rattle.model_groves.specs.Picks.{next_pick};
+ghost use Rattle.model_machine.specs.Outcomes.{outcome, no_pick};
+ghost use Rattle.model_machine.specs.Changes.{change_of};
+ghost use Rattle.model_machine.specs.Fitting.{FitPieces, ValuesFit, Fine, FitsConfig};
+ghost use Rattle.model_commands.specs.Sorting.{BodiesSorted};
+ghost use Rattle.model_machine.specs.LocalTriples.{Ends, EndsWith, Stands, HoldsLocally, TripleFor};
+ghost use Rattle.model_machine.specs.Blocks.{Followed};
+ghost use Rattle.model_machine.specs.SameMoves.{SameMove, SameOutcome};
+ghost use Rattle.model_machine.specs.Behind.{Behind};
+ghost use Rattle.model_machine.specs.ByStep.{after_step};
+
+/// A run begins with a configuration that fits, and a call gives the parameters their values as the
+/// beginning of a run does.
+pub fn a_run_begins_with_what_fits()
+    ensures start { (ps : Procedures) (f : Procedure) (values : List Value) (roots : Trees)
+        → Sorted ps f.body → ValuesFit f.params values → Shaped (shape grove) roots
+        → FitsConfig ps (start f values roots) }
+    ensures call { (params : List ProgVar) (arguments : List Term) (store : Store)
+        → entering params arguments store
+        ≡ holding_values params (map (value_of store) arguments) }
+{}
+
+/// Steps and runs keep what fits: stores stay proper, and groves well formed.
+pub fn runs_keep_what_fits()
+    ensures step { (ps : Procedures) → BodiesSorted ps → (pick : Pick) (before after : Config)
+        → FitsConfig ps before → step ps before pick ≡ next after → FitsConfig ps after }
+    ensures run { (ps : Procedures) → BodiesSorted ps → (picks : List Pick) (pending : List Piece)
+        (store : Store) (roots : Trees) → FitPieces ps pending → Fine store roots
+        → Ends Unit Fine (runs ps picks pending store roots) }
+{}
+
+/// A run takes one step for its first pick, and goes on from where that leads.
+pub fn runs_take_steps()
+    ensures { (ps : Procedures) (picks : List Pick) (pick : Pick) (config : Config)
+        → runs ps (pick ∷ picks) config.pending config.store config.grove
+        ≡ after_step (λ c. runs ps picks c.pending c.store c.grove) config.store config.grove
+        (step ps config pick) }
+{}
+
+/// A run of pieces followed by others is the run of the pieces, and then that of the others.
+pub fn one_after_the_other()
+    ensures { (ps : Procedures) (picks : List Pick) (first second : List Piece) (store : Store)
+        (grove : Trees) → Followed ps picks first second store grove }
+{}
+
+/// The run of a block is, after the step into it, the runs of its commands one after the other.
+pub fn a_block_is_its_commands()
+    ensures enter { (ps : Procedures) (pick : Pick) (picks : List Pick) (b : Block) (store : Store)
+        (roots : Trees) → runs ps (pick ∷ picks) (run (block b) ∷ []) store roots
+        ≡ runs ps picks (pieces_of b) store roots }
+    ensures each { (ps : Procedures) (picks : List Pick) (c : Command) (b : Block) (store : Store)
+        (roots : Trees) → Followed ps picks (run c ∷ []) (pieces_of b) store roots }
+{}
+
+/// On groves that are the same, one step does the same up to the order of roots, and so does a run.
+pub fn same_groves_run_alike()
+    ensures step { (a b : Trees) → SameAt grove a b → WellFormed a → (ps : Procedures) (pick : Pick)
+        (piece : Piece) (store : Store)
+        → SameMove (move ps pick piece store a) (move ps pick piece store b) }
+    ensures run { (ps : Procedures) → BodiesSorted ps → (picks : List Pick) (pending : List Piece)
+        (store : Store) (a b : Trees) → FitPieces ps pending → Fine store a → SameAt grove a b
+        → SameOutcome (runs ps picks pending store a) (runs ps picks pending store b) }
+{}
+
+/// Where a command's run ends, the variables that it doesn't change have the values that they had.
+pub fn unmodified_variables_stay()
+    ensures { (ps : Procedures) (x : ProgVar) (c : Command) → (Modifies c x → ⊥)
+        → (picks : List Pick) (store after : Store) (roots roots_after : Trees)
+        → runs ps picks (run c ∷ []) store roots ≡ ended after roots_after
+        → value_in after x ≡ value_in store x }
+{}
+
+/// A step that isn't among the changes leaves the grove as it was.
+pub fn steps_without_a_change_leave_the_grove()
+    ensures { (ps : Procedures) (pick : Pick) (piece : Piece) (store : Store) (roots : Trees)
+        (n : ℕ) (pieces : List Piece) (after : Store) (roots_after : Trees)
+        → move ps pick piece store roots ≡ becomes pieces after roots_after
+        → change_of n pick piece store roots ≡ None → roots_after ≡ roots }
+{}
+
+/// The next pick of a grove is free, so no pick of a run within the fuel is bad.
+pub fn no_outcome_is_a_bad_pick()
+    ensures { (limits : Limits) (ps : Procedures) (results : List ProgVar) (fuel taken : ℕ)
+        (pending : List Piece) (store : Store) (roots : Trees)
+        → outcome limits ps results fuel taken pending store roots ≡ no_pick → ⊥ }
+{}
+
+/// Behind each outcome within the fuel there is a run of as many steps.
+pub fn outcomes_are_runs()
+    ensures { (limits : Limits) (ps : Procedures) (results : List ProgVar) (fuel taken : ℕ)
+        (pending : List Piece) (store : Store) (roots : Trees)
+        → Behind ps results taken pending store roots
+        (outcome limits ps results fuel taken pending store roots) }
+{}
+
+/// Where a run ends in a well-formed grove with some data in the context, read classically, it ends
+/// so plainly: what stands in the context can be computed.
+pub fn ends_plainly()
+    ensures { (d : DataSort) (around : Trees) (post : Formula) (e : Environment) (store : Store)
+        (roots : Trees) → Shaped (context d grove) around → Shaped (shape grove) roots
+        → Stands d around post e store roots → EndsWith d around post e store roots }
+{}
+
+/// A triple whose end is read classically, over all runs, is a local triple: what stands in the
+/// context at the end can be computed. And a local triple is such a one.
+pub fn classical_triples_end_plainly()
+    ensures plain { (ps : Procedures) (pre : Formula) (c : Command) (post : Formula) (d : DataSort)
+        → BodiesSorted ps → Sorted ps c → TripleFor ps (λ n. Unit) pre c post d
+        → HoldsLocally ps pre c post d }
+    ensures classical { (ps : Procedures) (pre : Formula) (c : Command) (post : Formula)
+        (d : DataSort) → HoldsLocally ps pre c post d → TripleFor ps (λ n. Unit) pre c post d }
+{}

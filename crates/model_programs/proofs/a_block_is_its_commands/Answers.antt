@@ -1,8 +1,0 @@
-use Rattle.model_programs.proofs.Blocks.{block-step, command-then}
-use Rattle.model_programs.proofs.a_block_is_its_commands.Goals as goal
-
-pub returns-clause-enter : goal.returns-clause-enter
-returns-clause-enter c = block-step
-
-pub returns-clause-each : goal.returns-clause-each
-returns-clause-each c = command-then

@@ -1,5 +1,0 @@
-use Rattle.model_programs.proofs.StoreLaws.{condition-both}
-use Rattle.model_programs.proofs.conditions_are_their_formulas.Goals as goal
-
-pub returns : goal.returns
-returns c = λ k st e s r t p. condition-both st e p s r k t

@@ -1,5 +1,0 @@
-use Rattle.model_programs.proofs.Blocks.{followed_by}
-use Rattle.model_programs.proofs.one_after_the_other.Goals as goal
-
-pub returns : goal.returns
-returns c = followed_by

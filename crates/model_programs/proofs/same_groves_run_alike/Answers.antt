@@ -1,8 +1,0 @@
-use Rattle.model_programs.proofs.SameRuns.{same-move, same-runs}
-use Rattle.model_programs.proofs.same_groves_run_alike.Goals as goal
-
-pub returns-clause-step : goal.returns-clause-step
-returns-clause-step c = same-move
-
-pub returns-clause-run : goal.returns-clause-run
-returns-clause-run c = same-runs

@@ -1,5 +1,0 @@
-use Rattle.model_programs.proofs.StoreLaws.{meaning-value}
-use Rattle.model_programs.proofs.terms_mean_their_values.Goals as goal
-
-pub returns : goal.returns
-returns c = meaning-value
