@@ -1,6 +1,9 @@
 -- The test of acceptance is the definition.
 use Rattle.std.proofs.Common.{◌≡◌, ℕ, Bool, true, false, ◌&&◌, ◌==◌, cond, List, [], ◌∷◌, ◌++◌, map, Option, Some, None, refl, sym, ap, ◌∙◌, subst, bytes_eq, codes}
 use Rattle.std.specs.Option.{option_map}
+use Rattle.std.proofs.lemmas.Bool.{and_parts, and_from}
+use Rattle.std.proofs.lemmas.List.{map-append}
+use Rattle.std.proofs.lemmas.Option.{same_Some}
 use Rattle.std.proofs.lemmas.Slice.Eq.{bytes_eq-Decides}
 use Rattle.model_shapes.specs.Sorts.{DataSort, Sort, same_data_sort}
 use Rattle.model_terms.specs.VariableTests.{same_data_sort-is, same_data_sort-refl}
@@ -17,7 +20,7 @@ use Rattle.model_rules.specs.Accepted.{judgement_numbered, Cites, InstanceBy, Al
 use Rattle.dom_syntax.specs.SameCommands.{same_command}
 use Rattle.dom_syntax.proofs.SameCommands.{same_command-is, same_command-refl}
 use Rattle.hoare_kernel.specs.Tests.{same_test, replaced_test, is_skip, no_items, skip_test, assign_test, cited, after, next, reached, ends, seq_test, triple_test, judged_test, rule_test, instance_test, instances_test, own_test, own_last, last_step, proved_test, accepted_test}
-use Rattle.hoare_kernel.proofs.Decisions.{both, join, same_is, is_same, replaced_is, is_replaced, skip_is, nothing_is}
+use Rattle.hoare_kernel.proofs.Decisions.{same_is, is_same, replaced_is, is_replaced, skip_is}
 
 -- CITATIONS
 -- what a step of the number says, without the names of bound variables
@@ -57,8 +60,8 @@ link_of (Some (triple p c' r d')) m c d f q e = go (same_test p m && (same_comma
   where
     go : (b : Bool) → (same_test p m && (same_command c' c && same_data_sort d' d)) ≡ b → ends (next (cond b (Some r) None) f) q ≡ true → Link (Some (triple p c' r d')) m c d f q
     go true t e =
-        let h = both (same_test p m) (same_command c' c && same_data_sort d' d) t in
-        let k = both (same_command c' c) (same_data_sort d' d) h.1 in
+        let h = and_parts (same_test p m) (same_command c' c && same_data_sort d' d) t in
+        let k = and_parts (same_command c' c) (same_data_sort d' d) h.1 in
         record {
           middle = r;
           says = ap Some (triple_is (nameless p) (nameless m) (nameless r) (nameless r) c' c d' d (same_is p m h.0) (same_command-is c' c k.0) refl (same_data_sort-is d' d k.1));
@@ -111,7 +114,7 @@ after_of (Some (entails x y s)) m c d p r same e = absurd cc
 after_of (Some (triple x c' y d')) m c d p r same e =
     let h = parts_of (nameless x) p (nameless y) r c' c d' d e in
     let t : (same_test x m && (same_command c' c && same_data_sort d' d)) ≡ true =
-    join (same_test x m) _ (is_same x m (h.0 ∙ same)) (join (same_command c' c) (same_data_sort d' d) (command_test c' c h.1) (sort_test d' d h.3)) in
+    and_from (same_test x m) _ (is_same x m (h.0 ∙ same)) (and_from (same_command c' c) (same_data_sort d' d) (command_test c' c h.1) (sort_test d' d h.3)) in
     record { middle = y; is = ap (λ z. cond z (Some y) None) t; same = h.2 }
 
 of_chain : (earlier : List (StepOf Named)) (ns : List ℕ) (js : List Judgement) (m q : Named) (b : Block) (d : DataSort) (p r : Formula)
@@ -146,12 +149,12 @@ none_cited earlier (n ∷ ns) c = absurd c
 
 skip_of : (p q : Named) (c : Command) (d : DataSort) → skip_test c p q ≡ true → Row (codes "skip") [] [] (triple (nameless p) c (nameless q) d)
 skip_of p q c d e =
-    let h = both (is_skip c) (same_test p q) e in
+    let h = and_parts (is_skip c) (same_test p q) e in
     subst (λ z. Row (codes "skip") [] [] z) (triple_is (nameless p) (nameless p) (nameless p) (nameless q) skip c d d refl (sym (skip_is c h.0)) (same_is p q h.1) refl) (skip_row (nameless p) d)
 
 assign_of : (p q : Named) (c : Command) (d : DataSort) → assign_test p c q ≡ true → Row (codes "assign") [] [] (triple (nameless p) c (nameless q) d)
 assign_of p q (assign x t) d e =
-    let h = both (evaluates (sort_of x) t) (replaced_test x t q p) e in
+    let h = and_parts (evaluates (sort_of x) t) (replaced_test x t q p) e in
     subst (λ z. Row (codes "assign") [] [] (triple z (assign x t) (nameless q) d)) (replaced_is x t q p h.1) (assign_row (nameless q) x t d h.0)
 assign_of p q c d e = absurd cc
 
@@ -167,11 +170,11 @@ bare_of : (earlier : List (StepOf Named)) (name ns : List ℕ) (p q : Named) (c 
     → (no_items ns && cond b (skip_test c p q) (bytes_eq name (codes "assign") && assign_test p c q)) ≡ true
     → InstanceBy (by_rule name ns []) (map nameless_step earlier) (triple (nameless p) c (nameless q) d)
 bare_of earlier name ns p q c d true n e =
-    let h = both (no_items ns) (skip_test c p q) e in
+    let h = and_parts (no_items ns) (skip_test c p q) e in
     by_name name (codes "skip") ns (map nameless_step earlier) [] (triple (nameless p) c (nameless q) d) n (cites_none (map nameless_step earlier) ns h.0) (skip_of p q c d h.1)
 bare_of earlier name ns p q c d false n e =
-    let h = both (no_items ns) (bytes_eq name (codes "assign") && assign_test p c q) e in
-    let k = both (bytes_eq name (codes "assign")) (assign_test p c q) h.1 in
+    let h = and_parts (no_items ns) (bytes_eq name (codes "assign") && assign_test p c q) e in
+    let k = and_parts (bytes_eq name (codes "assign")) (assign_test p c q) h.1 in
     by_name name (codes "assign") ns (map nameless_step earlier) [] (triple (nameless p) c (nameless q) d) k.0 (cites_none (map nameless_step earlier) ns h.0) (assign_of p q c d k.1)
 
 triple_of_test : (earlier : List (StepOf Named)) (name ns : List ℕ) (p q : Named) (c : Command) (d : DataSort) (b : Bool) → bytes_eq name (codes "seq") ≡ b
@@ -197,7 +200,7 @@ of_skip : (earlier : List (StepOf Named)) (ns : List ℕ) (p : Formula) (d : Dat
 of_skip earlier ns p d n (entails a b s) e = absurd cc
 of_skip earlier ns p d n (triple a c b s) e =
     let h = some_triple (nameless a) p (nameless b) p c skip s d e in
-    join (no_items ns) (skip_test c a b) n (join (is_skip c) (same_test a b) (ap is_skip h.1) (is_same a b (h.0 ∙ sym h.2)))
+    and_from (no_items ns) (skip_test c a b) n (and_from (is_skip c) (same_test a b) (ap is_skip h.1) (is_same a b (h.0 ∙ sym h.2)))
 
 assign_passes : (p q : Named) (c : Command) (x : ProgVar) (t : Term) → c ≡ assign x t → (evaluates (sort_of x) t && replaced_test x t q p) ≡ true → assign_test p c q ≡ true
 assign_passes p q c x t e h = subst (λ z. assign_test p z q ≡ true) (sym e) h
@@ -207,7 +210,7 @@ of_assign : (earlier : List (StepOf Named)) (ns : List ℕ) (q : Formula) (x : P
 of_assign earlier ns q x t d v n (entails a b s) e = absurd cc
 of_assign earlier ns q x t d v n (triple a c b s) e =
     let h = some_triple (nameless a) (formula_with (replacing (as_var x) t) q) (nameless b) q c (assign x t) s d e in
-    join (no_items ns) (assign_test a c b) n (assign_passes a b c x t h.1 (join (evaluates (sort_of x) t) (replaced_test x t b a) v
+    and_from (no_items ns) (assign_test a c b) n (assign_passes a b c x t h.1 (and_from (evaluates (sort_of x) t) (replaced_test x t b a) v
     (is_replaced x t b a (ap (formula_with (replacing (as_var x) t)) h.2 ∙ sym h.0))))
 
 seq_passes : (earlier : List (StepOf Named)) (ns : List ℕ) (p q : Named) (c : Command) (b : Block) (d : DataSort) → c ≡ block b → (has_command b && ends (reached earlier ns p b d) q) ≡ true → seq_test earlier ns p c q d ≡ true
@@ -218,7 +221,7 @@ of_seq : (earlier : List (StepOf Named)) (ns : List ℕ) (js : List Judgement) (
 of_seq earlier ns js p q b d chain cites (entails x y s) e = absurd cc
 of_seq earlier ns js p q b d chain cites (triple x c y s) e =
     let h = some_triple (nameless x) p (nameless y) q c (block b) s d e in
-    seq_passes earlier ns x y c b s h.1 (join (has_command b) (ends (reached earlier ns x b s) y) (chain_has js b d p q chain)
+    seq_passes earlier ns x y c b s h.1 (and_from (has_command b) (ends (reached earlier ns x b s) y) (chain_has js b d p q chain)
     (subst (λ z. ends (reached earlier ns x b z) y ≡ true) (sym h.3) (of_chain earlier ns js x y b d p q chain (sym h.0) (sym h.2) cites)))
 
 row_test : (earlier : List (StepOf Named)) (ns : List ℕ) {name : List ℕ} {args : List Term} {js : List Judgement} {j : Judgement} → Row name args js j → Cites (map nameless_step earlier) ns js → RowTest earlier name ns args j
@@ -238,21 +241,17 @@ test_of auto j earlier h = absurd h
 test_of (by_rule name ns args) j earlier h = test_of_row earlier name ns args j (row_test earlier ns h.2 h.1)
 
 -- PROOFS
-map-more : (steps : List (StepOf Named)) (step : StepOf Named) → map nameless_step (steps ++ step ∷ []) ≡ map nameless_step steps ++ nameless_step step ∷ []
-map-more [] step = refl
-map-more (first ∷ steps) step = ap (λ z. nameless_step first ∷ z) (map-more steps step)
-
 all_of : (steps earlier : List (StepOf Named)) → instances_test earlier steps ≡ true → AllInstances (map nameless_step earlier) (map nameless_step steps)
 all_of [] earlier e = tt
 all_of (step ∷ steps) earlier e =
-    let h = both (instance_test earlier step) (instances_test (earlier ++ step ∷ []) steps) e in
-    (instance_of step.reason step.judgement earlier h.0, subst (λ z. AllInstances z (map nameless_step steps)) (map-more earlier step) (all_of steps (earlier ++ step ∷ []) h.1))
+    let h = and_parts (instance_test earlier step) (instances_test (earlier ++ step ∷ []) steps) e in
+    (instance_of step.reason step.judgement earlier h.0, subst (λ z. AllInstances z (map nameless_step steps)) (map-append nameless_step earlier (step ∷ [])) (all_of steps (earlier ++ step ∷ []) h.1))
 
 tests_of : (steps earlier : List (StepOf Named)) → AllInstances (map nameless_step earlier) (map nameless_step steps) → instances_test earlier steps ≡ true
 tests_of [] earlier h = refl
 tests_of (step ∷ steps) earlier h =
-    join (instance_test earlier step) (instances_test (earlier ++ step ∷ []) steps) (test_of step.reason step.judgement earlier h.0)
-    (tests_of steps (earlier ++ step ∷ []) (subst (λ z. AllInstances z (map nameless_step steps)) (sym (map-more earlier step)) h.1))
+    and_from (instance_test earlier step) (instances_test (earlier ++ step ∷ []) steps) (test_of step.reason step.judgement earlier h.0)
+    (tests_of steps (earlier ++ step ∷ []) (subst (λ z. AllInstances z (map nameless_step steps)) (sym (map-append nameless_step earlier (step ∷ []))) h.1))
 
 -- the last judgement
 last_is : (steps : List (StepOf Named)) → last_judgement (map nameless_step steps) ≡ option_map nameless_judgement (last_step steps)
@@ -263,9 +262,9 @@ last_is (step ∷ next_step ∷ steps) = last_is (next_step ∷ steps)
 own_of : (f : ProcedureOf Named) (j : JudgementOf Named) → own_test f j ≡ true → nameless_judgement j ≡ own_triple (nameless_procedure f)
 own_of f (entails p q s) e = absurd cc
 own_of f (triple p c q d) e =
-    let h = both (same_command c f.body) (same_data_sort d f.sort && (same_test p f.pre && same_test q f.post)) e in
-    let s = both (same_data_sort d f.sort) (same_test p f.pre && same_test q f.post) h.1 in
-    let t = both (same_test p f.pre) (same_test q f.post) s.1 in
+    let h = and_parts (same_command c f.body) (same_data_sort d f.sort && (same_test p f.pre && same_test q f.post)) e in
+    let s = and_parts (same_data_sort d f.sort) (same_test p f.pre && same_test q f.post) h.1 in
+    let t = and_parts (same_test p f.pre) (same_test q f.post) s.1 in
     triple_is (nameless p) (nameless f.pre) (nameless q) (nameless f.post) c f.body d f.sort
     (same_is p f.pre t.0) (same_command-is c f.body h.0) (same_is q f.post t.1) (same_data_sort-is d f.sort s.0)
 
@@ -273,8 +272,8 @@ of_own : (f : ProcedureOf Named) (j : JudgementOf Named) → nameless_judgement 
 of_own f (entails p q s) e = absurd cc
 of_own f (triple p c q d) e =
     let x = some_triple (nameless p) (nameless f.pre) (nameless q) (nameless f.post) c f.body d f.sort e in
-    join (same_command c f.body) _ (command_test c f.body x.1)
-    (join (same_data_sort d f.sort) _ (sort_test d f.sort x.3) (join (same_test p f.pre) (same_test q f.post) (is_same p f.pre x.0) (is_same q f.post x.2)))
+    and_from (same_command c f.body) _ (command_test c f.body x.1)
+    (and_from (same_data_sort d f.sort) _ (sort_test d f.sort x.3) (and_from (same_test p f.pre) (same_test q f.post) (is_same p f.pre x.0) (is_same q f.post x.2)))
 
 own_some : (f : ProcedureOf Named) (o : Option (JudgementOf Named)) → own_last f o ≡ true → (j : JudgementOf Named) × (o ≡ Some j) × (own_test f j ≡ true)
 own_some f None e = absurd cc
@@ -286,7 +285,7 @@ some_judgement (Some j) k e = (j, refl, cc)
 
 proved_of : (f : ProcedureOf Named) → proved_test f ≡ true → IsProved (nameless_procedure f)
 proved_of f e =
-    let h = both (instances_test [] f.proof) (own_last f (last_step f.proof)) e in
+    let h = and_parts (instances_test [] f.proof) (own_last f (last_step f.proof)) e in
     let x = own_some f (last_step f.proof) h.1 in
     record {
       steps = all_of f.proof [] h.0;
@@ -296,12 +295,12 @@ proved_of f e =
 of_proved : (f : ProcedureOf Named) → IsProved (nameless_procedure f) → proved_test f ≡ true
 of_proved f h =
     let x = some_judgement (last_step f.proof) (own_triple (nameless_procedure f)) (sym (last_is f.proof) ∙ h.ends) in
-    join (instances_test [] f.proof) (own_last f (last_step f.proof)) (tests_of f.proof [] h.steps) (ap (own_last f) x.1 ∙ of_own f x.0 x.2)
+    and_from (instances_test [] f.proof) (own_last f (last_step f.proof)) (tests_of f.proof [] h.steps) (ap (own_last f) x.1 ∙ of_own f x.0 x.2)
 
 pub accepted_of : (fs : List (ProcedureOf Named)) → accepted_test fs ≡ true → Each IsProved (map nameless_procedure fs)
 accepted_of [] e = tt
-accepted_of (f ∷ fs) e = let h = both (proved_test f) (accepted_test fs) e in (proved_of f h.0, accepted_of fs h.1)
+accepted_of (f ∷ fs) e = let h = and_parts (proved_test f) (accepted_test fs) e in (proved_of f h.0, accepted_of fs h.1)
 
 pub of_accepted : (fs : List (ProcedureOf Named)) → Each IsProved (map nameless_procedure fs) → accepted_test fs ≡ true
 of_accepted [] h = refl
-of_accepted (f ∷ fs) h = join (proved_test f) (accepted_test fs) (of_proved f h.0) (of_accepted fs h.1)
+of_accepted (f ∷ fs) h = and_from (proved_test f) (accepted_test fs) (of_proved f h.0) (of_accepted fs h.1)

@@ -1,6 +1,6 @@
 -- Acceptance as a test that computes. Nothing here is to be believed: the proofs tie it to the
 -- definition of accepted theories.
-use Rattle.std.specs.Prelude.{ℕ, Bool, true, false, ◌&&◌, ◌||◌, ◌==◌, cond, List, [], ◌∷◌, ◌++◌, Option, Some, None, bytes_eq, codes}
+use Rattle.std.specs.Prelude.{ℕ, ◌+◌, Bool, true, false, ◌&&◌, ◌||◌, ◌==◌, cond, List, [], ◌∷◌, ◌++◌, Option, Some, None, bytes_eq, codes}
 use Rattle.model_shapes.specs.Sorts.{DataSort, same_data_sort}
 use Rattle.model_terms.specs.Terms.{Term}
 use Rattle.model_formulas.specs.Formulas.{Named, formula_eq}
@@ -12,6 +12,7 @@ use Rattle.model_commands.specs.Commands.{Command, skip, assign, block, Block, s
 use Rattle.model_commands.specs.Theories.{JudgementOf, entails, triple, Reason, auto, by_rule, StepOf, ProcedureOf}
 use Rattle.model_files.specs.FileFaults.{evaluates, has_command}
 use Rattle.dom_syntax.specs.SameCommands.{same_command}
+use Rattle.dom_syntax.specs.declared.steps.Step.{Step}
 
 -- the formulas are the same
 abbrev pub same_test : Named → Named → Bool
@@ -37,6 +38,11 @@ skip_test c p q = is_skip c && same_test p q
 abbrev pub assign_test : Named → Command → Named → Bool
 assign_test p (assign x t) q = evaluates (sort_of x) t && replaced_test x t q p
 assign_test p c q = false
+
+-- the steps are numbered from this number on
+abbrev pub are_numbered : ℕ → List Step → Bool
+are_numbered n [] = true
+are_numbered n (step ∷ steps) = (step.number == n) && are_numbered (n + 1) steps
 
 -- what the first step of the number says
 abbrev pub cited : ℕ → List (StepOf Named) → Option (JudgementOf Named)

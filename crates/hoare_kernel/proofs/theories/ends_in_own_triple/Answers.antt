@@ -4,7 +4,7 @@ use Rattle.dom_syntax.specs.Judgements.{step_of, judgement_of}
 use Rattle.dom_syntax.specs.Theories.{procedure_of}
 use Rattle.hoare_kernel.specs.Sizes.{JudgementIsSmall}
 use Rattle.hoare_kernel.specs.Tests.{own_last, own_test, last_step}
-use Rattle.hoare_kernel.proofs.Last.{at_last, small_at}
+use Rattle.hoare_kernel.proofs.Steps.{at_last, small_at}
 use Rattle.hoare_kernel.proofs.theories.ends_in_own_triple.Goals as goal
 
 pub is_own_triple-requires-clause-judgement : goal.is_own_triple-requires-clause-judgement
