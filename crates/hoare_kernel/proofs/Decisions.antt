@@ -1,10 +1,10 @@
--- What the small tests say.
-use Rattle.std.proofs.Common.{◌≡◌, ◌⊎◌, inl, inr, ℕ, Bool, true, false, ◌&&◌, List, [], ◌∷◌, map, refl, sym, ap, subst, ◌∙◌, IsTrue}
+-- What the tests of formulas, commands and terms say.
+use Rattle.std.proofs.Common.{◌≡◌, Bool, true, ◌&&◌, List, [], ◌∷◌, refl, sym, ap, subst, ◌∙◌, IsTrue}
 use Rattle.model_formulas.specs.Formulas.{Named, formula_eq}
 use Rattle.model_formulas.specs.Nameless.{nameless}
 use Rattle.model_terms.specs.Stores.{ProgVar, as_var}
 use Rattle.model_groves.specs.Groves.{is_yes}
-use Rattle.model_commands.specs.Commands.{Command, skip, block, assign, create_node, node_name, child_nodes, parent_node, list_item, append_child, remove_child, if_else, while_do, local, call}
+use Rattle.model_commands.specs.Commands.{Command, skip}
 use Rattle.std.specs.Prelude.{◌↔◌}
 use Rattle.std.specs.List.{list_all}
 use Rattle.std.proofs.Common.{◌++◌}
@@ -19,7 +19,7 @@ use mathlib.Core.Path.{fun_ext}
 use Rattle.model_terms.specs.Terms.{variable, var_eq}
 use Rattle.formula_syntax.specs.Substitution.{replacing_each, replaced_or}
 use Rattle.model_formulas.specs.Substitution.{formula_with, replacing, replacing_at}
-use Rattle.hoare_kernel.specs.Tests.{same_test, replaced_test, is_skip, no_items}
+use Rattle.hoare_kernel.specs.Tests.{same_test, replaced_test, is_skip}
 
 -- a decision that says yes
 yes_is : {A : Type 0} (d : Dec A) → is_yes d ≡ true → A
@@ -52,11 +52,15 @@ pub plain_parts : (xs ys : List Var)
 plain_parts xs ys = list_all-append is_program xs ys
 
 -- the test of a substitution
-pub replaced_is : (x : ProgVar) (t : Term) (q p : Named) → replaced_test x t q p ≡ true → formula_with (replacing (as_var x) t) (nameless q) ≡ nameless p
-replaced_is x t q p e = yes_is (formula_eq (formula_with (replacing (as_var x) t) (nameless q)) (nameless p)) e
+pub replaced_is : (x : ProgVar) (t : Term) (q p : Named) → replaced_test x t q p ≡ true
+    → formula_with (replacing (as_var x) t) (nameless q) ≡ nameless p
+replaced_is x t q p e = yes_is (formula_eq (formula_with (replacing (as_var x) t) (nameless q))
+    (nameless p)) e
 
-pub is_replaced : (x : ProgVar) (t : Term) (q p : Named) → formula_with (replacing (as_var x) t) (nameless q) ≡ nameless p → replaced_test x t q p ≡ true
-is_replaced x t q p h = is_yes_of (formula_eq (formula_with (replacing (as_var x) t) (nameless q)) (nameless p)) h
+pub is_replaced : (x : ProgVar) (t : Term) (q p : Named)
+    → formula_with (replacing (as_var x) t) (nameless q) ≡ nameless p → replaced_test x t q p ≡ true
+is_replaced x t q p h = is_yes_of (formula_eq (formula_with (replacing (as_var x) t) (nameless q))
+    (nameless p)) h
 
 -- one pair replaces its variable
 one_pair : (x : Var) (t : Term) → replacing_each ((x, t) ∷ []) ≡ replacing x t
@@ -83,6 +87,3 @@ pair_value b pair x t q p e f h =
     same_with =
         ap (λ z. formula_with z (nameless q))
         (ap (λ z. replacing_each (z ∷ [])) same_pair ∙ one_pair (as_var x) t)
-
-pub named_var : (x y : ProgVar) → x ≡ y → as_var x ≡ as_var y
-named_var x y e = ap as_var e

@@ -1,5 +1,5 @@
 -- What is known of a proof's steps: the last one, the steps before a place, and a cited one.
-use Rattle.std.proofs.Common.{◌≡◌, ℕ, zero, suc, ◌+◌, ◌-◌, ◌<◌, ◌==◌, Bool, true, false, ◌&&◌, cond, List, [], ◌∷◌, map, length, get_or, take, Option, Some, None, refl, sym, ap, ◌∙◌, subst, arith}
+use Rattle.std.proofs.Common.{◌≡◌, ℕ, zero, suc, ◌+◌, ◌<◌, ◌==◌, Bool, true, false, cond, List, [], ◌∷◌, map, length, get_or, take, Some, None, refl, sym, ap, ◌∙◌, subst, arith}
 use Rattle.std.specs.List.{find, slice_get}
 use Rattle.std.specs.Option.{option_map}
 use Rattle.std.proofs.lemmas.Option.{same_Some}
@@ -21,7 +21,8 @@ at_last (s ∷ t ∷ steps) d (suc k) e = at_last (t ∷ steps) d k (omega arith
 
 -- the judgement at a place is small
 pub small_at : (steps : List Step) (d : Step) (k : ℕ) → k < length steps
-    → StepsAreSmall (map step_of steps) → JudgementIsSmall (judgement_of (get_or steps k d).judgement)
+    → StepsAreSmall (map step_of steps) → JudgementIsSmall
+    (judgement_of (get_or steps k d).judgement)
 small_at [] d k lt h = absurd (omega arith)
 small_at (s ∷ steps) d zero lt h = h.0
 small_at (s ∷ steps) d (suc k) lt h = small_at steps d k (omega arith) h.1
@@ -95,17 +96,20 @@ cited_is_found n (s ∷ steps) = first_or_later (s.number == n) (cited_is_found 
     first_or_later : (b : Bool) → cited n (map step_of steps)
         ≡ option_map (λ s. judgement_of s.judgement) (find (λ s. s.number == n) steps)
         → cond b (Some (judgement_of s.judgement)) (cited n (map step_of steps))
-        ≡ option_map (λ s. judgement_of s.judgement) (cond b (Some s) (find (λ s. s.number == n) steps))
+        ≡ option_map (λ s. judgement_of s.judgement)
+        (cond b (Some s) (find (λ s. s.number == n) steps))
     first_or_later true e = refl
     first_or_later false e = e
 
 found_is_small : (n : ℕ) (steps : List Step) (found : Step) → StepsAreSmall (map step_of steps)
     → find (λ s. s.number == n) steps ≡ Some found → JudgementIsSmall (judgement_of found.judgement)
 found_is_small n [] found h e = absurd cc
-found_is_small n (s ∷ steps) found h e = first_or_later (s.number == n) e (found_is_small n steps found h.1)
+found_is_small n (s ∷ steps) found h e = first_or_later (s.number == n) e
+    (found_is_small n steps found h.1)
   where
     first_or_later : (b : Bool) → cond b (Some s) (find (λ s. s.number == n) steps) ≡ Some found
-        → (find (λ s. s.number == n) steps ≡ Some found → JudgementIsSmall (judgement_of found.judgement))
+        → (find (λ s. s.number == n) steps ≡ Some found
+        → JudgementIsSmall (judgement_of found.judgement))
         → JudgementIsSmall (judgement_of found.judgement)
     first_or_later true e later =
         subst (λ (z : Step). JudgementIsSmall (judgement_of z.judgement)) (same_Some s found e) h.0
@@ -120,6 +124,7 @@ pub one_cited : (n : ℕ) (steps : List Step) (found : Step) → StepsAreSmall (
     → Some found ≡ find (λ s. s.number == n) steps
     → (cited n (map step_of steps) ≡ Some (judgement_of found.judgement))
     × JudgementIsSmall (judgement_of found.judgement)
-one_cited n steps found h e =
-    (cited_is_found n steps ∙ ap (option_map (λ (s : Step). judgement_of s.judgement)) (sym e),
-    found_is_small n steps found h (sym e))
+one_cited n steps found h e = (
+  cited_is_found n steps ∙ ap (option_map (λ (s : Step). judgement_of s.judgement)) (sym e),
+  found_is_small n steps found h (sym e),
+)

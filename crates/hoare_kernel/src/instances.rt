@@ -81,7 +81,14 @@ fn is_seq_triple(
             if is_nothing(block) {
                 Ok(false)
             } else {
-                is_chain(alloc, earlier, numbered, citations, triple, block.as_slice())
+                is_chain(
+                    alloc,
+                    earlier,
+                    numbered,
+                    citations,
+                    triple,
+                    block.as_slice(),
+                )
             }
         }
         _ => Ok(false),

@@ -1,5 +1,5 @@
-use Rattle.std.proofs.Common.{◌≡◌, ◌+◌, ◌∙◌, sym, subst, refl, ℕ, List, length, Option, Some, None, Bor, arith}
-use Rattle.std.specs.List.{find, slice_get}
+use Rattle.std.proofs.Common.{◌≡◌, ◌∙◌, sym, refl, ℕ, List, length, Option, Some, None, Bor, arith}
+use Rattle.std.specs.List.{slice_get}
 use Rattle.std.specs.Option.{option_copied}
 use Rattle.std.specs.Slice.{IsGetResult}
 use Rattle.std.proofs.lemmas.Option.{slice_get_past, slice_get_read}
@@ -16,7 +16,8 @@ got steps k (Some x) h = sym (slice_get_read steps (length steps) k x.now refl h
 pub returns-in_err-place : goal.returns-in_err-place
 returns-in_err-place c =
     rw c.from_residual.ensures
-    (sym (none_is_zero c.args.steps.now c.args.number (omega (arith, c.in_err-place.ensures)) c.requires))
+    (sym (none_is_zero c.args.steps.now c.args.number
+    (omega (arith, c.in_err-place.ensures)) c.requires))
 
 pub returns : goal.returns
 returns c =

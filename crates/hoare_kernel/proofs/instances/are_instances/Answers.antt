@@ -1,4 +1,4 @@
-use Rattle.std.proofs.Common.{◌<◌, length, sym, subst, arith}
+use Rattle.std.proofs.Common.{sym, subst, arith}
 use Rattle.dom_syntax.specs.Judgements.{judgement_of}
 use Rattle.dom_syntax.specs.declared.steps.Step.{Step}
 use Rattle.hoare_kernel.specs.Sizes.{JudgementIsSmall}
@@ -13,4 +13,5 @@ is_instance-requires-clause-earlier c =
 pub is_instance-requires-clause-step : goal.is_instance-requires-clause-step
 is_instance-requires-clause-step c =
     subst (λ (z : Step). JudgementIsSmall (judgement_of z.judgement)) (sym c.index-steps-place.is)
-    (small_at c.args.steps.now c.index-steps-place.result c.loop-place.place (omega (arith, c.loop-place-test.true)) c.requires)
+    (small_at c.args.steps.now c.index-steps-place.result c.loop-place.place
+    (omega (arith, c.loop-place-test.true)) c.requires)
