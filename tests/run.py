@@ -19,7 +19,7 @@ import tempfile
 
 HERE = os.path.dirname(os.path.abspath(__file__))
 TOP = os.path.dirname(HERE)
-SECONDS = 120
+SECONDS = 60
 
 
 class Unreadable(Exception):
