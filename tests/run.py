@@ -211,6 +211,9 @@ def main():
     parser.add_argument("--list", action="store_true")
     options = parser.parse_args()
     program, passed, failed = os.path.abspath(options.cmd), 0, 0
+    if not os.access(program, os.X_OK):
+        print(f"no program stands at {options.cmd}\n0 passed, 1 failed")
+        return 1
     for path in sorted(glob.glob(os.path.join(HERE, "*.rows"))):
         files, rows = read(path)
         name = os.path.relpath(path, TOP)

@@ -3,8 +3,6 @@
 //! writes nothing to standard error. Stands on domcheck_core and outside_io.
 #![tactic(auto)]
 
-ghost use Rattle.std.specs.Io.{WritesAtMost};
-
 use domcheck_core::{Status, domcheck};
 use outside_io::{Folder, Screen};
 use std::env::{Env, FillError};
@@ -12,7 +10,7 @@ use std::process::ExitCode;
 use std::{env, io};
 
 // What the system tells the program, with its arguments counted from the first word after the program's
-// name: a name that is no UTF-8 text, as one of an old disk, is never read.
+// name, so that a name that is no UTF-8 text is never read.
 #[derive(Drop)]
 struct AfterName<R> {
     host: R,
