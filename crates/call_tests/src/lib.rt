@@ -8,10 +8,14 @@
 #[cfg(test)]
 mod contexts;
 #[cfg(test)]
+mod copies;
+#[cfg(test)]
 mod formulas;
 #[cfg(test)]
 mod groves;
 #[cfg(test)]
 mod outside;
+#[cfg(test)]
+mod requests;
 #[cfg(test)]
 mod terms;
