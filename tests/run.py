@@ -32,7 +32,7 @@ class Row:
     def __init__(self, title, place):
         self.title, self.place = title, place
         self.words, self.status, self.output = None, None, []
-        self.texts, self.changes, self.sink = {}, [], None
+        self.texts, self.changes, self.sink, self.called = {}, [], None, None
 
 
 def meant(text):
@@ -84,6 +84,8 @@ def set_field(row, field, text):
         row.output.append(meant(text) + b"\n")
     elif field == "to":
         row.sink = text
+    elif field == "called":
+        row.called = meant(text)
     elif name == "text" and file:
         row.texts[file] = meant(text)
     elif name == "change" and file:
@@ -177,13 +179,14 @@ def given_files(row, files):
 def ran(program, row, folder):
     """Runs the program on the row's words in the folder."""
     how = {"cwd": folder, "stdin": subprocess.DEVNULL, "stderr": subprocess.PIPE, "timeout": SECONDS}
-    words = [program.encode(), *row.words]
+    words = [row.called or program.encode(), *row.words]
     if row.sink == "closed":
         words = [b"sh", b"-c", b'exec "$@" >&-', b"sh", *words]
-    if row.sink in (None, "closed"):
         return subprocess.run(words, stdout=subprocess.PIPE, **how)
+    if row.sink is None:
+        return subprocess.run(words, executable=program, stdout=subprocess.PIPE, **how)
     with open(row.sink, "wb") as sink:
-        return subprocess.run(words, stdout=sink, **how)
+        return subprocess.run(words, executable=program, stdout=sink, **how)
 
 
 def complaint(program, row, files):

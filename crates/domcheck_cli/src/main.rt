@@ -9,8 +9,8 @@ use std::env::{Env, FillError};
 use std::process::ExitCode;
 use std::{env, io};
 
-// What the system tells the program, with its arguments counted from the first word after the program's
-// name, so that a name that is no UTF-8 text is never read.
+// What the system tells the program, with its arguments counted from the first word after the
+// program's name, so that a name that is no UTF-8 text is never read.
 #[derive(Drop)]
 struct AfterName<R> {
     host: R,
@@ -30,8 +30,8 @@ impl<R: Env> Env for AfterName<R> {
     }
 }
 
-// The words after the program's name. Words that are no UTF-8 text have no reading, and so they are
-// handed on as no words at all.
+// The words after the program's name. Words that are no UTF-8 text have no reading, and so they
+// are handed on as no words at all.
 fn words_of(rt: &HostRuntime) -> Result<Vec<String>, Status> {
     let mut words = Vec::new(rt.alloc());
     match env::args(&(AfterName { host: rt }, rt.alloc())) {
