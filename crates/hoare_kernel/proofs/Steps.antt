@@ -21,8 +21,8 @@ at_last (s ∷ t ∷ steps) d (suc k) e = at_last (t ∷ steps) d k (omega arith
 
 -- the judgement at a place is small
 pub small_at : (steps : List Step) (d : Step) (k : ℕ) → k < length steps
-    → StepsAreSmall (map step_of steps) → JudgementIsSmall
-    (judgement_of (get_or steps k d).judgement)
+    → StepsAreSmall (map step_of steps)
+    → JudgementIsSmall (judgement_of (get_or steps k d).judgement)
 small_at [] d k lt h = absurd (omega arith)
 small_at (s ∷ steps) d zero lt h = h.0
 small_at (s ∷ steps) d (suc k) lt h = small_at steps d k (omega arith) h.1

@@ -7,7 +7,7 @@ use Rattle.hoare_kernel.proofs.instances.are_instances.Goals as goal
 
 pub is_instance-requires-clause-earlier : goal.is_instance-requires-clause-earlier
 is_instance-requires-clause-earlier c =
-    citable_before c.are_numbered-numbered.result c.args.steps.now c.loop-place.place c.requires
+    citable_before c.are_numbered-numbered.result c.args.steps.now _ c.requires
     c.are_numbered-numbered.ensures
 
 pub is_instance-requires-clause-step : goal.is_instance-requires-clause-step
