@@ -1,6 +1,4 @@
 // A copy of a value of each type, through the bound that gives it.
-ghost use Rattle.std.specs.Prelude.{◌<◌, length};
-
 use crate::formulas::{logic, program};
 use crate::groves::{document, leaf};
 use crate::terms::integer;
