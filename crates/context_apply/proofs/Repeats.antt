@@ -3,7 +3,7 @@ use Rattle.std.proofs.Common.{◌≡◌, ℕ, ◌≤◌, ◌+◌, Bool, true, fa
 use Rattle.std.specs.List.{list_any}
 use Rattle.std.proofs.lemmas.Bool.Decides.{nat_tests}
 use Rattle.std.proofs.Math.Decide.{ℕ_discrete}
-use Rattle.model_shapes.specs.Trees.{Trees, none, node, hole, node_uses, list_uses, tally, WellFormed}
+use Rattle.model_shapes.specs.Trees.{Trees, none, node, hole, node_uses, list_uses, one_if, WellFormed}
 use Rattle.model_documents.specs.Numbers.{Numbered, node_numbered, list_numbered, same_numbered, numbers_in, first_repeat_behind, first_repeat}
 use Rattle.context_apply.specs.Clashes.{NoZero, Clashes}
 
@@ -20,10 +20,10 @@ count-append : (q : Numbered) (a b : List Numbered) → count q (a ++ b) ≡ cou
 count-append q [] b = omega arith
 count-append q (n ∷ a) b = omega (arith, count-append q a b)
 
-bit-tally : (m n : ℕ) → bit (m == n) ≡ tally (ℕ_discrete m n)
+bit-tally : (m n : ℕ) → bit (m == n) ≡ one_if (ℕ_discrete m n)
 bit-tally m n = go (m == n) (ℕ_discrete m n) refl
   where
-    go : (b : Bool) (d : Dec (m ≡ n)) → (m == n) ≡ b → bit b ≡ tally d
+    go : (b : Bool) (d : Dec (m ≡ n)) → (m == n) ≡ b → bit b ≡ one_if d
     go true (yes e) f = refl
     go true (no e) f = absurd (e (grind (arith, nat_tests)))
     go false (yes e) f = absurd (grind (arith, nat_tests))

@@ -3,8 +3,9 @@ use Rattle.std.proofs.Common.{◌≡◌, ℕ, ◌<◌, ◌≤◌, max, refl, sym
 use Rattle.std.specs.List.{list_any}
 use Rattle.std.proofs.lemmas.List.Folds.{list_any-append}
 use Rattle.model_shapes.specs.Sorts.{ValueSort}
-use Rattle.model_terms.specs.Variables.{Var, prog, logic, bound, same_var, var_sort}
-use Rattle.model_terms.specs.VariableTests.{false≢true, same_var-is, same_var-refl}
+use Rattle.model_terms.specs.Variables.{Var, prog, logic, bound, var_sort}
+use Rattle.model_shapes.proofs.Truth.{false≢true}
+use Rattle.model_terms.specs.VariableTests.{same_var-is, same_var-refl, same_var}
 use Rattle.model_terms.specs.Terms.{Term, literal, variable, sum, difference, appended, raised, raised_var, under_binder, Substitution, term_with}
 use Rattle.model_formulas.specs.Formulas.{Named}
 use Rattle.model_formulas.specs.Substitution.{formula_with}

@@ -1,13 +1,14 @@
 -- A variable below binders is bound by one of them, or its replacement stands there as it is.
 use Rattle.std.proofs.Common.{◌≡◌, ℕ, List, [], ◌∷◌, ◌<◌, suc, zero, refl, sym, ap, ◌∙◌, subst, true, false, length, arith, Decides}
 use Rattle.model_shapes.specs.Sorts.{ValueSort, Sort}
-use Rattle.model_terms.specs.Variables.{Var, bound, logic, prog, same_var}
-use Rattle.model_terms.specs.Terms.{Term, literal, variable, sum, difference, appended, raised, term_with, var_eq, Substitution}
+use Rattle.model_terms.specs.Variables.{Var, bound, logic, prog}
+use Rattle.model_terms.specs.Terms.{Term, literal, variable, sum, difference, appended, raised, term_with, Substitution}
 use Rattle.model_formulas.specs.Formulas.{Named, Formula}
 use Rattle.model_formulas.specs.Substitution.{formula_with, replacing_at}
 use Rattle.model_formulas.specs.Nameless.{names, naming, nameless, walked}
 use Rattle.model_formulas.specs.SameFormulas.{same_formula}
-use Rattle.model_terms.specs.VariableTests.{false≢true, same_var-is, same_var-refl}
+use Rattle.model_shapes.proofs.Truth.{false≢true}
+use Rattle.model_terms.specs.VariableTests.{same_var-is, same_var-refl, var_eq, same_var}
 use Rattle.model_formulas.proofs.Nameless.{walked-nameless, formula-variable}
 use Rattle.model_formulas.proofs.SameFormulas.{same_formula-is, same_formula-refl}
 use Rattle.dom_terms.specs.declared.terms.Term.TheVariants as t

@@ -1,5 +1,6 @@
 ghost use Rattle.std.specs.Prelude.{◌≡◌, ◌+◌, ◌<◌, ◌^◌, MatchResult, None, Some};
-ghost use Rattle.model_formulas.specs.WellSorted.{first_fault, parts};
+ghost use Rattle.model_formulas.specs.Parts.{parts};
+ghost use Rattle.model_formulas.specs.WellSorted.{first_fault};
 ghost use Rattle.model_terms.specs.TermLimits.{or_else};
 ghost use Rattle.dom_terms.specs.Sorts.{sort_of};
 ghost use Rattle.formula_syntax.specs.Formulas.{formula_of};

@@ -1,5 +1,5 @@
 ghost use Rattle.std.specs.Prelude.{◌≡◌, ◌+◌, ◌≤◌, ◌<◌, IfOk, length};
-ghost use Rattle.model_formulas.specs.WellSorted.{parts};
+ghost use Rattle.model_formulas.specs.Parts.{parts};
 ghost use Rattle.formula_syntax.specs.Formulas.{formula_of};
 
 use crate::{

@@ -2,8 +2,9 @@
 use Rattle.std.proofs.Common.{◌≡◌, ℕ, Bool, true, false, ◌&&◌, ◌==◌, cond, List, [], ◌∷◌, ◌++◌, map, Option, Some, None, refl, sym, ap, ◌∙◌, subst, bytes_eq, codes}
 use Rattle.std.specs.Option.{option_map}
 use Rattle.std.proofs.lemmas.Slice.Eq.{bytes_eq-Decides}
-use Rattle.model_shapes.specs.Sorts.{DataSort, Sort, same_data_sort}
-use Rattle.model_terms.specs.VariableTests.{same_data_sort-is, same_data_sort-refl}
+use Rattle.model_shapes.specs.Tests.{same_data_sort}
+use Rattle.model_shapes.specs.Sorts.{DataSort, Sort}
+use Rattle.model_shapes.proofs.Tests.{same_data_sort-refl, same_data_sort-is}
 use Rattle.model_terms.specs.Terms.{Term}
 use Rattle.model_formulas.specs.Formulas.{Named, Formula}
 use Rattle.model_formulas.specs.Nameless.{nameless}

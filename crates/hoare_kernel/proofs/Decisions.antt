@@ -1,6 +1,7 @@
 -- What the small tests say.
 use Rattle.std.proofs.Common.{◌≡◌, ◌⊎◌, inl, inr, ℕ, Bool, true, false, ◌&&◌, List, [], ◌∷◌, map, refl, sym, ap, subst, ◌∙◌, IsTrue}
-use Rattle.model_formulas.specs.Formulas.{Named, formula_eq}
+use Rattle.model_formulas.specs.SameFormulas.{formula_eq}
+use Rattle.model_formulas.specs.Formulas.{Named}
 use Rattle.model_formulas.specs.Nameless.{nameless}
 use Rattle.model_terms.specs.Stores.{ProgVar, as_var}
 use Rattle.model_groves.specs.Groves.{is_yes}
@@ -14,7 +15,8 @@ use Rattle.dom_syntax.specs.SameCommands.{same_command}
 use Rattle.dom_syntax.proofs.SameCommands.{same_command-is, same_command-refl}
 use Rattle.model_terms.specs.Terms.{Term}
 use mathlib.Core.Path.{fun_ext}
-use Rattle.model_terms.specs.Terms.{variable, var_eq}
+use Rattle.model_terms.specs.VariableTests.{var_eq}
+use Rattle.model_terms.specs.Terms.{variable}
 use Rattle.formula_syntax.specs.Substitution.{replacing_each, replaced_or}
 use Rattle.model_formulas.specs.Substitution.{formula_with, replacing, replacing_at}
 use Rattle.hoare_kernel.specs.Tests.{same_test, replaced_test, is_skip, no_items}

@@ -3,7 +3,7 @@ use Rattle.std.proofs.Common.{◌≡◌, ℕ, ◌≤◌, ◌+◌, Bool, true, fa
 use Rattle.std.specs.List.{list_any, find}
 use Rattle.std.proofs.lemmas.Bool.Decides.{nat_tests}
 use Rattle.std.proofs.Math.Decide.{ℕ_discrete}
-use Rattle.model_shapes.specs.Trees.{Trees, none, node, hole, node_uses, list_uses, tally, WellFormed}
+use Rattle.model_shapes.specs.Trees.{Trees, none, node, hole, node_uses, list_uses, one_if, WellFormed}
 use Rattle.model_documents.specs.Numbers.{Numbered, node_numbered, list_numbered, same_numbered, numbers_written, is_in_range, first_out_of_range, numbers_in, first_repeat_behind, first_repeat}
 
 -- one where the answer is yes
@@ -25,10 +25,10 @@ abbrev uses : Numbered → Trees → ℕ
 uses (node_numbered n) = node_uses n
 uses (list_numbered n) = list_uses n
 
-bit-tally : (m n : ℕ) → bit (m == n) ≡ tally (ℕ_discrete m n)
+bit-tally : (m n : ℕ) → bit (m == n) ≡ one_if (ℕ_discrete m n)
 bit-tally m n = go (m == n) (ℕ_discrete m n) refl
   where
-    go : (b : Bool) (d : Dec (m ≡ n)) → (m == n) ≡ b → bit b ≡ tally d
+    go : (b : Bool) (d : Dec (m ≡ n)) → (m == n) ≡ b → bit b ≡ one_if d
     go true (yes e) f = refl
     go true (no e) f = absurd (e (grind (arith, nat_tests)))
     go false (yes e) f = absurd (grind (arith, nat_tests))
