@@ -3,13 +3,15 @@ use Rattle.std.proofs.Common.{◌≡◌, ℕ, ◌≤◌, Bool, List, IsTrue}
 use Rattle.std.proofs.Math.Decide.{ℕ_discrete, dec_le}
 use Rattle.std.proofs.Math.Bool.{Bool-discrete}
 use mathlib.Core.HLevel.{Stable, dec→stable}
-use Rattle.model_shapes.specs.Sorts.{Sort, value, shape, context, DataSort, tree, forest, grove, outer, with_outer}
+use Rattle.model_shapes.specs.Sorts.{ValueSort, node_sort, list_sort, int_sort, str_sort, bool_sort, Sort, value, shape, context, DataSort, tree, forest, grove, outer, with_outer}
 use Rattle.model_shapes.specs.Trees.{Trees, none, node, hole, width, root_uses, node_uses, list_uses, WellFormed, trees_eq}
-use Rattle.model_shapes.specs.Shapes.{OneHole, HasWidth, HasHoles, Shaped, SameAt}
+use Rattle.model_shapes.specs.Shapes.{OneHole, HasWidth, HasHoles, HoleFirst, HolePlaced, Shaped, SameAt}
+use Rattle.model_shapes.specs.Values.{Value, null, nolist, node_number, list_number, int, str, boolean, FitsValue}
 use Rattle.model_shapes.proofs.Tests.{thing_eq}
-use Rattle.model_shapes.specs.Things.{Thing, val, trees}
+use Rattle.model_shapes.specs.Things.{Thing, val, trees, Fits}
+use Rattle.model_terms.specs.Variables.{prog, logic}
 use Rattle.model_formulas.specs.Formulas.{Formula, truth, falsity, conjunction, disjunction, implication, negation, existential, universal, equality, at_most, empty, bare_hole, node_formula, one_tree, one_root, concatenation, grove_sum, grove_sum_hole, application, hole_adjoint, context_adjoint, same_as, length_is, value_meets}
-use Rattle.model_formulas.specs.Satisfaction.{Environment, Meets, choosing, IfNode, IfTrees, meaning_of}
+use Rattle.model_formulas.specs.Satisfaction.{Environment, Proper, Meets, choosing, IfNode, IfTrees, meaning_of}
 
 -- a denial
 pub stable-not : {A : Type 0} → Stable (A → ⊥)
@@ -85,6 +87,40 @@ stable-Shaped {s} {r} h = record {
   well_formed = stable-WellFormed (λ m. h (λ w. m w.well_formed));
   width_fits = stable-WidthOf (outer s) (width r) (λ m. h (λ w. m w.width_fits));
   holes_fit = stable-Holed s r (λ m. h (λ w. m w.holes_fit));
+}
+
+-- the first root is the hole, or has it below it
+stable-first : (r : Trees) → Stable (HoleFirst r)
+stable-first none = λ h. h (λ b. b)
+stable-first (node s i k l r) = stable-ℕ
+stable-first (hole r) = λ h. tt
+
+stable-placed : (k : DataSort) (r : Trees) → Stable (HolePlaced k r)
+stable-placed grove r = stable-first r
+stable-placed k r = λ h. tt
+
+stable-FitsValue : (s : ValueSort) (v : Value) → Stable (FitsValue s v)
+stable-FitsValue node_sort null = λ h. tt
+stable-FitsValue node_sort (node_number n) = stable-≤
+stable-FitsValue list_sort nolist = λ h. tt
+stable-FitsValue list_sort (list_number n) = stable-≤
+stable-FitsValue int_sort (int z) = λ h. tt
+stable-FitsValue str_sort (str s) = λ h. tt
+stable-FitsValue bool_sort (boolean b) = λ h. tt
+stable-FitsValue s v = λ h. h (λ b. b)
+
+-- a thing that fits
+pub stable-Fits : (s : Sort) (x : Thing) → Stable (Fits s x)
+stable-Fits (value s) (val v) = stable-FitsValue s v
+stable-Fits (shape k) (trees r) = stable-Shaped
+stable-Fits (context h k) (trees r) = stable-pair stable-Shaped (stable-placed k r)
+stable-Fits s x = λ h. h (λ b. b)
+
+-- a proper environment
+pub stable-Proper : (e : Environment) → Stable (Proper e)
+stable-Proper e h = record {
+  programs = λ x s. stable-Fits (value s) (e (prog x s)) (λ n. h (λ p. n (p.programs x s)));
+  logics = λ x s i. stable-Fits s (e (logic x s)) (λ n. h (λ p. n (p.logics x s i)));
 }
 
 -- the same
