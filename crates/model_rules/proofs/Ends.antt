@@ -2,16 +2,13 @@
 -- round data that meets the formula, by the number of steps.
 use Rattle.std.proofs.Common.{ℕ, ◌≤◌, [], ◌∷◌, refl, subst}
 use mathlib.Core.HLevel.{Stable}
-use Rattle.model_shapes.specs.Sorts.{Sort, value, shape, context, DataSort, grove, ValueSort, node_sort, list_sort, int_sort, str_sort, bool_sort}
-use Rattle.model_shapes.specs.Values.{Value, null, nolist, node_number, list_number, int, str, boolean, FitsValue}
+use Rattle.model_shapes.specs.Sorts.{shape, context, DataSort, grove}
 use Rattle.model_shapes.specs.Trees.{Trees, fill}
 use Rattle.model_shapes.specs.Shapes.{SameAt, Shaped}
-use Rattle.model_shapes.specs.Things.{Thing, val, trees, Fits}
 use Rattle.model_shapes.proofs.Shapes.{SameAt-sym, SameAt-trans, SameAt-eq, same-Shaped}
-use Rattle.model_terms.specs.Variables.{prog, logic}
 use Rattle.model_formulas.specs.Formulas.{Formula}
 use Rattle.model_formulas.specs.Satisfaction.{Environment, Meets, Proper, with_store}
-use Rattle.model_formulas.proofs.Stable.{stable-not, stable-Shaped, stable-≤}
+use Rattle.model_formulas.proofs.Stable.{stable-not, stable-Shaped, stable-Proper}
 use Rattle.model_terms.specs.Stores.{Store, lookup}
 use Rattle.model_commands.specs.Commands.{Command}
 use Rattle.model_commands.specs.Theories.{Procedures}
@@ -35,30 +32,6 @@ pub record At (d : DataSort) (around : Trees) (p : Formula) (e : Environment) (s
   pub proper : Proper (with_store (lookup st) e)
   pub whole : Shaped (shape grove) g
   pub stands : Stands d around p e st g
-
-stable-FitsValue : (s : ValueSort) (v : Value) → Stable (FitsValue s v)
-stable-FitsValue node_sort null = λ h. tt
-stable-FitsValue node_sort (node_number n) = stable-≤
-stable-FitsValue list_sort nolist = λ h. tt
-stable-FitsValue list_sort (list_number n) = stable-≤
-stable-FitsValue int_sort (int z) = λ h. tt
-stable-FitsValue str_sort (str s) = λ h. tt
-stable-FitsValue bool_sort (boolean b) = λ h. tt
-stable-FitsValue s v = λ h. h (λ b. b)
-
-stable-Fits : (s : Sort) (x : Thing) → Stable (Fits s x)
-stable-Fits (value s) (val v) = stable-FitsValue s v
-stable-Fits (value s) (trees r) = λ h. h (λ b. b)
-stable-Fits (shape k) (val v) = λ h. h (λ b. b)
-stable-Fits (shape k) (trees r) = stable-Shaped
-stable-Fits (context h k) (val v) = λ m. m (λ b. b)
-stable-Fits (context h k) (trees r) = stable-Shaped
-
-stable-Proper : (e : Environment) → Stable (Proper e)
-stable-Proper e h = record {
-  programs = λ x s. stable-Fits (value s) (e (prog x s)) (λ n. h (λ p. n (p.programs x s)));
-  logics = λ x s i. stable-Fits s (e (logic x s)) (λ n. h (λ p. n (p.logics x s i)));
-}
 
 stable-At : (d : DataSort) (c : Trees) (p : Formula) (e : Environment) (st : Store) (g : Trees)
     → Stable (At d c p e st g)
