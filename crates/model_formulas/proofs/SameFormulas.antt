@@ -1,12 +1,13 @@
 -- What the tests of equality of terms and formulas say: that the two are equal.
-use Rattle.std.proofs.Common.{◌≡◌, refl, ap, subst, true, ◌&&◌}
+use Rattle.std.proofs.Common.{Decides, ◌≡◌, refl, ap, subst, true, ◌&&◌}
 use Rattle.model_shapes.specs.Tests.{same_data_sort, same_sort}
 use Rattle.model_shapes.proofs.Truth.{false≢true, both_true}
 use Rattle.model_shapes.proofs.Tests.{same_data_sort-is, same_data_sort-refl, same_sort-is, same_sort-refl, same_value-is, same_value-refl}
 use Rattle.model_terms.specs.Variables.{Var}
 use Rattle.model_terms.specs.VariableTests.{same_var, same_var-is, same_var-refl}
 use Rattle.model_terms.specs.Terms.{Term, literal, variable, sum, difference, appended}
-use Rattle.model_formulas.specs.Formulas.{Formula, truth, falsity, conjunction, disjunction, implication, negation, existential, universal, equality, at_most, empty, bare_hole, node_formula, one_tree, one_root, concatenation, grove_sum, grove_sum_hole, application, hole_adjoint, context_adjoint, same_as, length_is, value_meets, Side, whole, hole_left, hole_right}
+use Rattle.model_formulas.specs.Formulas.{Named, Formula, truth, falsity, conjunction, disjunction, implication, negation, existential, universal, equality, at_most, empty, bare_hole, node_formula, one_tree, one_root, concatenation, grove_sum, grove_sum_hole, application, hole_adjoint, context_adjoint, same_as, length_is, value_meets, Side, whole, hole_left, hole_right}
+use Rattle.model_formulas.specs.Nameless.{nameless}
 use Rattle.model_formulas.specs.SameFormulas.{same_side, same_term, same_formula}
 
 -- equal sides
@@ -164,6 +165,11 @@ pub same_formula-both : (p q : Formula) → (same_formula p q ≡ true → p ≡
     × (p ≡ q → same_formula p q ≡ true)
 same_formula-both p q =
     (same_formula-is p q, (λ e. subst (λ z. same_formula p z ≡ true) e (same_formula-refl p)))
+
+-- and so whether formulas with names are the same
+pub same_formula-Decides : (p q : Named)
+    → Decides (same_formula (nameless p) (nameless q)) (nameless p ≡ nameless q)
+same_formula-Decides p q = same_formula-both (nameless p) (nameless q)
 
 -- and that of variables
 pub same_var-both : (x y : Var) → (same_var x y ≡ true → x ≡ y) × (x ≡ y → same_var x y ≡ true)
