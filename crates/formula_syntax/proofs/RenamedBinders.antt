@@ -10,7 +10,6 @@ use Rattle.model_terms.specs.Terms.{Term, literal, variable, sum, difference, ap
 use Rattle.model_formulas.specs.Formulas.{Named}
 use Rattle.model_formulas.specs.Substitution.{formula_with}
 use Rattle.model_formulas.specs.Nameless.{names, naming, walked, nameless}
-use Rattle.model_formulas.proofs.Nameless.{walked-nameless}
 use Rattle.dom_terms.specs.declared.terms.Term.TheVariants as t
 use Rattle.dom_terms.specs.declared.terms.Term as program
 use Rattle.dom_terms.specs.Terms.{term_of, var_of, logic_var_of}
@@ -381,8 +380,7 @@ prog-free (s.Renamed' y z p outer) x u = prog-free outer x u
 -- from the walked forms to the nameless ones
 pub substituted-nameless : (p q : Named) (f : Substitution)
     → formula_with f (walked [] p) ≡ walked [] q → formula_with f (nameless p) ≡ nameless q
-substituted-nameless p q f e =
-    sym (ap (formula_with f) (walked-nameless p)) ∙ e ∙ walked-nameless q
+substituted-nameless p q f e = e
 
 pub ruleset put_rules = (put-seen)
 

@@ -1,5 +1,6 @@
 ghost use Rattle.std.specs.Prelude.{◌≡◌};
 ghost use Rattle.model_shapes.specs.Sorts as model;
+ghost use Rattle.model_formulas.specs.Formulas as formulas;
 ghost use Rattle.model_formulas.specs.WellSorted as tests;
 ghost use Rattle.dom_terms.specs.Sorts.{value_sort_of, data_sort_of, sort_of};
 ghost use Rattle.dom_terms.specs.Terms.{term_of};
@@ -89,21 +90,21 @@ pub(crate) fn side_fits(side: Side, sort: Sort) -> bool
 
 // the sort of the left part of a concatenation of the sort
 pub(crate) fn left_at(side: Side, sort: Sort) -> Sort
-    ensures { sort_of result ≡ tests.left_sort (side_of side) (sort_of sort) }
+    ensures { sort_of result ≡ formulas.left_sort (side_of side) (sort_of sort) }
 {
     match side {
         Side::Whole | Side::HoleLeft => sort,
-        Side::HoleRight => Sort::Shape(DataSort::Forest),
+        Side::HoleRight => Sort::Shape(outer(sort)),
     }
 }
 
 // the sort of the right part of a concatenation of the sort
 pub(crate) fn right_at(side: Side, sort: Sort) -> Sort
-    ensures { sort_of result ≡ tests.right_sort (side_of side) (sort_of sort) }
+    ensures { sort_of result ≡ formulas.right_sort (side_of side) (sort_of sort) }
 {
     match side {
         Side::Whole | Side::HoleRight => sort,
-        Side::HoleLeft => Sort::Shape(DataSort::Forest),
+        Side::HoleLeft => Sort::Shape(outer(sort)),
     }
 }
 
