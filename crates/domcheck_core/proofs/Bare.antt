@@ -15,5 +15,5 @@ pub shaped : (ts : List Tree) (g : Trees) → forest_of ts ≡ g → first_out_o
 shaped ts g e range repeat = subst (Shaped (shape grove)) e (record {
   well_formed = unique-WellFormed (forest_of ts) (rw e range) repeat;
   width_fits = tt;
-  holed = forest-bare ts;
+  holes_fit = forest-bare ts;
 })

@@ -5,8 +5,9 @@ use Rattle.std.proofs.lemmas.Bool.{and_parts, and_from}
 use Rattle.std.proofs.lemmas.List.{map-append}
 use Rattle.std.proofs.lemmas.Option.{same_Some}
 use Rattle.std.proofs.lemmas.Slice.Eq.{bytes_eq-Decides}
-use Rattle.model_shapes.specs.Sorts.{DataSort, same_data_sort}
-use Rattle.model_terms.specs.VariableTests.{same_data_sort-is, same_data_sort-refl}
+use Rattle.model_shapes.specs.Tests.{same_data_sort}
+use Rattle.model_shapes.specs.Sorts.{DataSort}
+use Rattle.model_shapes.proofs.Tests.{same_data_sort-is, same_data_sort-refl}
 use Rattle.model_terms.specs.Terms.{Term}
 use Rattle.model_formulas.specs.Formulas.{Named, Formula}
 use Rattle.model_formulas.specs.Nameless.{nameless}

@@ -1,6 +1,7 @@
 -- What the tests of formulas, commands and terms say.
 use Rattle.std.proofs.Common.{◌≡◌, Bool, true, ◌&&◌, List, [], ◌∷◌, refl, sym, ap, subst, ◌∙◌, IsTrue}
-use Rattle.model_formulas.specs.Formulas.{Named, formula_eq}
+use Rattle.model_formulas.specs.SameFormulas.{formula_eq}
+use Rattle.model_formulas.specs.Formulas.{Named}
 use Rattle.model_formulas.specs.Nameless.{nameless}
 use Rattle.model_terms.specs.Stores.{ProgVar, as_var}
 use Rattle.model_groves.specs.Groves.{is_yes}
@@ -16,7 +17,8 @@ use Rattle.model_terms.specs.Terms.{Term}
 use Rattle.std.proofs.lemmas.Bool.Decides.{same_from_decides}
 use Rattle.std.proofs.lemmas.List.Folds.{list_all-append}
 use mathlib.Core.Path.{fun_ext}
-use Rattle.model_terms.specs.Terms.{variable, var_eq}
+use Rattle.model_terms.specs.VariableTests.{var_eq}
+use Rattle.model_terms.specs.Terms.{variable}
 use Rattle.formula_syntax.specs.Substitution.{replacing_each, replaced_or}
 use Rattle.model_formulas.specs.Substitution.{formula_with, replacing, replacing_at}
 use Rattle.hoare_kernel.specs.Tests.{same_test, replaced_test, is_skip}

@@ -1,9 +1,11 @@
 -- Acceptance as a test that computes. Nothing here is to be believed: the proofs tie it to the
 -- definition of accepted theories.
 use Rattle.std.specs.Prelude.{ℕ, ◌+◌, Bool, true, false, ◌&&◌, ◌==◌, cond, List, [], ◌∷◌, ◌++◌, Option, Some, None, bytes_eq, codes}
-use Rattle.model_shapes.specs.Sorts.{DataSort, same_data_sort}
+use Rattle.model_shapes.specs.Tests.{same_data_sort}
+use Rattle.model_shapes.specs.Sorts.{DataSort}
 use Rattle.model_terms.specs.Terms.{Term}
-use Rattle.model_formulas.specs.Formulas.{Named, formula_eq}
+use Rattle.model_formulas.specs.SameFormulas.{formula_eq}
+use Rattle.model_formulas.specs.Formulas.{Named}
 use Rattle.model_formulas.specs.Nameless.{nameless}
 use Rattle.model_formulas.specs.Substitution.{formula_with, replacing}
 use Rattle.model_terms.specs.Stores.{ProgVar, as_var, sort_of}

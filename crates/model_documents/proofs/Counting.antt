@@ -3,7 +3,7 @@ use Rattle.std.proofs.Common.{◌≡◌, ℕ, ◌≤◌, ◌+◌, Bool, true, fa
 use Rattle.std.specs.List.{list_any}
 use Rattle.std.proofs.lemmas.Bool.Decides.{nat_tests}
 use Rattle.std.proofs.Math.Decide.{ℕ_discrete}
-use Rattle.model_shapes.specs.Trees.{Trees, none, node, hole, node_uses, list_uses, tally}
+use Rattle.model_shapes.specs.Trees.{Trees, none, node, hole, node_uses, list_uses, one_if}
 use Rattle.model_documents.specs.Numbers.{Numbered, node_numbered, list_numbered, same_numbered, numbers_in, first_repeat_behind, first_repeat}
 
 -- one where the answer is yes
@@ -25,10 +25,10 @@ abbrev pub uses : Numbered → Trees → ℕ
 uses (node_numbered n) = node_uses n
 uses (list_numbered n) = list_uses n
 
-pub bit-tally : (m n : ℕ) → bit (m == n) ≡ tally (ℕ_discrete m n)
-bit-tally m n = go (m == n) (ℕ_discrete m n) refl
+pub bit-one_if : (m n : ℕ) → bit (m == n) ≡ one_if (ℕ_discrete m n)
+bit-one_if m n = go (m == n) (ℕ_discrete m n) refl
   where
-    go : (b : Bool) (d : Dec (m ≡ n)) → (m == n) ≡ b → bit b ≡ tally d
+    go : (b : Bool) (d : Dec (m ≡ n)) → (m == n) ≡ b → bit b ≡ one_if d
     go true (yes e) f = refl
     go true (no e) f = absurd (e (grind (arith, nat_tests)))
     go false (yes e) f = absurd (grind (arith, nat_tests))
@@ -39,7 +39,7 @@ pub counted : (q : Numbered) (g : Trees) → count q (numbers_in g) ≡ uses q g
 counted (node_numbered n) none = refl
 counted (node_numbered n) (node s i k l r) = omega (
   arith,
-  bit-tally n i,
+  bit-one_if n i,
   count-append (node_numbered n) (numbers_in k) (numbers_in r),
   counted (node_numbered n) k,
   counted (node_numbered n) r,
@@ -48,7 +48,7 @@ counted (node_numbered n) (hole r) = counted (node_numbered n) r
 counted (list_numbered n) none = refl
 counted (list_numbered n) (node s i k l r) = omega (
   arith,
-  bit-tally n l,
+  bit-one_if n l,
   count-append (list_numbered n) (numbers_in k) (numbers_in r),
   counted (list_numbered n) k,
   counted (list_numbered n) r,

@@ -1,13 +1,14 @@
 -- What the tests of file faults say of terms, conditions, calls and commands.
 use Rattle.std.proofs.Common.{◌≡◌, ◌⊎◌, List, [], ◌∷◌, ◌++◌, Bool, true, false, not, ◌&&◌, ◌||◌, sym, refl, subst, inl, inr, Option, Some, None}
 use Rattle.std.specs.List.{list_all, list_any, flat_map}
-use Rattle.model_shapes.specs.Sorts.{ValueSort, node_sort, list_sort, int_sort, str_sort, bool_sort, same_value_sort}
+use Rattle.model_shapes.specs.Tests.{same_value_sort}
+use Rattle.model_shapes.specs.Sorts.{ValueSort, node_sort, list_sort, int_sort, str_sort, bool_sort}
 use Rattle.model_shapes.specs.Values.{FitsValue, value_sort}
 use Rattle.model_shapes.proofs.Truth.{false≢true, both_true}
 use Rattle.model_terms.specs.Variables.{Var, prog, logic, bound}
-use Rattle.model_terms.specs.VariableTests.{same_value_sort-is}
+use Rattle.model_shapes.proofs.Tests.{same_value_sort-is}
 use Rattle.model_terms.specs.Terms.{Term, literal, variable, sum, difference, appended, InTerm}
-use Rattle.model_formulas.specs.WellSorted.{has_sort, both_have, one_sort, alike, is_literal}
+use Rattle.model_formulas.specs.WellSorted.{has_sort, both_have, one_sort, both_logic_of_one_sort, is_literal}
 use Rattle.model_formulas.proofs.SortedTerms.{literal-fits}
 use Rattle.model_terms.specs.Stores.{ProgVar, named, as_var, sort_of, same_name, Computes}
 use Rattle.model_terms.specs.Conditions.{Cond, cond_true, cond_false, cond_variable, cond_equal, cond_at_most, cond_not, cond_and, cond_or, Tests}
@@ -94,51 +95,43 @@ both-compute s a b h p q =
     (s, computes a s g.0 p, computes b s g.1 q)
 
 -- two variables of a data or context sort are no program variables
-alike-none : (a b : Term) → alike a b ≡ true → is_plain a ≡ true → ⊥
-alike-none (variable (prog x u)) (variable y) e p = false≢true e
-alike-none (variable (logic x u)) (variable y) e p = false≢true p
-alike-none (variable (bound i u)) (variable y) e p = false≢true p
-alike-none (variable x) (literal v) e p = false≢true e
-alike-none (variable x) (sum c d) e p = false≢true e
-alike-none (variable x) (difference c d) e p = false≢true e
-alike-none (variable x) (appended c d) e p = false≢true e
-alike-none (literal v) b e p = false≢true e
-alike-none (sum c d) b e p = false≢true e
-alike-none (difference c d) b e p = false≢true e
-alike-none (appended c d) b e p = false≢true e
+alike-none : (a b : Term) → both_logic_of_one_sort a b ≡ true → is_plain a ≡ true → ⊥
+alike-none (variable (logic x u)) b e p = false≢true p
+alike-none (variable (bound i u)) b e p = false≢true p
+alike-none a b e p = false≢true e
 
 one-sort-computes : (a b : Term) → one_sort a b ≡ true → is_plain a ≡ true → is_plain b ≡ true
     → (s : ValueSort) × Computes s a × Computes s b
 one-sort-computes a b e p q = node-first (either-true (both_have node_sort a b) _ e)
   where
-    bool-first : (both_have bool_sort a b ≡ true) ⊎ (alike a b ≡ true)
+    bool-first : (both_have bool_sort a b ≡ true) ⊎ (both_logic_of_one_sort a b ≡ true)
         → (s : ValueSort) × Computes s a × Computes s b
     bool-first (inl h) = both-compute bool_sort a b h p q
     bool-first (inr h) = absurd (alike-none a b h p)
 
     str-first : (both_have str_sort a b ≡ true)
-        ⊎ ((both_have bool_sort a b || alike a b) ≡ true)
+        ⊎ ((both_have bool_sort a b || both_logic_of_one_sort a b) ≡ true)
         → (s : ValueSort) × Computes s a × Computes s b
     str-first (inl h) = both-compute str_sort a b h p q
-    str-first (inr h) = bool-first (either-true (both_have bool_sort a b) (alike a b) h)
+    str-first (inr h) = bool-first (either-true (both_have bool_sort a b) (both_logic_of_one_sort a b) h)
 
     int-first : (both_have int_sort a b ≡ true)
-        ⊎ ((both_have str_sort a b || (both_have bool_sort a b || alike a b)) ≡ true)
+        ⊎ ((both_have str_sort a b || (both_have bool_sort a b || both_logic_of_one_sort a b)) ≡ true)
         → (s : ValueSort) × Computes s a × Computes s b
     int-first (inl h) = both-compute int_sort a b h p q
     int-first (inr h) =
-        str-first (either-true (both_have str_sort a b) (both_have bool_sort a b || alike a b) h)
+        str-first (either-true (both_have str_sort a b) (both_have bool_sort a b || both_logic_of_one_sort a b) h)
 
     list-first : (both_have list_sort a b ≡ true)
         ⊎ ((both_have int_sort a b
-        || (both_have str_sort a b || (both_have bool_sort a b || alike a b))) ≡ true)
+        || (both_have str_sort a b || (both_have bool_sort a b || both_logic_of_one_sort a b))) ≡ true)
         → (s : ValueSort) × Computes s a × Computes s b
     list-first (inl h) = both-compute list_sort a b h p q
     list-first (inr h) = int-first (either-true (both_have int_sort a b) _ h)
 
     node-first : (both_have node_sort a b ≡ true)
         ⊎ ((both_have list_sort a b || (both_have int_sort a b
-        || (both_have str_sort a b || (both_have bool_sort a b || alike a b)))) ≡ true)
+        || (both_have str_sort a b || (both_have bool_sort a b || both_logic_of_one_sort a b)))) ≡ true)
         → (s : ValueSort) × Computes s a × Computes s b
     node-first (inl h) = both-compute node_sort a b h p q
     node-first (inr h) = list-first (either-true (both_have list_sort a b) _ h)

@@ -1,7 +1,7 @@
 -- What is found in a grove, taken out of it and put into it.
 use Rattle.std.proofs.Common.{◌≡◌, ℕ, zero, suc, ◌≤◌, ◌+◌, ◌*◌, sym, refl, ap, arith, ◌∙◌, subst, Bool, true, false, cond, ◌||◌, List}
 use Rattle.std.proofs.Math.Decide.{ℕ_discrete}
-use Rattle.model_shapes.specs.Trees.{Trees, none, node, hole, beside, width, root_uses, node_uses, list_uses, tally}
+use Rattle.model_shapes.specs.Trees.{Trees, none, node, hole, beside, width, root_uses, node_uses, list_uses, one_if}
 use Rattle.model_shapes.specs.Shapes.{holes, SameAt}
 use Rattle.model_shapes.specs.Sorts.{grove}
 use Rattle.model_shapes.proofs.Basics.{beside_assoc, holes-beside, width-beside, node_uses-beside, list_uses-beside, root_uses-beside}
@@ -64,7 +64,7 @@ width-numbered n (node s i k l r) = go (ℕ_discrete n i) (width-numbered n k) (
     go : (d : Dec (n ≡ i)) → width (nodes_where (numbered n) k) ≤ node_uses n k
         → width (nodes_where (numbered n) r) ≤ node_uses n r
         → width (cond (is_yes d) (node s i k l (nodes_where (numbered n) r))
-        (beside (nodes_where (numbered n) k) (nodes_where (numbered n) r))) ≤ tally d +
+        (beside (nodes_where (numbered n) k) (nodes_where (numbered n) r))) ≤ one_if d +
         (node_uses n k + node_uses n r)
     go (yes e) a b = omega arith
     go (no m) a b =
@@ -79,7 +79,7 @@ width-listed n (node s i k l r) = go (ℕ_discrete n l) (width-listed n k) (widt
     go : (d : Dec (n ≡ l)) → width (nodes_where (listed n) k) ≤ list_uses n k
         → width (nodes_where (listed n) r) ≤ list_uses n r
         → width (cond (is_yes d) (node s i k l (nodes_where (listed n) r))
-        (beside (nodes_where (listed n) k) (nodes_where (listed n) r))) ≤ tally d +
+        (beside (nodes_where (listed n) k) (nodes_where (listed n) r))) ≤ one_if d +
         (list_uses n k + list_uses n r)
     go (yes e) a b = omega arith
     go (no m) a b =
@@ -103,7 +103,7 @@ width-parental n (node s i k l r) =
         → width (nodes_where (parental n) r) + bit y ≤ node_uses n r
         → width (cond x (node s i k l (nodes_where (parental n) r))
         (beside (nodes_where (parental n) k) (nodes_where (parental n) r))) + bit
-        (is_yes d || y) ≤ tally d + (node_uses n k + node_uses n r)
+        (is_yes d || y) ≤ one_if d + (node_uses n k + node_uses n r)
     go (yes e) true y a b = omega arith
     go (yes e) false y a b =
         omega (arith, width-beside (nodes_where (parental n) k) (nodes_where (parental n) r))
@@ -180,7 +180,7 @@ module _ (f : Trees → ℕ) (c : ℕ → ℕ → ℕ) (d : ℕ)
             → f (adding n t r) ≡ f r + node_uses n r * f t
             → f (node s i (cond (is_yes b) (beside (adding n t k) t) (adding n t k)) l
             (adding n t r))
-            ≡ f (node s i k l r) + (tally b + (node_uses n k + node_uses n r)) * f t
+            ≡ f (node s i k l r) + (one_if b + (node_uses n k + node_uses n r)) * f t
         go (yes e) x y =
             omega (
               arith,
@@ -222,14 +222,14 @@ module _ (f : Trees → ℕ) (c : ℕ → ℕ → ℕ) (d : ℕ)
 pub node-taken-out : (m n : ℕ) (g : Trees)
     → node_uses m (without n g) + node_uses m (nodes_where (numbered n) g) ≡ node_uses m g
 node-taken-out m =
-    taken-out (node_uses m) (λ i l. tally (ℕ_discrete m i)) 0 refl (λ s i k l r. refl)
+    taken-out (node_uses m) (λ i l. one_if (ℕ_discrete m i)) 0 refl (λ s i k l r. refl)
     (λ r. omega arith) (node_uses-beside m)
 
 -- of list numbers
 pub list-taken-out : (m n : ℕ) (g : Trees)
     → list_uses m (without n g) + list_uses m (nodes_where (numbered n) g) ≡ list_uses m g
 list-taken-out m =
-    taken-out (list_uses m) (λ i l. tally (ℕ_discrete m l)) 0 refl (λ s i k l r. refl)
+    taken-out (list_uses m) (λ i l. one_if (ℕ_discrete m l)) 0 refl (λ s i k l r. refl)
     (λ r. omega arith) (list_uses-beside m)
 
 -- of holes
@@ -242,14 +242,14 @@ holes-taken-out =
 pub node-moved-le : (m i j : ℕ) (t g : Trees) → nodes_where (numbered j) g ≡ t
     → node_uses i (without j g) ≤ 1 → node_uses m (adding i t (without j g)) ≤ node_uses m g
 node-moved-le m =
-    moved-le (node_uses m) (λ i l. tally (ℕ_discrete m i)) 0 refl (λ s i k l r. refl)
+    moved-le (node_uses m) (λ i l. one_if (ℕ_discrete m i)) 0 refl (λ s i k l r. refl)
     (λ r. omega arith) (node_uses-beside m)
 
 -- of list numbers
 pub list-moved-le : (m i j : ℕ) (t g : Trees) → nodes_where (numbered j) g ≡ t
     → node_uses i (without j g) ≤ 1 → list_uses m (adding i t (without j g)) ≤ list_uses m g
 list-moved-le m =
-    moved-le (list_uses m) (λ i l. tally (ℕ_discrete m l)) 0 refl (λ s i k l r. refl)
+    moved-le (list_uses m) (λ i l. one_if (ℕ_discrete m l)) 0 refl (λ s i k l r. refl)
     (λ r. omega arith) (list_uses-beside m)
 
 -- of holes
@@ -262,12 +262,12 @@ holes-moved-le =
 pub node-those-le : (m : ℕ) (t : ℕ → Trees → ℕ → Bool) (g : Trees)
     → node_uses m (nodes_where t g) ≤ node_uses m g
 node-those-le m =
-    those-le (node_uses m) (λ i l. tally (ℕ_discrete m i)) 0 refl (λ s i k l r. refl)
+    those-le (node_uses m) (λ i l. one_if (ℕ_discrete m i)) 0 refl (λ s i k l r. refl)
     (λ r. omega arith) (node_uses-beside m)
 
 -- of list numbers
 pub list-those-le : (m : ℕ) (t : ℕ → Trees → ℕ → Bool) (g : Trees)
     → list_uses m (nodes_where t g) ≤ list_uses m g
 list-those-le m =
-    those-le (list_uses m) (λ i l. tally (ℕ_discrete m l)) 0 refl (λ s i k l r. refl)
+    those-le (list_uses m) (λ i l. one_if (ℕ_discrete m l)) 0 refl (λ s i k l r. refl)
     (λ r. omega arith) (list_uses-beside m)

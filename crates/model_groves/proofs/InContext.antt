@@ -1,7 +1,7 @@
 -- What is found and changed in a grove that is data in a context.
 use Rattle.std.proofs.Common.{◌≡◌, ℕ, zero, suc, ◌≤◌, ◌+◌, ◌*◌, List, refl, ap, arith, ◌∙◌, Bool, true, false, cond, ◌||◌}
 use Rattle.std.proofs.Math.Decide.{ℕ_discrete}
-use Rattle.model_shapes.specs.Trees.{Trees, none, node, hole, beside, fill, node_uses, list_uses, tally, WellFormed}
+use Rattle.model_shapes.specs.Trees.{Trees, none, node, hole, beside, fill, node_uses, list_uses, one_if, WellFormed}
 use Rattle.model_shapes.specs.Shapes.{holes}
 use Rattle.model_shapes.proofs.Basics.{beside-none, beside_assoc, node_uses-fill, list_uses-fill}
 use Rattle.model_groves.specs.Groves.{is_yes}
@@ -47,10 +47,10 @@ pub copies-one : (n : ℕ) (a : Trees) → n ≡ 1 → copies n a ≡ a
 copies-one n a e = ap (λ z. copies z a) e ∙ beside-none a
 
 -- a number that a node doesn't have
-pub not-here : (n i : ℕ) → tally (ℕ_discrete n i) ≡ 0 → is_yes (ℕ_discrete n i) ≡ false
+pub not-here : (n i : ℕ) → one_if (ℕ_discrete n i) ≡ 0 → is_yes (ℕ_discrete n i) ≡ false
 not-here n i = go (ℕ_discrete n i)
   where
-    go : {A : Type 0} (d : Dec A) → tally d ≡ 0 → is_yes d ≡ false
+    go : {A : Type 0} (d : Dec A) → one_if d ≡ 0 → is_yes d ≡ false
     go (yes a) e = absurd (omega arith)
     go (no m) e = refl
 

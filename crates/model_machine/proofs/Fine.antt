@@ -1,7 +1,7 @@
 -- Runs keep stores proper and groves well formed.
 use Rattle.std.proofs.Common.{◌≡◌, ℕ, zero, suc, ◌≤◌, ◌<◌, ◌+◌, List, [], ◌∷◌, ◌++◌, pos, negsuc, Bool, true, false, cond, not, ◌&&◌, sym, refl, ap, ◌∙◌, subst, arith, Option, Some, None}
 use Rattle.std.proofs.Math.Decide.{ℕ_discrete}
-use Rattle.model_shapes.specs.Trees.{Trees, none, node, hole, beside, width, node_uses, list_uses, tally, WellFormed}
+use Rattle.model_shapes.specs.Trees.{Trees, none, node, hole, beside, width, node_uses, list_uses, one_if, WellFormed}
 use Rattle.model_shapes.specs.Shapes.{holes, Shaped}
 use Rattle.model_shapes.specs.Sorts.{shape, grove, node_sort}
 use Rattle.model_shapes.specs.Values.{Value, null, nolist, node_number, list_number, int, str, boolean, FitsValue}
@@ -35,10 +35,10 @@ less-WellFormed a b x y w = record {
 }
 
 -- a number that isn't 0
-pub not-zero : (l : ℕ) → tally (ℕ_discrete 0 l) ≡ 0 → 0 < l
+pub not-zero : (l : ℕ) → one_if (ℕ_discrete 0 l) ≡ 0 → 0 < l
 not-zero l e = go l (ℕ_discrete 0 l) e
   where
-    go : (l : ℕ) (d : Dec (0 ≡ l)) → tally d ≡ 0 → 0 < l
+    go : (l : ℕ) (d : Dec (0 ≡ l)) → one_if d ≡ 0 → 0 < l
     go zero (yes q) e = absurd (omega arith)
     go zero (no n) e = absurd (n refl)
     go (suc l) d e = omega arith
@@ -80,7 +80,7 @@ appended-shaped i j t g e w = record {
       less-WellFormed (adding i t (without j g)) g (λ m. node-moved-le m i j t g e once)
       (λ m. list-moved-le m i j t g e once) w.well_formed;
   width_fits = tt;
-  holed = omega (arith, holes-moved-le i j t g e once, w.holed);
+  holes_fit = omega (arith, holes-moved-le i j t g e once, w.holes_fit);
 }
   where
     once : node_uses i (without j g) ≤ 1
@@ -104,7 +104,7 @@ removed-shaped j t g e w = record {
         ap (list_uses m) e,
       )) w.well_formed;
   width_fits = tt;
-  holed = omega (arith, holes-beside (without j g) t, holes-taken-out j g, ap holes e, w.holed);
+  holes_fit = omega (arith, holes-beside (without j g) t, holes-taken-out j g, ap holes e, w.holes_fit);
 }
 
 -- the test says no at 0 alone
@@ -118,17 +118,17 @@ is-positive zero e = absurd (cc)
 is-positive (suc n) e = omega arith
 
 created-once : (f : ℕ → Trees → ℕ) (i : ℕ) (g : Trees) → f i g ≡ 0 → ((n : ℕ) → f n g ≤ 1)
-    → (n : ℕ) → f n g + tally (ℕ_discrete n i) ≤ 1
+    → (n : ℕ) → f n g + one_if (ℕ_discrete n i) ≤ 1
 created-once f i g z o n = go (ℕ_discrete n i)
   where
-    go : (d : Dec (n ≡ i)) → f n g + tally d ≤ 1
+    go : (d : Dec (n ≡ i)) → f n g + one_if d ≤ 1
     go (yes e) = omega (arith, ap (λ m. f m g) e)
     go (no m) = omega (arith, o n)
 
-tally-not : (i : ℕ) → 0 < i → tally (ℕ_discrete 0 i) ≡ 0
-tally-not i h = go (ℕ_discrete 0 i)
+unused_zero : (i : ℕ) → 0 < i → one_if (ℕ_discrete 0 i) ≡ 0
+unused_zero i h = go (ℕ_discrete 0 i)
   where
-    go : (d : Dec (0 ≡ i)) → tally d ≡ 0
+    go : (d : Dec (0 ≡ i)) → one_if d ≡ 0
     go (yes e) = absurd (omega arith)
     go (no m) = refl
 
@@ -166,18 +166,18 @@ created-shaped p s g e w =
               arith,
               node_uses-beside 0 g (node s p.node none p.list none),
               w.well_formed.no_node_zero,
-              tally-not p.node pn,
+              unused_zero p.node pn,
             );
         no_list_zero =
             omega (
               arith,
               list_uses-beside 0 g (node s p.node none p.list none),
               w.well_formed.no_list_zero,
-              tally-not p.list pl,
+              unused_zero p.list pl,
             );
       };
       width_fits = tt;
-      holed = omega (arith, holes-beside g (node s p.node none p.list none), w.holed);
+      holes_fit = omega (arith, holes-beside g (node s p.node none p.list none), w.holes_fit);
     }
 
 nodes-below : (m : ℕ) (s : List ℕ) (i : ℕ) (k : Trees) (l : ℕ) (r : Trees)
@@ -410,7 +410,7 @@ module _ (th : Procedures) where
         (not-zero l (zero-of n i k l r q))) fine
       where
         zero-of : (n : List ℕ) (i : ℕ) (k : Trees) (l : ℕ) (r : Trees)
-            → node_at (value_of st e) g ≡ node n i k l r → tally (ℕ_discrete 0 l) ≡ 0
+            → node_at (value_of st e) g ≡ node n i k l r → one_if (ℕ_discrete 0 l) ≡ 0
         zero-of n i k l r q = let z : list_uses 0 (node n i k l r) ≡ 0 =
             subst (λ a. list_uses 0 a ≡ 0) q
             (node-no-zero (value_of st e) g fine.whole.well_formed).lists in omega arith

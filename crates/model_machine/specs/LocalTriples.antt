@@ -5,7 +5,7 @@ use Rattle.model_shapes.specs.Sorts.{shape, context, DataSort, grove}
 use Rattle.model_shapes.specs.Trees.{Trees, fill}
 use Rattle.model_shapes.specs.Shapes.{SameAt, Shaped}
 use Rattle.model_formulas.specs.Formulas.{Formula}
-use Rattle.model_formulas.specs.Satisfaction.{Environment, Meets, Entails, Proper, SomeShape, joint}
+use Rattle.model_formulas.specs.Satisfaction.{Environment, Meets, Entails, Proper, SomeShape, with_store}
 use Rattle.model_terms.specs.Stores.{Store, lookup}
 use Rattle.model_commands.specs.Commands.{Command}
 use Rattle.model_commands.specs.Theories.{Procedure, Procedures, Judgement, entails, triple}
@@ -23,16 +23,16 @@ Ends OnFault OnEnd (ended store g) = OnEnd store g
 abbrev pub EndsWith : DataSort → Trees → Formula → Environment → Store → Trees → Type 0
 EndsWith d around post e store g =
     (b : Trees) × Shaped (shape d) b × Shaped (shape grove) (fill around b)
-    × SameAt grove g (fill around b) × Meets post (joint (lookup store) e) (shape d) b
+    × SameAt grove g (fill around b) × Meets post (with_store (lookup store) e) (shape d) b
 
 -- `pre P do C post Q at D`: for every choice of the logic variables and every store; for every
 -- shape of the sort that meets P; in every context into which it may be put; and over every list of
 -- picks: the run doesn't fault, and where it ends, the same context stands round data that meets Q.
 abbrev pub HoldsLocally : Procedures → Formula → Command → Formula → DataSort → Type 0
 HoldsLocally procedures pre command post d =
-    (e : Environment) (store : Store) → Proper (joint (lookup store) e)
+    (e : Environment) (store : Store) → Proper (with_store (lookup store) e)
     → (data_before : Trees) → Shaped (shape d) data_before
-    → Meets pre (joint (lookup store) e) (shape d) data_before
+    → Meets pre (with_store (lookup store) e) (shape d) data_before
     → (around : Trees) → Shaped (context d grove) around
     → Shaped (shape grove) (fill around data_before)
     → (picks : List Pick)
@@ -53,14 +53,14 @@ JudgementHolds procedures (triple p command q d) = HoldsLocally procedures p com
 abbrev pub Stands : DataSort → Trees → Formula → Environment → Store → Trees → Type 0
 Stands d around post e store g =
     SomeShape (shape d) λ b. SameAt grove g (fill around b)
-    × Meets post (joint (lookup store) e) (shape d) b
+    × Meets post (with_store (lookup store) e) (shape d) b
 
 -- the triple, for the runs whose number of picks passes the test
 abbrev pub TripleFor : Procedures → (ℕ → Type 0) → Formula → Command → Formula → DataSort
     → Type 0
 TripleFor procedures Length pre command post d =
-    (e : Environment) (store : Store) → Proper (joint (lookup store) e)
-    → (r : Trees) → Shaped (shape d) r → Meets pre (joint (lookup store) e) (shape d) r
+    (e : Environment) (store : Store) → Proper (with_store (lookup store) e)
+    → (r : Trees) → Shaped (shape d) r → Meets pre (with_store (lookup store) e) (shape d) r
     → (around : Trees) → Shaped (context d grove) around → Shaped (shape grove) (fill around r)
     → (picks : List Pick) → Length (length picks)
     → Ends ⊥ (Stands d around post e)

@@ -2,16 +2,13 @@
 -- round data that meets the formula, by the number of steps.
 use Rattle.std.proofs.Common.{ℕ, ◌≤◌, [], ◌∷◌, refl, subst}
 use mathlib.Core.HLevel.{Stable}
-use Rattle.model_shapes.specs.Sorts.{Sort, value, shape, context, DataSort, grove, ValueSort, node_sort, list_sort, int_sort, str_sort, bool_sort}
-use Rattle.model_shapes.specs.Values.{Value, null, nolist, node_number, list_number, int, str, boolean, FitsValue}
+use Rattle.model_shapes.specs.Sorts.{shape, context, DataSort, grove}
 use Rattle.model_shapes.specs.Trees.{Trees, fill}
 use Rattle.model_shapes.specs.Shapes.{SameAt, Shaped}
-use Rattle.model_shapes.specs.Things.{Thing, val, trees, Fits}
 use Rattle.model_shapes.proofs.Shapes.{SameAt-sym, SameAt-trans, SameAt-eq, same-Shaped}
-use Rattle.model_terms.specs.Variables.{prog, logic}
 use Rattle.model_formulas.specs.Formulas.{Formula}
-use Rattle.model_formulas.specs.Satisfaction.{Environment, Meets, Proper, joint}
-use Rattle.model_formulas.proofs.Stable.{stable-not, stable-Shaped, stable-≤}
+use Rattle.model_formulas.specs.Satisfaction.{Environment, Meets, Proper, with_store}
+use Rattle.model_formulas.proofs.Stable.{stable-not, stable-Shaped, stable-Proper}
 use Rattle.model_terms.specs.Stores.{Store, lookup}
 use Rattle.model_commands.specs.Commands.{Command}
 use Rattle.model_commands.specs.Theories.{Procedures}
@@ -32,38 +29,14 @@ UpTo n m = m ≤ n
 
 -- at a store and a grove: some data that meets the formula stands in the context
 pub record At (d : DataSort) (around : Trees) (p : Formula) (e : Environment) (st : Store) (g : Trees) : Type 0 where
-  pub proper : Proper (joint (lookup st) e)
+  pub proper : Proper (with_store (lookup st) e)
   pub whole : Shaped (shape grove) g
   pub stands : Stands d around p e st g
-
-stable-FitsValue : (s : ValueSort) (v : Value) → Stable (FitsValue s v)
-stable-FitsValue node_sort null = λ h. tt
-stable-FitsValue node_sort (node_number n) = stable-≤
-stable-FitsValue list_sort nolist = λ h. tt
-stable-FitsValue list_sort (list_number n) = stable-≤
-stable-FitsValue int_sort (int z) = λ h. tt
-stable-FitsValue str_sort (str s) = λ h. tt
-stable-FitsValue bool_sort (boolean b) = λ h. tt
-stable-FitsValue s v = λ h. h (λ b. b)
-
-stable-Fits : (s : Sort) (x : Thing) → Stable (Fits s x)
-stable-Fits (value s) (val v) = stable-FitsValue s v
-stable-Fits (value s) (trees r) = λ h. h (λ b. b)
-stable-Fits (shape k) (val v) = λ h. h (λ b. b)
-stable-Fits (shape k) (trees r) = stable-Shaped
-stable-Fits (context h k) (val v) = λ m. m (λ b. b)
-stable-Fits (context h k) (trees r) = stable-Shaped
-
-stable-Proper : (e : Environment) → Stable (Proper e)
-stable-Proper e h = record {
-  programs = λ x s. stable-Fits (value s) (e (prog x s)) (λ n. h (λ p. n (p.programs x s)));
-  logics = λ x s i. stable-Fits s (e (logic x s)) (λ n. h (λ p. n (p.logics x s i)));
-}
 
 stable-At : (d : DataSort) (c : Trees) (p : Formula) (e : Environment) (st : Store) (g : Trees)
     → Stable (At d c p e st g)
 stable-At d c p e st g h = record {
-  proper = stable-Proper (joint (lookup st) e) (λ n. h (λ a. n a.proper));
+  proper = stable-Proper (with_store (lookup st) e) (λ n. h (λ a. n a.proper));
   whole = stable-Shaped (λ n. h (λ a. n a.whole));
   stands = stable-not (λ n. h (λ a. n a.stands));
 }
@@ -86,9 +59,9 @@ At-same d c p e st g g' same a = record {
 
 -- another formula, where it is met too, and another store
 pub At-map : (d : DataSort) (c : Trees) (p q : Formula) (e : Environment) (st st' : Store)
-    (g : Trees) → Proper (joint (lookup st') e)
-    → ((b : Trees) → Shaped (shape d) b → Meets p (joint (lookup st) e) (shape d) b
-    → Meets q (joint (lookup st') e) (shape d) b) → At d c p e st g → At d c q e st' g
+    (g : Trees) → Proper (with_store (lookup st') e)
+    → ((b : Trees) → Shaped (shape d) b → Meets p (with_store (lookup st) e) (shape d) b
+    → Meets q (with_store (lookup st') e) (shape d) b) → At d c p e st g → At d c q e st' g
 At-map d c p q e st st' g pr f a = record {
   proper = pr;
   whole = a.whole;
@@ -127,7 +100,7 @@ module _ (ps : Procedures) (bodies : BodiesSorted ps) where
       (λ k. a.stands (λ x. k (from x.0 x.1 x.2.0 x.2.1)))
     where
       from : (b : Trees) → Shaped (shape d) b → SameAt grove g (fill around b)
-          → Meets p (joint (lookup st) e) (shape d) b
+          → Meets p (with_store (lookup st) e) (shape d) b
           → Ends ⊥ (At d around q e) (runs ps picks (run c ∷ []) st g)
       from b wb same m =
           let whole : Shaped (shape grove) (fill around b) = same-Shaped (shape grove) g (fill around b) same a.whole in
