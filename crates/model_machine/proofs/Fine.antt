@@ -15,10 +15,10 @@ use Rattle.model_commands.specs.Commands.{skip, block, assign, create_node, node
 use Rattle.model_commands.specs.Theories.{Procedure, Procedures, procedure_named}
 use Rattle.model_commands.specs.Sorting.{Feed, Receive, CallFits, BlockSorted}
 use Rattle.model_groves.specs.Groves.{nodes_where, has_root, numbered, listed, parental, node_at, list_at, first_number, number_at, item_of, without, adding, positive}
-use Rattle.model_machine.specs.Machine.{FaultKind, no_node, no_list, Piece, run, restore, return, Move, becomes, faults, bad_pick, pieces_of, reading, appending, removing, creating, entering, returning, calling, move, RunOutcome, running, ended, fault, picked_badly, going_on, runs}
+use Rattle.model_machine.specs.Machine.{FaultKind, no_node, no_list, Piece, run, restore, return, Move, becomes, faults, bad_pick, pieces_of, reading, appending, removing, creating, entering, returning, calling, move, Config, configuration, StepOut, next, done, at_fault, at_bad_pick, stepped, step, is_done, running, ended, after_step, runs}
 use Rattle.model_groves.specs.Picks.{Pick, is_free}
-use Rattle.model_machine.specs.LocalTriples.{Ends}
-use Rattle.model_machine.specs.Fitting.{FitsPiece, FitPieces, Fine}
+use Rattle.model_machine.specs.ClassicalTriples.{Ends}
+use Rattle.model_machine.specs.Fitting.{FitsPiece, FitPieces, Fine, FitsConfig}
 use Rattle.model_commands.specs.Sorting.{BodiesSorted}
 use Rattle.model_terms.proofs.StoreLaws.{unset-proper, set-proper, default-fits, value-fits}
 use Rattle.model_commands.proofs.StoreLaws.{not-true}
@@ -439,18 +439,50 @@ module _ (th : Procedures) where
         removing-fine (value_of st e) (value_of st f) (node_at (value_of st e) g)
         (node_at (value_of st f) g) st g refl refl fine
 
-    -- RUNS KEEP STORES PROPER AND GROVES WELL FORMED
-    pub runs-fine : (ps : List Pick) (k : List Piece) (st : Store) (g : Trees) → FitPieces th k
-        → Fine st g → Ends Unit Fine (runs th ps k st g)
-    runs-fine [] [] st g a fine = fine
-    runs-fine [] (x ∷ k) st g a fine = tt
-    runs-fine (p ∷ ps) [] st g a fine = fine
-    runs-fine (p ∷ ps) (x ∷ k) st g a fine =
-        go (move th p x st g) (move-fine p x st g a.0 fine) (λ k' st' g'. runs-fine ps k' st' g')
+    -- what a step makes fits
+    abbrev FineStep : StepOut → Type 0
+    FineStep (next c) = FitsConfig th c
+    FineStep otherwise = Unit
+
+    stepped-fine : (rest : List Piece) (m : Move) → FineMove m → FitPieces th rest
+        → FineStep (stepped rest m)
+    stepped-fine rest (becomes ys st g) f r =
+        record { pieces = all-fine ys rest f.0 r; fine = f.1 }
+    stepped-fine rest (faults k) f r = tt
+    stepped-fine rest bad_pick f r = tt
+
+    step-fine : (p : Pick) (c : Config) → FitsConfig th c → FineStep (step th c p)
+    step-fine p c f = by_pending c.pending f.pieces
       where
-        go : (m : Move) → FineMove m
-            → ((k' : List Piece) (st' : Store) (g' : Trees) → FitPieces th k' → Fine st' g'
-            → Ends Unit Fine (runs th ps k' st' g')) → Ends Unit Fine (going_on (runs th ps) k m)
-        go (becomes ys st' g') h rec = rec (ys ++ k) st' g' (all-fine ys k h.0 a.1) h.1
-        go (faults f) h rec = tt
-        go bad_pick h rec = tt
+        by_pending : (k : List Piece) → FitPieces th k
+            → FineStep (step th (configuration k c.store c.grove) p)
+        by_pending [] a = tt
+        by_pending (x ∷ k) a =
+            stepped-fine k (move th p x c.store c.grove) (move-fine p x c.store c.grove a.0 f.fine) a.1
+
+    -- one step keeps what fits
+    pub step-fits : (p : Pick) (c d : Config) → FitsConfig th c → step th c p ≡ next d
+        → FitsConfig th d
+    step-fits p c d f e = subst FineStep e (step-fine p c f)
+
+    -- RUNS KEEP STORES PROPER AND GROVES WELL FORMED
+    pub runs-fine : (ps : List Pick) (c : Config) → FitsConfig th c → Ends Unit Fine (runs th ps c)
+    runs-fine [] c f = at_rest (is_done c)
+      where
+        at_rest : (b : Bool) → Ends Unit Fine (cond b (ended c.store c.grove) running)
+        at_rest true = f.fine
+        at_rest false = tt
+    runs-fine (p ∷ ps) c f = after (step th c p) (step-fine p c f) (λ d. runs-fine ps d)
+      where
+        after : (o : StepOut) → FineStep o
+            → ((d : Config) → FitsConfig th d → Ends Unit Fine (runs th ps d))
+            → Ends Unit Fine (after_step (runs th ps) c o)
+        after (next d) h rec = rec d h
+        after done h rec = f.fine
+        after (at_fault k) h rec = tt
+        after at_bad_pick h rec = tt
+
+    -- so where they end, both are
+    pub ends-fine : (ps : List Pick) (c : Config) (st : Store) (g : Trees) → FitsConfig th c
+        → runs th ps c ≡ ended st g → Fine st g
+    ends-fine ps c st g f e = subst (Ends Unit Fine) e (runs-fine ps c f)

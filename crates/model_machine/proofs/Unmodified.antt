@@ -1,5 +1,5 @@
 -- Runs keep the values of the variables that a command doesn't change.
-use Rattle.std.proofs.Common.{◌≡◌, ◌≢◌, ◌⊎◌, ℕ, zero, suc, ◌≤◌, ◌+◌, List, [], ◌∷◌, ◌++◌, Bool, true, false, cond, sym, refl, ap, ◌∙◌, subst, arith, Option, Some, None, append-nil, inl, inr}
+use Rattle.std.proofs.Common.{◌≡◌, ◌≢◌, ◌⊎◌, ℕ, zero, suc, ◌≤◌, ◌+◌, List, [], ◌∷◌, ◌++◌, length, Bool, true, false, cond, sym, refl, ap, ◌∙◌, subst, arith, Option, Some, None, append-nil, inl, inr}
 use Rattle.model_shapes.specs.Trees.{Trees, none, node, hole, beside, node_uses}
 use Rattle.model_shapes.specs.Values.{Value, node_number, list_number, str}
 use Rattle.model_terms.specs.Terms.{Term}
@@ -8,9 +8,9 @@ use Rattle.model_terms.specs.Conditions.{truth_of}
 use Rattle.model_commands.specs.Commands.{Command, skip, block, assign, create_node, node_name, child_nodes, parent_node, list_item, append_child, remove_child, if_else, while_do, local, call, Block, stop, ◌then◌, Modifies, BlockModifies, Among}
 use Rattle.model_commands.specs.Theories.{Procedure, Procedures, procedure_named}
 use Rattle.model_groves.specs.Groves.{nodes_where, has_root, parental, node_at, list_at, first_number, item_of, without, adding, positive}
-use Rattle.model_machine.specs.Machine.{FaultKind, no_node, no_list, cycle, not_child, Piece, run, restore, return, becomes, faults, bad_pick, pieces_of, reading, appending, removing, creating, entering, returning, calling, move, RunOutcome, running, ended, fault, picked_badly, runs}
+use Rattle.model_machine.specs.Machine.{FaultKind, no_node, no_list, cycle, not_child, Piece, run, restore, return, becomes, faults, bad_pick, pieces_of, reading, appending, removing, creating, entering, returning, calling, move, configuration, beginning, RunOutcome, running, ended, fault, picked_badly, runs}
 use Rattle.model_groves.specs.Picks.{Pick, is_free}
-use Rattle.model_machine.specs.LocalTriples.{Ends}
+use Rattle.model_machine.specs.ClassicalTriples.{Ends}
 use Rattle.model_terms.proofs.StoreLaws.{set-same, set-other, same_name-is, same_name-refl}
 use Rattle.model_machine.proofs.Runs.{Well, WellOn, at_end, at_step, at_zero, followed}
 
@@ -33,13 +33,13 @@ returning-other (r ∷ rs) (x ∷ xs) callee st y n =
 
 module _ (th : Procedures) where
   any-well : (n : ℕ) (k : List Piece) (st : Store) (g : Trees) → Well th Unit n Any k st g
-  any-well n k st g ps l = go (runs th ps k st g)
+  any-well n k st g ps l = of_any (runs th ps (configuration k st g))
     where
-      go : (o : RunOutcome) → Ends Unit Any o
-      go running = tt
-      go picked_badly = tt
-      go (fault f) = tt
-      go (ended st g) = tt
+      of_any : (o : RunOutcome) → Ends Unit Any o
+      of_any running = tt
+      of_any picked_badly = tt
+      of_any (fault f) = tt
+      of_any (ended st g) = tt
 
   module _ (x : ProgVar) (v : Value) where
     abbrev Keeps : ℕ → Type 0
@@ -203,7 +203,7 @@ module _ (th : Procedures) where
   -- UNMODIFIED VARIABLES KEEP THEIR VALUES
   pub unmodified : (x : ProgVar) (c : Command) → (Modifies c x → ⊥)
       → (ps : List Pick) (st st' : Store) (g g' : Trees)
-      → runs th ps (run c ∷ []) st g ≡ ended st' g' → value_in st' x ≡ value_in st x
+      → runs th ps (beginning c st g) ≡ ended st' g' → value_in st' x ≡ value_in st x
   unmodified x c m ps st st' g g' e =
       subst (Ends Unit (Has x (value_in st x))) e
-      (keeps x (value_in st x) (Rattle.std.proofs.Common.length ps) c m st g refl ps (omega arith))
+      (keeps x (value_in st x) (length ps) c m st g refl ps (omega arith))

@@ -23,7 +23,7 @@ use Rattle.model_commands.specs.Sorting.{Sorted, BlockSorted}
 use Rattle.model_commands.specs.Sorting.{BodiesSorted}
 use Rattle.model_files.specs.FileFaults.{evaluates}
 use Rattle.model_machine.specs.Machine.{run, pieces_of}
-use Rattle.model_machine.specs.LocalTriples.{TripleFor}
+use Rattle.model_machine.specs.ClassicalTriples.{TripleFor}
 use Rattle.model_terms.proofs.StoreLaws.{value_in-set, same_name-not, set-proper, value-fits}
 use Rattle.model_commands.proofs.StoreLaws.{meaning-value, proper-store, other-store}
 use Rattle.model_machine.proofs.Runs.{Well, Well-less, at_end, at_step, at_zero, followed}

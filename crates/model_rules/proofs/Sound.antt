@@ -1,13 +1,13 @@
 -- Instances of the rows hold, and so accepted theories do.
 use Rattle.std.proofs.Common.{◌≡◌, ℕ, List, [], ◌∷◌, ◌++◌, length, Bool, true, false, cond, ◌==◌, Some, subst, arith, bytes_eq}
 use Rattle.model_terms.specs.Terms.{Term}
-use Rattle.model_commands.specs.Theories.{Judgement, Reason, auto, by_rule, Step, Procedure, Procedures, Theory, procedures_of, procedure_named}
+use Rattle.model_commands.specs.Theories.{Judgement, own_triple, Reason, auto, by_rule, Step, Procedure, Procedures, Theory, procedures_of, procedure_named}
 use Rattle.model_commands.specs.Sorting.{Sorted}
 use Rattle.model_commands.specs.Sorting.{BodiesSorted}
 use Rattle.model_machine.specs.LocalTriples.{MeetsItsSpecification}
 use Rattle.model_machine.proofs.Plain.{classical-plain}
 use Rattle.model_rules.specs.Rows.{Row}
-use Rattle.model_rules.specs.Accepted.{judgement_numbered, Cites, InstanceBy, AllInstances, last_judgement, own_triple, IsProved, Each, IsAccepted}
+use Rattle.model_rules.specs.Accepted.{judgement_numbered, Cites, InstanceBy, AllInstances, last_judgement, IsProved, Each, IsAccepted}
 use Rattle.model_rules.proofs.Rules.{JudgementSorted, HoldsUpTo, AllSorted, AllHold, row-sorted, row-sound}
 
 some-is : (i j : Judgement) → Some i ≡ Some j → i ≡ j
