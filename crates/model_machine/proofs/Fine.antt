@@ -15,7 +15,7 @@ use Rattle.model_commands.specs.Commands.{skip, block, assign, create_node, node
 use Rattle.model_commands.specs.Theories.{Procedure, Procedures, procedure_named}
 use Rattle.model_commands.specs.Sorting.{Feed, Receive, CallFits, BlockSorted}
 use Rattle.model_groves.specs.Groves.{nodes_where, has_root, numbered, listed, parental, node_at, list_at, first_number, number_at, item_of, without, adding, positive}
-use Rattle.model_machine.specs.Machine.{FaultKind, no_node, no_list, Piece, run, restore, return, Move, becomes, faults, bad_pick, pieces_of, reading, appending, removing, creating, entering, returning, calling, move, Config, configuration, StepOut, next, done, at_fault, at_bad_pick, stepped, step, is_done, running, ended, after_step, runs}
+use Rattle.model_machine.specs.Machine.{FaultKind, no_node, no_list, cycle, not_child, Piece, run, restore, return, Move, becomes, faults, bad_pick, pieces_of, reading, appending, removing, creating, entering, returning, calling, move, Config, configuration, StepOut, next, done, at_fault, at_bad_pick, stepped, step, is_done, running, ended, after_step, runs}
 use Rattle.model_groves.specs.Picks.{Pick, is_free}
 use Rattle.model_machine.specs.ClassicalTriples.{Ends}
 use Rattle.model_machine.specs.Fitting.{FitsPiece, FitPieces, Fine, FitsConfig}
@@ -36,12 +36,12 @@ less-WellFormed a b x y w = record {
 
 -- a number that isn't 0
 pub not-zero : (l : ℕ) → tally (ℕ_discrete 0 l) ≡ 0 → 0 < l
-not-zero l e = go l (ℕ_discrete 0 l) e
+not-zero l e = by_test l (ℕ_discrete 0 l) e
   where
-    go : (l : ℕ) (d : Dec (0 ≡ l)) → tally d ≡ 0 → 0 < l
-    go zero (yes q) e = absurd (omega arith)
-    go zero (no n) e = absurd (n refl)
-    go (suc l) d e = omega arith
+    by_test : (l : ℕ) (d : Dec (0 ≡ l)) → tally d ≡ 0 → 0 < l
+    by_test zero (yes q) e = absurd (omega arith)
+    by_test zero (no n) e = absurd (n refl)
+    by_test (suc l) d e = omega arith
 
 -- a node that is found
 pub record FoundNode (v : Value) (g : Trees) (s : List ℕ) (i : ℕ) (k : Trees) (l : ℕ)
@@ -119,18 +119,18 @@ is-positive (suc n) e = omega arith
 
 created-once : (f : ℕ → Trees → ℕ) (i : ℕ) (g : Trees) → f i g ≡ 0 → ((n : ℕ) → f n g ≤ 1)
     → (n : ℕ) → f n g + tally (ℕ_discrete n i) ≤ 1
-created-once f i g z o n = go (ℕ_discrete n i)
+created-once f i g z o n = by_test (ℕ_discrete n i)
   where
-    go : (d : Dec (n ≡ i)) → f n g + tally d ≤ 1
-    go (yes e) = omega (arith, ap (λ m. f m g) e)
-    go (no m) = omega (arith, o n)
+    by_test : (d : Dec (n ≡ i)) → f n g + tally d ≤ 1
+    by_test (yes e) = omega (arith, ap (λ m. f m g) e)
+    by_test (no m) = omega (arith, o n)
 
 tally-not : (i : ℕ) → 0 < i → tally (ℕ_discrete 0 i) ≡ 0
-tally-not i h = go (ℕ_discrete 0 i)
+tally-not i h = by_test (ℕ_discrete 0 i)
   where
-    go : (d : Dec (0 ≡ i)) → tally d ≡ 0
-    go (yes e) = absurd (omega arith)
-    go (no m) = refl
+    by_test : (d : Dec (0 ≡ i)) → tally d ≡ 0
+    by_test (yes e) = absurd (omega arith)
+    by_test (no m) = refl
 
 -- after createNode the grove is well formed
 pub created-shaped : (p : Pick) (s : List ℕ) (g : Trees) → is_free p g ≡ true
@@ -275,14 +275,14 @@ module _ (th : Procedures) where
   appending-fine : (v v' : Value) (a b : Trees) (st : Store) (g : Trees) → node_at v g ≡ a
       → node_at v' g ≡ b → Fine st g → FineMove (appending a b st g)
   appending-fine v v' (node s i k l r) (node s' j k' l' r') st g e e' fine =
-      go (positive (node_uses i (node s' j k' l' none)))
+      by_test (positive (node_uses i (node s' j k' l' none)))
     where
-      go : (c : Bool)
+      by_test : (c : Bool)
           → FineMove
-          (cond c (faults Rattle.model_machine.specs.Machine.cycle)
+          (cond c (faults cycle)
           (becomes [] st (adding i (node s' j k' l' none) (without j g))))
-      go true = tt
-      go false = (
+      by_test true = tt
+      by_test false = (
         tt,
         record {
           proper = fine.proper;
@@ -297,13 +297,13 @@ module _ (th : Procedures) where
 
   removing-fine : (v v' : Value) (a b : Trees) (st : Store) (g : Trees) → node_at v g ≡ a
       → node_at v' g ≡ b → Fine st g → FineMove (removing a b st g)
-  removing-fine v v' (node s i k l r) (node s' j k' l' r') st g e e' fine = go (has_root j k)
+  removing-fine v v' (node s i k l r) (node s' j k' l' r') st g e e' fine = by_test (has_root j k)
     where
-      go : (c : Bool)
+      by_test : (c : Bool)
           → FineMove (cond c (becomes [] st (beside (without j g) (node s' j k' l' none)))
-          (faults Rattle.model_machine.specs.Machine.not_child))
-      go false = tt
-      go true = (
+          (faults not_child))
+      by_test false = tt
+      by_test true = (
         tt,
         record {
           proper = fine.proper;
@@ -318,14 +318,14 @@ module _ (th : Procedures) where
 
   creating-fine : (p : Pick) (x : ProgVar) (s : List ℕ) (st : Store) (g : Trees)
       → sort_of x ≡ node_sort → Fine st g → FineMove (creating p x s st g)
-  creating-fine p x s st g so fine = go (is_free p g) refl
+  creating-fine p x s st g so fine = by_test (is_free p g) refl
     where
-      go : (c : Bool) → is_free p g ≡ c
+      by_test : (c : Bool) → is_free p g ≡ c
           → FineMove
           (cond c (becomes [] (set x (node_number p.node) st)
           (beside g (node s p.node none p.list none))) bad_pick)
-      go false e = tt
-      go true e = (
+      by_test false e = tt
+      by_test true e = (
         tt,
         record {
           proper =
@@ -378,16 +378,16 @@ module _ (th : Procedures) where
     move-fine p (run (block b)) st g s fine = (pieces-fine b s, fine)
     move-fine p (run (assign x e)) st g s fine =
         (tt, set-fine x (value_of st e) st g (value-fits (sort_of x) e st s fine.proper) fine)
-    move-fine p (run (if_else c a b)) st g s fine = ((go (truth_of st c), tt), fine)
+    move-fine p (run (if_else c a b)) st g s fine = ((by_test (truth_of st c), tt), fine)
       where
-        go : (t : Bool) → BlockSorted th (cond t a b)
-        go true = s.1
-        go false = s.2
-    move-fine p (run (while_do c b)) st g s fine = (go (truth_of st c), fine)
+        by_test : (t : Bool) → BlockSorted th (cond t a b)
+        by_test true = s.1
+        by_test false = s.2
+    move-fine p (run (while_do c b)) st g s fine = (by_test (truth_of st c), fine)
       where
-        go : (t : Bool) → FitPieces th (cond t (run (block b) ∷ run (while_do c b) ∷ []) [])
-        go true = (s.1, (s, tt))
-        go false = tt
+        by_test : (t : Bool) → FitPieces th (cond t (run (block b) ∷ run (while_do c b) ∷ []) [])
+        by_test true = (s.1, (s, tt))
+        by_test false = tt
     move-fine p (run (local x b)) st g s fine = (
       (s, (fine.proper.fits x, tt)),
       set-fine x (default (sort_of x)) st g (default-fits (sort_of x)) fine,
@@ -458,7 +458,8 @@ module _ (th : Procedures) where
             → FineStep (step th (configuration k c.store c.grove) p)
         by_pending [] a = tt
         by_pending (x ∷ k) a =
-            stepped-fine k (move th p x c.store c.grove) (move-fine p x c.store c.grove a.0 f.fine) a.1
+            stepped-fine k (move th p x c.store c.grove)
+            (move-fine p x c.store c.grove a.0 f.fine) a.1
 
     -- one step keeps what fits
     pub step-fits : (p : Pick) (c d : Config) → FitsConfig th c → step th c p ≡ next d

@@ -17,7 +17,8 @@ module _ (limits : Limits) (th : Procedures) (rs : List ProgVar) where
   module _ (fuel taken : ℕ) (x : Piece) (k : List Piece) (st : Store) (g : Trees) where
     -- a step, and what lies behind the outcome after it
     onward : (d : Config) (r : Outcome)
-        → ((ps : List Pick) → runs th (next_pick g ∷ ps) (configuration (x ∷ k) st g) ≡ runs th ps d)
+        → ((ps : List Pick)
+        → runs th (next_pick g ∷ ps) (configuration (x ∷ k) st g) ≡ runs th ps d)
         → Behind th rs (suc taken) d r → Behind th rs taken (configuration (x ∷ k) st g) r
     onward d (ends n vs g') e b = (next_pick g ∷ b.0, b.1, omega (arith, b.2), e b.0 ∙ b.3, b.4)
     onward d (spends n left) e b = (next_pick g ∷ b.0, omega (arith, b.1), e b.0 ∙ b.2)

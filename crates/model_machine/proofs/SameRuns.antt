@@ -72,38 +72,38 @@ module _ (g g' : Trees) (same : SameAt grove g g') (w : WellFormed g) where
   same-appending (node s i k l r) none st = refl
   same-appending (node s i k l r) (hole r') st = refl
   same-appending (node s i k l r) (node s' j k' l' r') st =
-      go (positive (node_uses i (node s' j k' l' none)))
+      by_test (positive (node_uses i (node s' j k' l' none)))
     where
       moved : SameAt grove (adding i (node s' j k' l' none) (without j g))
           (adding i (node s' j k' l' none) (without j g'))
       moved = same-after (adding i (node s' j k' l' none)) (adding-beside i (node s' j k' l' none))
           (without j g) (without j g') (same-after (without j) (without-beside j) g g' same)
 
-      go : (c : Bool)
+      by_test : (c : Bool)
           → SameMove
           (cond c (faults cycle) (becomes [] st (adding i (node s' j k' l' none) (without j g))))
           (cond c (faults cycle) (becomes [] st (adding i (node s' j k' l' none) (without j g'))))
-      go true = refl
-      go false = (refl, refl, moved)
+      by_test true = refl
+      by_test false = (refl, refl, moved)
 
   same-removing : (a b : Trees) (st : Store) → SameMove (removing a b st g) (removing a b st g')
   same-removing none b st = refl
   same-removing (hole r) b st = refl
   same-removing (node s i k l r) none st = refl
   same-removing (node s i k l r) (hole r') st = refl
-  same-removing (node s i k l r) (node s' j k' l' r') st = go (has_root j k)
+  same-removing (node s i k l r) (node s' j k' l' r') st = by_test (has_root j k)
     where
       moved : SameAt grove (beside (without j g) (node s' j k' l' none))
           (beside (without j g') (node s' j k' l' none))
       moved = SameAt-beside grove (without j g) (node s' j k' l' none) (without j g')
           (node s' j k' l' none) (same-after (without j) (without-beside j) g g' same) (λ t. refl)
 
-      go : (c : Bool)
+      by_test : (c : Bool)
           → SameMove (cond c (becomes [] st (beside (without j g) (node s' j k' l' none)))
           (faults not_child))
           (cond c (becomes [] st (beside (without j g') (node s' j k' l' none))) (faults not_child))
-      go true = (refl, refl, moved)
-      go false = refl
+      by_test true = (refl, refl, moved)
+      by_test false = refl
 
   same-creating : (p : Pick) (x : ProgVar) (s : List ℕ) (st : Store)
       → SameMove (creating p x s st g) (creating p x s st g')
@@ -111,21 +111,21 @@ module _ (g g' : Trees) (same : SameAt grove g g') (w : WellFormed g) where
       subst (λ c.
       SameMove (creating p x s st g)
       (cond c (becomes [] (set x (node_number p.node) st)
-      (beside g' (node s p.node none p.list none))) bad_pick)) (same-free p) (go (is_free p g))
+      (beside g' (node s p.node none p.list none))) bad_pick)) (same-free p) (by_test (is_free p g))
     where
-      go : (c : Bool)
+      by_test : (c : Bool)
           → SameMove
           (cond c (becomes [] (set x (node_number p.node) st)
           (beside g (node s p.node none p.list none))) bad_pick)
           (cond c (becomes [] (set x (node_number p.node) st)
           (beside g' (node s p.node none p.list none))) bad_pick)
-      go true = (
+      by_test true = (
         refl,
         refl,
         SameAt-beside grove g (node s p.node none p.list none) g'
             (node s p.node none p.list none) same (λ t. refl),
       )
-      go false = tt
+      by_test false = tt
 
   same-calling : (o : Option Procedure) (xs : List ProgVar) (es : List Term) (st : Store)
       → SameMove (calling o xs es st g) (calling o xs es st g')
@@ -191,7 +191,8 @@ module _ (g g' : Trees) (same : SameAt grove g g') (w : WellFormed g) where
 module _ (th : Procedures) (bodies : BodiesSorted th) where
   -- THE SAME OUTCOME
   pub same-runs : (ps : List Pick) (k : List Piece) (st : Store) (g g' : Trees) → FitPieces th k
-      → Fine st g → SameAt grove g g' → SameOutcome (runs th ps (configuration k st g)) (runs th ps (configuration k st g'))
+      → Fine st g → SameAt grove g g'
+      → SameOutcome (runs th ps (configuration k st g)) (runs th ps (configuration k st g'))
   same-runs [] [] st g g' a fine same = (refl, same)
   same-runs [] (x ∷ k) st g g' a fine same = tt
   same-runs (p ∷ ps) [] st g g' a fine same = (refl, same)
@@ -203,7 +204,8 @@ module _ (th : Procedures) (bodies : BodiesSorted th) where
       both_move : (m m' : Move) → SameMove m m' → FineMove th m
           → ((k' : List Piece) (st' : Store) (h h' : Trees) → FitPieces th k' → Fine st' h
           → SameAt grove h h'
-          → SameOutcome (runs th ps (configuration k' st' h)) (runs th ps (configuration k' st' h')))
+          → SameOutcome (runs th ps (configuration k' st' h))
+          (runs th ps (configuration k' st' h')))
           → SameOutcome (moved_on th ps x k st g m) (moved_on th ps x k st g' m')
       both_move (becomes ys st1 g1) (becomes ys' st2 g2) e f rec =
           let first = runs th ps (configuration (ys ++ k) st1 g1) in

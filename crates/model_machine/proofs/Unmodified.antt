@@ -72,13 +72,14 @@ module _ (th : Procedures) where
     keeps-appending n (node s i k l r) none st g h = tt
     keeps-appending n (node s i k l r) (hole r') st g h = tt
     keeps-appending n (node s i k l r) (node s' j k' l' r') st g h =
-        go (positive (node_uses i (node s' j k' l' none)))
+        by_test (positive (node_uses i (node s' j k' l' none)))
       where
-        go : (c : Bool)
+        by_test : (c : Bool)
             → WellOn th Unit n (Has x v) []
             (cond c (faults cycle) (becomes [] st (adding i (node s' j k' l' none) (without j g))))
-        go true = tt
-        go false = at_end th Unit n (Has x v) st (adding i (node s' j k' l' none) (without j g)) h
+        by_test true = tt
+        by_test false =
+            at_end th Unit n (Has x v) st (adding i (node s' j k' l' none) (without j g)) h
 
     keeps-removing : (n : ℕ) (a b : Trees) (st : Store) (g : Trees) → value_in st x ≡ v
         → WellOn th Unit n (Has x v) [] (removing a b st g)
@@ -86,25 +87,25 @@ module _ (th : Procedures) where
     keeps-removing n (hole r) b st g h = tt
     keeps-removing n (node s i k l r) none st g h = tt
     keeps-removing n (node s i k l r) (hole r') st g h = tt
-    keeps-removing n (node s i k l r) (node s' j k' l' r') st g h = go (has_root j k)
+    keeps-removing n (node s i k l r) (node s' j k' l' r') st g h = by_test (has_root j k)
       where
-        go : (c : Bool)
+        by_test : (c : Bool)
             → WellOn th Unit n (Has x v) []
             (cond c (becomes [] st (beside (without j g) (node s' j k' l' none)))
             (faults not_child))
-        go false = tt
-        go true = at_end th Unit n (Has x v) st (beside (without j g) (node s' j k' l' none)) h
+        by_test false = tt
+        by_test true = at_end th Unit n (Has x v) st (beside (without j g) (node s' j k' l' none)) h
 
     keeps-creating : (n : ℕ) (p : Pick) (y : ProgVar) (s : List ℕ) (st : Store) (g : Trees)
         → (x ≡ y → ⊥) → value_in st x ≡ v → WellOn th Unit n (Has x v) [] (creating p y s st g)
-    keeps-creating n p y s st g m h = go (is_free p g)
+    keeps-creating n p y s st g m h = by_test (is_free p g)
       where
-        go : (c : Bool)
+        by_test : (c : Bool)
             → WellOn th Unit n (Has x v) []
             (cond c (becomes [] (set y (node_number p.node) st)
             (beside g (node s p.node none p.list none))) bad_pick)
-        go false = tt
-        go true =
+        by_test false = tt
+        by_test true =
             keeps-set n y (node_number p.node) st (beside g (node s p.node none p.list none)) m h
 
     -- one more piece that sets the store
@@ -177,20 +178,20 @@ module _ (th : Procedures) where
         keeps-appending n (node_at (value_of st e) g) (node_at (value_of st f) g) st g h
     keeps-on n k (remove_child e f) m st g h p =
         keeps-removing n (node_at (value_of st e) g) (node_at (value_of st f) g) st g h
-    keeps-on n k (if_else c a b) m st g h p = go (truth_of st c)
+    keeps-on n k (if_else c a b) m st g h p = by_test (truth_of st c)
       where
-        go : (t : Bool) → Well th Unit n (Has x v) (run (block (cond t a b)) ∷ []) st g
-        go true = k (block a) (λ z. m (inl z)) st g h
-        go false = k (block b) (λ z. m (inr z)) st g h
-    keeps-on n k (while_do c b) m st g h p = go (truth_of st c)
+        by_test : (t : Bool) → Well th Unit n (Has x v) (run (block (cond t a b)) ∷ []) st g
+        by_test true = k (block a) (λ z. m (inl z)) st g h
+        by_test false = k (block b) (λ z. m (inr z)) st g h
+    keeps-on n k (while_do c b) m st g h p = by_test (truth_of st c)
       where
-        go : (t : Bool)
+        by_test : (t : Bool)
             → Well th Unit n (Has x v)
             (cond t (run (block b) ∷ run (while_do c b) ∷ []) [] ++ []) st g
-        go true =
+        by_test true =
             followed th Unit n (Has x v) (Has x v) (run (block b) ∷ []) (run (while_do c b) ∷ [])
             (λ st' g' h'. k (while_do c b) m st' g' h') st g (k (block b) m st g h)
-        go false = at_end th Unit n (Has x v) st g h
+        by_test false = at_end th Unit n (Has x v) st g h
     keeps-on n k (local y b) m st g h p = keeps-local n k y b m st g h (same_name x y) refl
     keeps-on n k (call xs f es) m st g h p = keeps-calling n (procedure_named f th) xs es st g m h
 

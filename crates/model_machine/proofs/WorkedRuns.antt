@@ -102,7 +102,8 @@ up = procedure (codes "up") (k ∷ []) (r ∷ []) (assign r (sum (of k) (number 
 abbrev grow : Procedure
 grow = procedure (codes "grow") (k ∷ []) (n ∷ [])
     (local r (local c (create_node n (literal (str (codes "r"))) then (assign r (number 1) then
-    (while_do (cond_not (cond_at_most (of k) (of r))) (create_node c (literal (str (codes "c"))) then
+    (while_do (cond_not (cond_at_most (of k) (of r)))
+    (create_node c (literal (str (codes "c"))) then
     (append_child (of n) (of c) then (assign r (sum (of r) (number 1)) then stop))) then stop)))
     then stop))
 

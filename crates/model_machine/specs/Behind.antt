@@ -1,5 +1,5 @@
--- Needn't be believed: the run behind an outcome. The law `outcomes_are_runs` says that there is one
--- for each.
+-- Needn't be believed: the run behind an outcome. The law `outcomes_are_runs` says that there is
+-- one for each.
 use Rattle.std.specs.Prelude.{◌≡◌, ℕ, ◌+◌, List, length}
 use Rattle.model_terms.specs.Stores.{ProgVar, Store}
 use Rattle.model_commands.specs.Theories.{Procedures}

@@ -1,5 +1,5 @@
--- The limits of a run, and its outcome within the fuel. These are the language's own: the machine has
--- no limits. A new node takes the next numbers of each kind.
+-- The limits of a run, and its outcome within the fuel. These are the language's own: the machine
+-- has no limits. A new node takes the next numbers of each kind.
 use Rattle.std.specs.Prelude.{ℕ, zero, suc, ◌+◌, List, [], ◌∷◌, nat_le, ◌&&◌, cond, Option, Some, None}
 use Rattle.model_limits.specs.Limits.{LimitKind, nodes_limit, identifier_limit, depth_limit, Limits}
 use Rattle.model_groves.specs.Sizes.{greatest_node, greatest_list, size}
