@@ -1,5 +1,5 @@
 -- The next pick is free, so no step of a run that takes next picks meets a bad one.
-use Rattle.std.proofs.Common.{◌≡◌, ℕ, zero, suc, List, [], ◌∷◌, ◌++◌, Bool, true, false, cond, refl, subst, Option, Some, None}
+use Rattle.std.proofs.Common.{◌≡◌, ℕ, zero, suc, List, [], ◌∷◌, Bool, true, false, cond, refl, subst, Option, Some, None}
 use Rattle.model_shapes.specs.Trees.{Trees, none, node, hole, beside, node_uses}
 use Rattle.model_shapes.specs.Values.{Value, node_number}
 use Rattle.model_terms.specs.Terms.{Term}

@@ -4,7 +4,7 @@ use Rattle.model_shapes.specs.Trees.{Trees}
 use Rattle.model_terms.specs.Stores.{Store}
 use Rattle.model_commands.specs.Theories.{Procedures}
 use Rattle.model_groves.specs.Picks.{Pick}
-use Rattle.model_machine.specs.Machine.{Piece, Move, becomes, faults, bad_pick, move, Config, configuration, stepped, RunOutcome, running, ended, fault, picked_badly, after_step, runs}
+use Rattle.model_machine.specs.Machine.{Piece, Move, becomes, faults, bad_pick, move, configuration, stepped, RunOutcome, running, ended, fault, picked_badly, after_step, runs}
 use Rattle.model_machine.specs.ClassicalTriples.{Ends}
 
 -- where a run stands after a move of its first piece

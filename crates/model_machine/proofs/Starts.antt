@@ -1,5 +1,5 @@
 -- A run begins with what fits, and a call begins as a run does.
-use Rattle.std.proofs.Common.{◌≡◌, List, [], ◌∷◌, ◌++◌, map, refl, ap, subst}
+use Rattle.std.proofs.Common.{◌≡◌, List, [], ◌∷◌, map, refl, ap}
 use Rattle.model_shapes.specs.Sorts.{shape, grove}
 use Rattle.model_shapes.specs.Trees.{Trees}
 use Rattle.model_shapes.specs.Shapes.{Shaped}
@@ -8,12 +8,9 @@ use Rattle.model_terms.specs.Terms.{Term}
 use Rattle.model_terms.specs.Stores.{ProgVar, Store, ProperStore, set, value_of}
 use Rattle.model_commands.specs.Theories.{Procedure, Procedures}
 use Rattle.model_commands.specs.Sorting.{Sorted}
-use Rattle.model_groves.specs.Picks.{Pick}
 use Rattle.model_machine.specs.Machine.{entering, holding_values, start}
-use Rattle.model_machine.specs.Fitting.{FitPieces, ValuesFit, Fine, FitsConfig}
-use Rattle.model_commands.specs.Sorting.{BodiesSorted}
+use Rattle.model_machine.specs.Fitting.{ValuesFit, FitsConfig}
 use Rattle.model_terms.proofs.StoreLaws.{unset-proper, set-proper}
-use Rattle.model_machine.proofs.Fine.{FineMove, move-fine, all-fine}
 
 -- values that fit make a proper store
 holding-proper : (xs : List ProgVar) (vs : List Value) → ValuesFit xs vs
