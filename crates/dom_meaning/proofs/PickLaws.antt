@@ -22,16 +22,16 @@ node-unused : (n : ℕ) (g : Trees) → nodes_where (numbered n) g ≡ none → 
 node-unused n none e = refl
 node-unused n (hole r) e = node-unused n r e
 node-unused n (node s i k l r) e =
-    go (ℕ_discrete n i) e (node-unused n k) (node-unused n r)
+    by_test (ℕ_discrete n i) e (node-unused n k) (node-unused n r)
   where
-    go : (d : Dec (n ≡ i))
+    by_test : (d : Dec (n ≡ i))
         → cond (is_yes d) (node s i k l (nodes_where (numbered n) r))
         (beside (nodes_where (numbered n) k) (nodes_where (numbered n) r)) ≡ none
         → (nodes_where (numbered n) k ≡ none → node_uses n k ≡ 0)
         → (nodes_where (numbered n) r ≡ none → node_uses n r ≡ 0)
-        → one_if d + (node_uses n k + node_uses n r) ≡ 0
-    go (yes same) e x y = absurd cc
-    go (no other) e x y =
+        → tally d + (node_uses n k + node_uses n r) ≡ 0
+    by_test (yes same) e x y = absurd cc
+    by_test (no other) e x y =
         let h = none-beside (nodes_where (numbered n) k) (nodes_where (numbered n) r) e in
         omega (arith, x h.0, y h.1)
 
@@ -40,16 +40,16 @@ list-unused : (n : ℕ) (g : Trees) → nodes_where (listed n) g ≡ none → li
 list-unused n none e = refl
 list-unused n (hole r) e = list-unused n r e
 list-unused n (node s i k l r) e =
-    go (ℕ_discrete n l) e (list-unused n k) (list-unused n r)
+    by_test (ℕ_discrete n l) e (list-unused n k) (list-unused n r)
   where
-    go : (d : Dec (n ≡ l))
+    by_test : (d : Dec (n ≡ l))
         → cond (is_yes d) (node s i k l (nodes_where (listed n) r))
         (beside (nodes_where (listed n) k) (nodes_where (listed n) r)) ≡ none
         → (nodes_where (listed n) k ≡ none → list_uses n k ≡ 0)
         → (nodes_where (listed n) r ≡ none → list_uses n r ≡ 0)
-        → one_if d + (list_uses n k + list_uses n r) ≡ 0
-    go (yes same) e x y = absurd cc
-    go (no other) e x y =
+        → tally d + (list_uses n k + list_uses n r) ≡ 0
+    by_test (yes same) e x y = absurd cc
+    by_test (no other) e x y =
         let h = none-beside (nodes_where (listed n) k) (nodes_where (listed n) r) e in
         omega (arith, x h.0, y h.1)
 

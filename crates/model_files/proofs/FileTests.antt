@@ -15,7 +15,7 @@ use Rattle.model_terms.specs.Conditions.{Cond, cond_true, cond_false, cond_varia
 use Rattle.model_commands.specs.Commands.{Command, skip, block, assign, create_node, node_name, child_nodes, parent_node, list_item, append_child, remove_child, if_else, while_do, local, call, Block, stop, ◌then◌, Among}
 use Rattle.model_commands.specs.CommandParts.{commands_in, commands_of, variables_of_term}
 use Rattle.model_commands.specs.Theories.{Procedure, Procedures, procedure_named}
-use Rattle.model_commands.specs.Sorting.{Feed, Receive, CallFits, Distinct, InTerms, Sorted, BlockSorted}
+use Rattle.model_commands.specs.Sorting.{Feed, Receive, CallFits, Distinct, Sorted, BlockSorted}
 use Rattle.model_files.specs.FileFaults.{is_program, is_plain, evaluates, condition_sorted, feeds, receives, call_fits, parts_fit, has_command, callee_known, is_among, distinct_by, stands_in, results_apart}
 use Rattle.model_terms.proofs.StoreLaws.{same_name-refl}
 use Rattle.model_commands.proofs.StoreLaws.{either-true}
@@ -219,38 +219,6 @@ stands-right (prog n s ∷ xs) ys x e =
 stands-right (logic n s ∷ xs) ys x e = stands-right xs ys x e
 stands-right (bound i s ∷ xs) ys x e = stands-right xs ys x e
 
--- the variable itself
-stands-itself : (y : Var) (x : ProgVar) → as_var x ≡ y → stands_in (y ∷ []) x ≡ true
-stands-itself y (named n s) e =
-    subst (λ z. stands_in (z ∷ []) (named n s) ≡ true) e
-    (left-true (same_name (named n s) (named n s)) false (same_name-refl (named n s)))
-
--- a variable that stands in a term
-pub stands-term : (t : Term) (x : ProgVar) → InTerm (as_var x) t
-    → stands_in (variables_of_term t) x ≡ true
-stands-term (literal v) x m = absurd m
-stands-term (variable y) x m = stands-itself y x m
-stands-term (sum a b) x (inl m) =
-    stands-left (variables_of_term a) (variables_of_term b) x (stands-term a x m)
-stands-term (sum a b) x (inr m) =
-    stands-right (variables_of_term a) (variables_of_term b) x (stands-term b x m)
-stands-term (difference a b) x (inl m) =
-    stands-left (variables_of_term a) (variables_of_term b) x (stands-term a x m)
-stands-term (difference a b) x (inr m) =
-    stands-right (variables_of_term a) (variables_of_term b) x (stands-term b x m)
-stands-term (appended a b) x (inl m) =
-    stands-left (variables_of_term a) (variables_of_term b) x (stands-term a x m)
-stands-term (appended a b) x (inr m) =
-    stands-right (variables_of_term a) (variables_of_term b) x (stands-term b x m)
-
-stands-terms : (ts : List Term) (x : ProgVar) → InTerms (as_var x) ts
-    → stands_in (flat_map variables_of_term ts) x ≡ true
-stands-terms [] x m = absurd m
-stands-terms (t ∷ ts) x (inl m) =
-    stands-left (variables_of_term t) (flat_map variables_of_term ts) x (stands-term t x m)
-stands-terms (t ∷ ts) x (inr m) =
-    stands-right (variables_of_term t) (flat_map variables_of_term ts) x (stands-terms ts x m)
-
 -- what a test of each says of one
 pub each-among : (p : ProgVar → Bool) (xs : List ProgVar) → list_all p xs ≡ true → (x : ProgVar)
     → Among xs x → p x ≡ true
@@ -370,17 +338,10 @@ module _ (th : Procedures) where
     sorted-command (call results name arguments) k =
         let c : Passes (call results name arguments) =
         first-checked (call results name arguments) [] k in
-        let h : (distinct_by same_name results ≡ true) × (list_all
-        (λ x. not (stands_in (flat_map variables_of_term arguments) x)) results ≡ true) =
-        both_true (distinct_by same_name results) (list_all
-        (λ x. not (stands_in (flat_map variables_of_term arguments) x)) results) c.apart in (
+        (
           call-fits (procedure_named name th) results arguments c.known c.fitting,
-          apart-distinct results h.0,
-          λ x m i.
-              not-both (stands_in (flat_map variables_of_term arguments) x)
-              (each-among
-              (λ y. not (stands_in (flat_map variables_of_term arguments) y)) results h.1 x m)
-              (stands-terms arguments x i),
+          apart-distinct results (both_true (distinct_by same_name results) (list_all
+              (λ x. not (stands_in (flat_map variables_of_term arguments) x)) results) c.apart).0,
         )
 
     sorted-block : (b : Block) → Checked (commands_of b) → BlockSorted th b
