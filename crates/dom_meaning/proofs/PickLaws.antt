@@ -29,7 +29,7 @@ node-unused n (node s i k l r) e =
         (beside (nodes_where (numbered n) k) (nodes_where (numbered n) r)) ≡ none
         → (nodes_where (numbered n) k ≡ none → node_uses n k ≡ 0)
         → (nodes_where (numbered n) r ≡ none → node_uses n r ≡ 0)
-        → tally d + (node_uses n k + node_uses n r) ≡ 0
+        → one_if d + (node_uses n k + node_uses n r) ≡ 0
     by_test (yes same) e x y = absurd cc
     by_test (no other) e x y =
         let h = none-beside (nodes_where (numbered n) k) (nodes_where (numbered n) r) e in
@@ -47,7 +47,7 @@ list-unused n (node s i k l r) e =
         (beside (nodes_where (listed n) k) (nodes_where (listed n) r)) ≡ none
         → (nodes_where (listed n) k ≡ none → list_uses n k ≡ 0)
         → (nodes_where (listed n) r ≡ none → list_uses n r ≡ 0)
-        → tally d + (list_uses n k + list_uses n r) ≡ 0
+        → one_if d + (list_uses n k + list_uses n r) ≡ 0
     by_test (yes same) e x y = absurd cc
     by_test (no other) e x y =
         let h = none-beside (nodes_where (listed n) k) (nodes_where (listed n) r) e in

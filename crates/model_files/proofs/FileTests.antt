@@ -7,10 +7,10 @@ use Rattle.model_shapes.specs.Values.{FitsValue, value_sort}
 use Rattle.model_shapes.proofs.Truth.{false≢true, both_true}
 use Rattle.model_terms.specs.Variables.{Var, prog, logic, bound}
 use Rattle.model_shapes.proofs.Tests.{same_value_sort-is}
-use Rattle.model_terms.specs.Terms.{Term, literal, variable, sum, difference, appended, InTerm}
+use Rattle.model_terms.specs.Terms.{Term, literal, variable, sum, difference, appended}
 use Rattle.model_formulas.specs.WellSorted.{has_sort, both_have, one_sort, both_logic_of_one_sort, is_literal}
 use Rattle.model_formulas.proofs.SortedTerms.{literal-fits}
-use Rattle.model_terms.specs.Stores.{ProgVar, named, as_var, sort_of, same_name, Computes}
+use Rattle.model_terms.specs.Stores.{ProgVar, named, sort_of, same_name, Computes}
 use Rattle.model_terms.specs.Conditions.{Cond, cond_true, cond_false, cond_variable, cond_equal, cond_at_most, cond_not, cond_and, cond_or, Tests}
 use Rattle.model_commands.specs.Commands.{Command, skip, block, assign, create_node, node_name, child_nodes, parent_node, list_item, append_child, remove_child, if_else, while_do, local, call, Block, stop, ◌then◌, Among}
 use Rattle.model_commands.specs.CommandParts.{commands_in, commands_of, variables_of_term}

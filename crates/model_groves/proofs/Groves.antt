@@ -104,7 +104,7 @@ width-parental n (node s i k l r) =
         → width (nodes_where (parental n) r) + bit y ≤ node_uses n r
         → width (cond x (node s i k l (nodes_where (parental n) r))
         (beside (nodes_where (parental n) k) (nodes_where (parental n) r))) + bit
-        (is_yes d || y) ≤ tally d + (node_uses n k + node_uses n r)
+        (is_yes d || y) ≤ one_if d + (node_uses n k + node_uses n r)
     by_test (yes e) true y a b = omega arith
     by_test (yes e) false y a b =
         omega (arith, width-beside (nodes_where (parental n) k) (nodes_where (parental n) r))
@@ -182,7 +182,7 @@ module _ (f : Trees → ℕ) (c : ℕ → ℕ → ℕ) (d : ℕ)
             → f (adding n t r) ≡ f r + node_uses n r * f t
             → f (node s i (cond (is_yes b) (beside (adding n t k) t) (adding n t k)) l
             (adding n t r))
-            ≡ f (node s i k l r) + (tally b + (node_uses n k + node_uses n r)) * f t
+            ≡ f (node s i k l r) + (one_if b + (node_uses n k + node_uses n r)) * f t
         by_test (yes e) x y =
             omega (
               arith,

@@ -47,10 +47,10 @@ pub copies-one : (n : ℕ) (a : Trees) → n ≡ 1 → copies n a ≡ a
 copies-one n a e = ap (λ z. copies z a) e ∙ beside-none a
 
 -- a number that a node doesn't have
-pub not-here : (n i : ℕ) → tally (ℕ_discrete n i) ≡ 0 → is_yes (ℕ_discrete n i) ≡ false
+pub not-here : (n i : ℕ) → one_if (ℕ_discrete n i) ≡ 0 → is_yes (ℕ_discrete n i) ≡ false
 not-here n i = by_test (ℕ_discrete n i)
   where
-    by_test : {A : Type 0} (d : Dec A) → tally d ≡ 0 → is_yes d ≡ false
+    by_test : {A : Type 0} (d : Dec A) → one_if d ≡ 0 → is_yes d ≡ false
     by_test (yes a) e = absurd (omega arith)
     by_test (no m) e = refl
 

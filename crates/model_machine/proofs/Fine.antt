@@ -35,10 +35,10 @@ less-WellFormed a b x y w = record {
 }
 
 -- a number that isn't 0
-pub not-zero : (l : ℕ) → tally (ℕ_discrete 0 l) ≡ 0 → 0 < l
+pub not-zero : (l : ℕ) → one_if (ℕ_discrete 0 l) ≡ 0 → 0 < l
 not-zero l e = by_test l (ℕ_discrete 0 l) e
   where
-    by_test : (l : ℕ) (d : Dec (0 ≡ l)) → tally d ≡ 0 → 0 < l
+    by_test : (l : ℕ) (d : Dec (0 ≡ l)) → one_if d ≡ 0 → 0 < l
     by_test zero (yes q) e = absurd (omega arith)
     by_test zero (no n) e = absurd (n refl)
     by_test (suc l) d e = omega arith
@@ -118,17 +118,17 @@ is-positive zero e = absurd (cc)
 is-positive (suc n) e = omega arith
 
 created-once : (f : ℕ → Trees → ℕ) (i : ℕ) (g : Trees) → f i g ≡ 0 → ((n : ℕ) → f n g ≤ 1)
-    → (n : ℕ) → f n g + tally (ℕ_discrete n i) ≤ 1
+    → (n : ℕ) → f n g + one_if (ℕ_discrete n i) ≤ 1
 created-once f i g z o n = by_test (ℕ_discrete n i)
   where
-    by_test : (d : Dec (n ≡ i)) → f n g + tally d ≤ 1
+    by_test : (d : Dec (n ≡ i)) → f n g + one_if d ≤ 1
     by_test (yes e) = omega (arith, ap (λ m. f m g) e)
     by_test (no m) = omega (arith, o n)
 
-tally-not : (i : ℕ) → 0 < i → tally (ℕ_discrete 0 i) ≡ 0
-tally-not i h = by_test (ℕ_discrete 0 i)
+unused_zero : (i : ℕ) → 0 < i → one_if (ℕ_discrete 0 i) ≡ 0
+unused_zero i h = by_test (ℕ_discrete 0 i)
   where
-    by_test : (d : Dec (0 ≡ i)) → tally d ≡ 0
+    by_test : (d : Dec (0 ≡ i)) → one_if d ≡ 0
     by_test (yes e) = absurd (omega arith)
     by_test (no m) = refl
 

@@ -30,7 +30,7 @@ UpTo n m = m ≤ n
 -- at a store and a grove: some data that meets the formula stands in the context
 pub record At (d : DataSort) (around : Trees) (p : Formula) (e : Environment) (st : Store)
     (g : Trees) : Type 0 where
-  pub proper : Proper (joint (lookup st) e)
+  pub proper : Proper (with_store (lookup st) e)
   pub whole : Shaped (shape grove) g
   pub stands : Stands d around p e st g
 
@@ -105,7 +105,7 @@ module _ (ps : Procedures) (bodies : BodiesSorted ps) where
       (λ k. a.stands (λ x. k (from x.0 x.1 x.2.0 x.2.1)))
     where
       from : (b : Trees) → Shaped (shape d) b → SameAt grove g (fill around b)
-          → Meets p (joint (lookup st) e) (shape d) b
+          → Meets p (with_store (lookup st) e) (shape d) b
           → Ends ⊥ (At d around q e) (runs ps picks (beginning c st g))
       from b wb same m =
           let filled = fill around b in
