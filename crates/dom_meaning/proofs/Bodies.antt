@@ -1,30 +1,18 @@
 -- The bodies of a well-formed theory, by the places of their procedures.
-use Rattle.std.proofs.Common.{◌≡◌, ℕ, zero, suc, ◌+◌, Bool, true, false, not, ◌||◌, cond, List, [], ◌∷◌, map, Option, Some, None, refl, sym, ap, ◌∙◌, subst, bytes_eq}
+use Rattle.std.proofs.Common.{◌≡◌, ℕ, zero, suc, ◌+◌, Bool, true, false, not, ◌||◌, cond, List, [], ◌∷◌, ◌++◌, map, Option, Some, None, refl, sym, ap, ◌∙◌, subst, bytes_eq}
 use Rattle.std.specs.Prelude.{slice_get}
 use Rattle.std.specs.List.{list_any}
 use Rattle.std.proofs.lemmas.Slice.Eq.{bytes_eq-Decides}
 use Rattle.model_shapes.proofs.Truth.{both_true}
 use Rattle.model_formulas.specs.Formulas.{Named}
-use Rattle.model_terms.specs.TermLimits.{or_else}
 use Rattle.model_commands.specs.Theories.{ProcedureOf, Theory, nameless_procedure, procedures_of, procedure_named}
 use Rattle.model_commands.specs.Sorting.{Sorted}
-use Rattle.model_files.specs.FileFaults.{FileKind, unless_kind, fault_at, head_kind, steps_fault, procedures_fault, declarations_kind, IsWellFormedTheory}
+use Rattle.model_files.specs.FileFaults.{twice_kind, declarations, header, steps_from, procedures_from, first_fault_at, IsWellFormedTheory}
 use Rattle.model_commands.proofs.StoreLaws.{not-true}
+use Rattle.model_files.proofs.Places.{passes-each, first-none, both-none}
 use Rattle.model_files.proofs.WellFormedTheories.{well-formed-bodies}
 use Rattle.dom_syntax.specs.declared.theories.Procedure.{Procedure}
 use Rattle.dom_syntax.specs.Theories.{procedure_of}
-
-unless-none : (b : Bool) (k : FileKind) (later : Option FileKind) → unless_kind b k later ≡ None → b ≡ true
-unless-none true k later e = refl
-unless-none false k later e = absurd cc
-
-first-none : {A : Type 0} (a b : Option A) → or_else a b ≡ None → (a ≡ None) × (b ≡ None)
-first-none None b e = (refl, e)
-first-none (Some x) b e = absurd cc
-
-place-none : (n s : ℕ) (k : Option FileKind) → fault_at n s k ≡ None → k ≡ None
-place-none n s None e = refl
-place-none n s (Some k) e = absurd cc
 
 either-false : (a b : Bool) → (a || b) ≡ false → (a ≡ false) × (b ≡ false)
 either-false true b e = absurd cc
@@ -42,13 +30,15 @@ module _ (theory : Theory) where
       ≡ Some (nameless_procedure (procedure_of f)))
 
   found : (earlier : List (ProcedureOf Named)) (n : ℕ) (ps : List Procedure) (place : ℕ) (f : Procedure)
-      → procedures_fault theory earlier n (map procedure_of ps) ≡ None → slice_get ps place ≡ Some f
+      → first_fault_at (procedures_from theory earlier n (map procedure_of ps)) ≡ None → slice_get ps place ≡ Some f
       → Found earlier ps f
   found earlier n [] place f e is = absurd cc
   found earlier n (p ∷ ps) zero f e is =
-      let a = first-none (fault_at n 0 (head_kind theory earlier (procedure_of p))) _ e in
+      let a = first-none n 0 (header theory earlier (procedure_of p))
+      (steps_from theory n (procedure_of p) 1 (procedure_of p).proof
+      ++ procedures_from theory (procedure_of p ∷ earlier) (n + 1) (map procedure_of ps)) e in
       let new = (both_true (not (list_any (λ g. bytes_eq p.name g.name) earlier)) _
-      (unless-none _ _ _ (place-none n 0 (head_kind theory earlier (procedure_of p)) a.0))).0 in
+      (passes-each (header theory earlier (procedure_of p)) a.0 twice_kind)).0 in
       subst (Found earlier (p ∷ ps)) (some-is p f is) (
         not-true (list_any (λ g. bytes_eq p.name g.name) earlier) new,
         ap (λ b. cond b (Some (nameless_procedure (procedure_of p)))
@@ -56,8 +46,10 @@ module _ (theory : Theory) where
             ((bytes_eq-Decides p.name p.name).1 refl),
       )
   found earlier n (p ∷ ps) (suc place) f e is =
-      let a = first-none (fault_at n 0 (head_kind theory earlier (procedure_of p))) _ e in
-      let b = first-none (steps_fault theory (procedure_of p) n 1 (procedure_of p).proof) _ a.1 in
+      let a = first-none n 0 (header theory earlier (procedure_of p))
+      (steps_from theory n (procedure_of p) 1 (procedure_of p).proof
+      ++ procedures_from theory (procedure_of p ∷ earlier) (n + 1) (map procedure_of ps)) e in
+      let b = both-none (steps_from theory n (procedure_of p) 1 (procedure_of p).proof) _ a.1 in
       let r = found (procedure_of p ∷ earlier) (n + 1) ps place f b.1 is in
       let h = either-false (bytes_eq f.name p.name) (list_any (λ g. bytes_eq f.name g.name) earlier) r.0 in (
         h.1,
@@ -70,9 +62,9 @@ module _ (theory : Theory) where
       → map procedure_of ps ≡ theory.procedures → IsWellFormedTheory theory
       → slice_get ps place ≡ Some f → Sorted (procedures_of theory) (procedure_of f).body
   body-sorted ps place f same w is =
-      let faultless : procedures_fault theory [] 1 (map procedure_of ps) ≡ None =
-      subst (λ z. procedures_fault theory [] 1 z ≡ None) (sym same)
-      (first-none (fault_at 0 0 (declarations_kind theory)) _ w).1 in
+      let faultless : first_fault_at (procedures_from theory [] 1 (map procedure_of ps)) ≡ None =
+      subst (λ z. first_fault_at (procedures_from theory [] 1 z) ≡ None) (sym same)
+      (first-none 0 0 (declarations theory) (procedures_from theory [] 1 theory.procedures) w).1 in
       let named = (found [] 1 ps place f faultless is).1 in
       well-formed-bodies theory w f.name (nameless_procedure (procedure_of f))
       (ap (λ z. procedure_named f.name (map nameless_procedure z)) (sym same) ∙ named)

@@ -9,11 +9,11 @@ use Rattle.model_terms.specs.Variables.{Var, prog, logic, bound}
 use Rattle.model_shapes.proofs.Tests.{same_value_sort-refl, same_value_sort-is}
 use Rattle.model_terms.specs.Terms.{Term, literal, variable, sum, difference, appended}
 use Rattle.model_terms.specs.TermLimits.{or_else}
-use Rattle.model_terms.specs.Stores.{ProgVar, named}
+use Rattle.model_terms.specs.Stores.{ProgVar, named, as_var}
 use Rattle.model_commands.specs.CommandParts.{variables_of_term}
-use Rattle.model_commands.specs.Theories.{Procedures}
-use Rattle.model_files.specs.FileFaults.{Scope, name_of, distinct_by, is_among, declared_sort, is_known, is_as_declared, sort_agrees, only_among, is_program}
-use Rattle.first_form.specs.FormTests.{is_sort_found, sort_in, is_declared, is_term_declared, are_apart}
+use Rattle.model_commands.specs.SortTests.{distinct_by, is_among, is_program}
+use Rattle.model_files.specs.FileFaults.{share_name, is_known, is_as_declared, only_among}
+use Rattle.first_form.specs.FormTests.{declared_sort, is_sort_found, sort_in, is_declared, is_term_declared, are_apart}
 
 -- TRUTH VALUES
 pub join : (a b : Bool) → a ≡ true → b ≡ true → (a && b) ≡ true
@@ -59,17 +59,51 @@ all-flat p f (x ∷ xs) =
 declared-append : (ps rs : List ProgVar) (name : List ℕ)
     → declared_sort (ps ++ rs) name ≡ sort_in ps rs name
 declared-append [] rs name = refl
-declared-append (named first s ∷ ps) rs name = go (bytes_eq name first) (declared-append ps rs name)
+declared-append (named first s ∷ ps) rs name = at_first (bytes_eq name first) (declared-append ps rs name)
   where
-    go : (b : Bool) → declared_sort (ps ++ rs) name ≡ sort_in ps rs name
+    at_first : (b : Bool) → declared_sort (ps ++ rs) name ≡ sort_in ps rs name
         → cond b (Some s) (declared_sort (ps ++ rs) name)
         ≡ or_else (cond b (Some s) (declared_sort ps name)) (declared_sort rs name)
-    go true rec = refl
-    go false rec = rec
+    at_first true rec = refl
+    at_first false rec = rec
 
 -- the scope of a procedure whose body declares no variables, in a theory without logic variables
-abbrev pub form_scope : List ProgVar → List ProgVar → Procedures → Scope
-form_scope ps rs th = record { variables = ps ++ rs; logics = []; procedures = th }
+abbrev pub form_scope : List ProgVar → List ProgVar → List Var
+form_scope ps rs = map as_var (ps ++ rs)
+
+-- the sort with which a name is declared, if it is, is this one
+abbrev sort_agrees : Option ValueSort → ValueSort → Bool
+sort_agrees None s = true
+sort_agrees (Some u) s = same_value_sort u s
+
+known-sort : (vs : List ProgVar) (name : List ℕ) (s : ValueSort)
+    → is_known (map as_var vs) (prog name s) ≡ is_some (declared_sort vs name)
+known-sort [] name s = refl
+known-sort (named first u ∷ vs) name s = at_first (bytes_eq name first) (known-sort vs name s)
+  where
+    at_first : (b : Bool) → is_known (map as_var vs) (prog name s) ≡ is_some (declared_sort vs name)
+        → (b || is_known (map as_var vs) (prog name s))
+        ≡ is_some (cond b (Some u) (declared_sort vs name))
+    at_first true rec = refl
+    at_first false rec = rec
+
+agreed-sort : (vs : List ProgVar) (name : List ℕ) (s : ValueSort)
+    → is_as_declared (map as_var vs) (prog name s) ≡ sort_agrees (declared_sort vs name) s
+agreed-sort [] name s = refl
+agreed-sort (named first u ∷ vs) name s = at_first (bytes_eq name first) (agreed-sort vs name s)
+  where
+    at_first : (b : Bool)
+        → is_as_declared (map as_var vs) (prog name s) ≡ sort_agrees (declared_sort vs name) s
+        → cond b (same_value_sort u s) (is_as_declared (map as_var vs) (prog name s))
+        ≡ sort_agrees (cond b (Some u) (declared_sort vs name)) s
+    at_first true rec = refl
+    at_first false rec = rec
+
+unknown : (vs : List ProgVar) (x : Var) → is_program x ≡ false → is_known (map as_var vs) x ≡ true → ⊥
+unknown [] x p e = false≢true e
+unknown (named first u ∷ vs) (prog name s) p e = false≢true (sym p)
+unknown (named first u ∷ vs) (logic name s) p e = unknown vs (logic name s) p e
+unknown (named first u ∷ vs) (bound i s) p e = unknown vs (bound i s) p e
 
 found-agrees : (o : Option ValueSort) (s : ValueSort) → is_sort_found o s ≡ true
     → (is_some o ≡ true) × (sort_agrees o s ≡ true)
@@ -81,36 +115,38 @@ agrees-found : (o : Option ValueSort) (s : ValueSort) → is_some o ≡ true →
 agrees-found None s k e = false≢true k
 agrees-found (Some u) s k e = e
 
-module _ (ps rs : List ProgVar) (th : Procedures) where
+module _ (ps rs : List ProgVar) where
   declared-is : (x : Var) → is_declared ps rs x ≡ true
-      → (is_known (form_scope ps rs th) x ≡ true) × (is_as_declared (form_scope ps rs th) x ≡ true)
+      → (is_known (form_scope ps rs) x ≡ true) × (is_as_declared (form_scope ps rs) x ≡ true)
   declared-is (prog name s) e =
-      subst (λ (z : Option ValueSort). (is_some z ≡ true) × (sort_agrees z s ≡ true))
-      (sym (declared-append ps rs name)) (found-agrees (sort_in ps rs name) s e)
+      let h = found-agrees (declared_sort (ps ++ rs) name) s
+      (ap (λ z. is_sort_found z s) (declared-append ps rs name) ∙ e) in
+      (known-sort (ps ++ rs) name s ∙ h.0, agreed-sort (ps ++ rs) name s ∙ h.1)
   declared-is (logic name s) e = false≢true e
   declared-is (bound i s) e = false≢true e
 
-  is-declared : (x : Var) → is_known (form_scope ps rs th) x ≡ true
-      → is_as_declared (form_scope ps rs th) x ≡ true → is_declared ps rs x ≡ true
+  is-declared : (x : Var) → is_known (form_scope ps rs) x ≡ true
+      → is_as_declared (form_scope ps rs) x ≡ true → is_declared ps rs x ≡ true
   is-declared (prog name s) k e =
-      subst (λ (z : Option ValueSort). is_sort_found z s ≡ true) (declared-append ps rs name)
-      (agrees-found (declared_sort (ps ++ rs) name) s k e)
-  is-declared (logic name s) k e = false≢true k
-  is-declared (bound i s) k e = false≢true k
+      ap (λ z. is_sort_found z s) (sym (declared-append ps rs name))
+      ∙ agrees-found (declared_sort (ps ++ rs) name) s (sym (known-sort (ps ++ rs) name s) ∙ k)
+      (sym (agreed-sort (ps ++ rs) name s) ∙ e)
+  is-declared (logic name s) k e = absurd (unknown (ps ++ rs) (logic name s) refl k)
+  is-declared (bound i s) k e = absurd (unknown (ps ++ rs) (bound i s) refl k)
 
   pub all-known : (xs : List Var) → list_all (is_declared ps rs) xs ≡ true
-      → (list_all (is_known (form_scope ps rs th)) xs ≡ true)
-      × (list_all (is_as_declared (form_scope ps rs th)) xs ≡ true)
+      → (list_all (is_known (form_scope ps rs)) xs ≡ true)
+      × (list_all (is_as_declared (form_scope ps rs)) xs ≡ true)
   all-known xs e = (
-    all-weaker (is_declared ps rs) (is_known (form_scope ps rs th)) (λ x h. (declared-is x h).0) xs e,
-    all-weaker (is_declared ps rs) (is_as_declared (form_scope ps rs th)) (λ x h. (declared-is x h).1) xs e,
+    all-weaker (is_declared ps rs) (is_known (form_scope ps rs)) (λ x h. (declared-is x h).0) xs e,
+    all-weaker (is_declared ps rs) (is_as_declared (form_scope ps rs)) (λ x h. (declared-is x h).1) xs e,
   )
 
-  pub known-all : (xs : List Var) → list_all (is_known (form_scope ps rs th)) xs ≡ true
-      → list_all (is_as_declared (form_scope ps rs th)) xs ≡ true
+  pub known-all : (xs : List Var) → list_all (is_known (form_scope ps rs)) xs ≡ true
+      → list_all (is_as_declared (form_scope ps rs)) xs ≡ true
       → list_all (is_declared ps rs) xs ≡ true
   known-all xs k e =
-      all-both (is_known (form_scope ps rs th)) (is_as_declared (form_scope ps rs th))
+      all-both (is_known (form_scope ps rs)) (is_as_declared (form_scope ps rs))
       (is_declared ps rs) is-declared xs k e
 
 -- a declared variable is one of the program
@@ -155,24 +191,24 @@ or-true a b e = λ j. e j || b
 found-among : (vs : List ProgVar) (name : List ℕ) (s : ValueSort)
     → is_sort_found (declared_sort vs name) s ≡ true → is_among vs (named name s) ≡ true
 found-among [] name s e = false≢true e
-found-among (named first u ∷ vs) name s e = go (bytes_eq name first) e (found-among vs name s)
+found-among (named first u ∷ vs) name s e = at_first (bytes_eq name first) e (found-among vs name s)
   where
-    go : (b : Bool) → is_sort_found (cond b (Some u) (declared_sort vs name)) s ≡ true
+    at_first : (b : Bool) → is_sort_found (cond b (Some u) (declared_sort vs name)) s ≡ true
         → (is_sort_found (declared_sort vs name) s ≡ true → is_among vs (named name s) ≡ true)
         → ((b && same_value_sort s u) || is_among vs (named name s)) ≡ true
-    go true e rec = or-true (same_value_sort s u) (is_among vs (named name s)) (turned u s e)
-    go false e rec = rec e
+    at_first true e rec = or-true (same_value_sort s u) (is_among vs (named name s)) (turned u s e)
+    at_first false e rec = rec e
 
 among-named : (vs : List ProgVar) (name : List ℕ) (s : ValueSort) → is_among vs (named name s) ≡ true
     → is_some (declared_sort vs name) ≡ true
 among-named [] name s e = false≢true e
-among-named (named first u ∷ vs) name s e = go (bytes_eq name first) e (among-named vs name s)
+among-named (named first u ∷ vs) name s e = at_first (bytes_eq name first) e (among-named vs name s)
   where
-    go : (b : Bool) → ((b && same_value_sort s u) || is_among vs (named name s)) ≡ true
+    at_first : (b : Bool) → ((b && same_value_sort s u) || is_among vs (named name s)) ≡ true
         → (is_among vs (named name s) ≡ true → is_some (declared_sort vs name) ≡ true)
         → is_some (cond b (Some u) (declared_sort vs name)) ≡ true
-    go true e rec = refl
-    go false e rec = rec e
+    at_first true e rec = refl
+    at_first false e rec = rec e
 
 -- the first of two where there is one
 wider : (o r : Option ValueSort) (s : ValueSort) → is_sort_found (or_else o None) s ≡ true
@@ -241,34 +277,34 @@ declared-only ps rs xs e =
     (subst (λ (z : Option ValueSort). is_sort_found z s ≡ true) (sym (declared-append ps rs name)) h)) xs e
 
 -- NAMES THAT DIFFER
-none-any : (vs : List ProgVar) (name : List ℕ)
-    → not (list_any (bytes_eq name) (map name_of vs)) ≡ is_none (declared_sort vs name)
-none-any [] name = refl
-none-any (named first s ∷ vs) name = go (bytes_eq name first) (none-any vs name)
+none-any : (vs : List ProgVar) (name : List ℕ) (s : ValueSort)
+    → not (list_any (share_name (prog name s)) (map as_var vs)) ≡ is_none (declared_sort vs name)
+none-any [] name s = refl
+none-any (named first u ∷ vs) name s = at_first (bytes_eq name first) (none-any vs name s)
   where
-    go : (b : Bool)
-        → not (list_any (bytes_eq name) (map name_of vs)) ≡ is_none (declared_sort vs name)
-        → not (b || list_any (bytes_eq name) (map name_of vs))
-        ≡ is_none (cond b (Some s) (declared_sort vs name))
-    go true rec = refl
-    go false rec = rec
+    at_first : (b : Bool)
+        → not (list_any (share_name (prog name s)) (map as_var vs)) ≡ is_none (declared_sort vs name)
+        → not (b || list_any (share_name (prog name s)) (map as_var vs))
+        ≡ is_none (cond b (Some u) (declared_sort vs name))
+    at_first true rec = refl
+    at_first false rec = rec
 
 none-or : (o r : Option ValueSort) → is_none (or_else o r) ≡ (is_none o && is_none r)
 none-or None r = refl
 none-or (Some u) r = refl
 
-apart-alone : (rs : List ProgVar) → distinct_by bytes_eq (map name_of rs) ≡ are_apart rs []
+apart-alone : (rs : List ProgVar) → distinct_by share_name (map as_var rs) ≡ are_apart rs []
 apart-alone [] = refl
 apart-alone (named name s ∷ rs) =
-    λ j. (none-any rs name ∙ sym (and-true (is_none (declared_sort rs name)))) j && apart-alone rs j
+    λ j. (none-any rs name s ∙ sym (and-true (is_none (declared_sort rs name)))) j && apart-alone rs j
 
 pub distinct-apart : (ps rs : List ProgVar)
-    → distinct_by bytes_eq (map name_of (ps ++ rs)) ≡ (are_apart ps rs && are_apart rs [])
+    → distinct_by share_name (map as_var (ps ++ rs)) ≡ (are_apart ps rs && are_apart rs [])
 distinct-apart [] rs = apart-alone rs
 distinct-apart (named name s ∷ ps) rs =
-    let here : not (list_any (bytes_eq name) (map name_of (ps ++ rs)))
+    let here : not (list_any (share_name (prog name s)) (map as_var (ps ++ rs)))
     ≡ (is_none (declared_sort ps name) && is_none (declared_sort rs name)) =
-    none-any (ps ++ rs) name ∙ ap is_none (declared-append ps rs name)
+    none-any (ps ++ rs) name s ∙ ap is_none (declared-append ps rs name)
     ∙ none-or (declared_sort ps name) (declared_sort rs name) in
     (λ j. here j && distinct-apart ps rs j)
     ∙ and-and (is_none (declared_sort ps name) && is_none (declared_sort rs name)) (are_apart ps rs) (are_apart rs [])

@@ -1,5 +1,5 @@
 -- What the test of commands says.
-use Rattle.std.proofs.Common.{◌≡◌, ◌∙◌, sym, refl, ap, Bool, true, false, not, ◌&&◌, List, [], ◌∷◌, ◌++◌, map}
+use Rattle.std.proofs.Common.{◌≡◌, ◌∙◌, sym, refl, ap, Bool, true, false, not, ◌&&◌, List, [], ◌∷◌}
 use Rattle.std.specs.List.{list_all, flat_map}
 use Rattle.std.proofs.lemmas.List.Folds.{list_all-append}
 use Rattle.model_shapes.proofs.Truth.{false≢true, both_true}
@@ -11,7 +11,8 @@ use Rattle.model_terms.specs.Stores.{ProgVar, sort_of, as_var}
 use Rattle.model_commands.specs.Commands.{Command, skip, block, assign, create_node, node_name, Block, stop, ◌then◌}
 use Rattle.model_commands.specs.CommandParts.{commands_in, commands_of, variables_of_term, own_variables, locals}
 use Rattle.model_commands.specs.Theories.{Procedures}
-use Rattle.model_files.specs.FileFaults.{is_plain, evaluates, is_among, has_command, parts_fit, callee_known, spares, results_apart}
+use Rattle.model_commands.specs.SortTests.{is_plain, evaluates, is_among, has_command, parts_fit, callee_known, results_apart}
+use Rattle.model_files.specs.FileFaults.{spares}
 use Rattle.model_files.proofs.FileTests.{all-append}
 use Rattle.model_grammar.specs.FirstForm.{is_first_kind}
 use Rattle.first_form.specs.FormTests.{is_declared, is_term_declared, does_setting_fit, does_query_fit, does_command_fit, does_block_fit}

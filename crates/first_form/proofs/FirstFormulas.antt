@@ -3,18 +3,17 @@ use Rattle.std.proofs.Common.{◌≡◌, ◌∙◌, sym, refl, ap, ℕ, ◌+◌,
 use Rattle.std.specs.List.{list_all}
 use Rattle.model_shapes.specs.Sorts.{shape, node_sort, list_sort, int_sort, str_sort, bool_sort, tree, forest, grove}
 use Rattle.model_shapes.proofs.Truth.{false≢true, both_true}
-use Rattle.model_terms.specs.Variables.{Var, prog, logic, bound}
+use Rattle.model_terms.specs.Variables.{prog, logic, bound}
 use Rattle.model_terms.specs.Terms.{Term, literal, variable, sum, difference, appended}
 use Rattle.model_formulas.specs.Formulas.{Named, truth, conjunction, equality, empty}
 use Rattle.model_formulas.specs.Parts.{parts}
-use Rattle.model_formulas.specs.WellSorted.{has_sort, both_have, one_sort, both_logic_of_one_sort, own, first_fault}
+use Rattle.model_formulas.specs.WellSorted.{both_have, one_sort, both_logic_of_one_sort, own, first_fault}
 use Rattle.model_terms.specs.TermLimits.{or_else}
 use Rattle.model_terms.specs.Stores.{ProgVar}
-use Rattle.model_commands.specs.CommandParts.{variables_of_term}
-use Rattle.model_files.specs.FileFaults.{variables_of, is_argument, is_logic_variable}
+use Rattle.model_commands.specs.CommandParts.{variables_of_term, variables_of}
 use Rattle.model_files.proofs.FileTests.{all-append}
 use Rattle.model_grammar.specs.FirstForm.{is_first_formula}
-use Rattle.first_form.specs.FormTests.{is_declared, is_term_declared, are_alike, does_formula_fit, does_argument_fit}
+use Rattle.first_form.specs.FormTests.{is_declared, is_term_declared, are_alike, does_formula_fit}
 use Rattle.first_form.proofs.Declared.{join, all-join, term-declared}
 
 -- the last of six
@@ -37,34 +36,11 @@ alike-false ps rs (sum c d) b e = refl
 alike-false ps rs (difference c d) b e = refl
 alike-false ps rs (appended c d) b e = refl
 
-one-alike : (ps rs : List ProgVar) (a b : Term) → is_term_declared ps rs a ≡ true
+pub one-alike : (ps rs : List ProgVar) (a b : Term) → is_term_declared ps rs a ≡ true
     → one_sort a b ≡ are_alike a b
 one-alike ps rs a b e =
     drop-last (both_have node_sort a b) (both_have list_sort a b) (both_have int_sort a b)
     (both_have str_sort a b) (both_have bool_sort a b) (both_logic_of_one_sort a b) (alike-false ps rs a b e)
-
-logic-false : (ps rs : List ProgVar) (a : Term) → is_term_declared ps rs a ≡ true
-    → is_logic_variable a ≡ false
-logic-false ps rs (variable (prog x u)) e = refl
-logic-false ps rs (variable (logic x u)) e = false≢true e
-logic-false ps rs (variable (bound i u)) e = false≢true e
-logic-false ps rs (literal v) e = refl
-logic-false ps rs (sum c d) e = refl
-logic-false ps rs (difference c d) e = refl
-logic-false ps rs (appended c d) e = refl
-
-twice : (b : Bool) → b ≡ (b && b)
-twice true = refl
-twice false = refl
-
-pub argument-alike : (ps rs : List ProgVar) (a : Term) → is_term_declared ps rs a ≡ true
-    → is_argument a ≡ are_alike a a
-argument-alike ps rs a e =
-    drop-last (has_sort node_sort a) (has_sort list_sort a) (has_sort int_sort a)
-    (has_sort str_sort a) (has_sort bool_sort a) (is_logic_variable a) (logic-false ps rs a e)
-    ∙ (λ j. twice (has_sort node_sort a) j || (twice (has_sort list_sort a) j
-    || (twice (has_sort int_sort a) j || (twice (has_sort str_sort a) j
-    || twice (has_sort bool_sort a) j))))
 
 own-none : (b : Bool) (n : ℕ) → own b n None ≡ None → b ≡ true
 own-none true n e = refl

@@ -1,31 +1,28 @@
 -- The test of the whole theory says that it is well formed and of the first form.
-use Rattle.std.proofs.Common.{◌≡◌, ◌∙◌, sym, refl, ap, ℕ, ◌+◌, ◌==◌, Bool, true, false, not, ◌&&◌, ◌||◌, List, [], ◌∷◌, ◌++◌, map, Option, Some, None, is_none, bytes_eq, append-nil}
+use Rattle.std.proofs.Common.{◌≡◌, ◌∙◌, sym, refl, ap, ℕ, ◌+◌, ◌==◌, true, not, ◌&&◌, ◌||◌, List, [], ◌∷◌, ◌++◌, map, None, is_none, bytes_eq, append-nil}
 use Rattle.std.specs.List.{list_all, list_any}
 use Rattle.model_shapes.specs.Tests.{same_data_sort}
 use Rattle.model_shapes.specs.Sorts.{shape, grove}
 use Rattle.model_shapes.proofs.Truth.{false≢true, both_true}
 use Rattle.model_terms.specs.Variables.{Var}
-use Rattle.model_shapes.proofs.Tests.{same_data_sort-refl, same_data_sort-is}
+use Rattle.model_shapes.proofs.Tests.{same_data_sort-is}
 use Rattle.model_formulas.specs.Formulas.{Named}
-use Rattle.model_terms.specs.TermLimits.{or_else}
 use Rattle.model_formulas.specs.WellSorted.{first_fault}
-use Rattle.model_terms.specs.Stores.{ProgVar}
-use Rattle.model_commands.specs.CommandParts.{commands_in, variables_of_command, locals_of}
+use Rattle.model_terms.specs.Stores.{ProgVar, as_var}
+use Rattle.model_commands.specs.CommandParts.{commands_in, variables_of_command, variables_of}
+use Rattle.model_commands.specs.SortTests.{distinct_by}
 use Rattle.model_commands.specs.Theories.{StepOf, ProcedureOf, Theory, procedures_of}
-use Rattle.model_files.specs.FileFaults.{FileKind, version_kind, twice_kind, sort_kind, scope_kind, FileFault, unless_kind, name_of, logic_name, distinct_by, Scope, scope_of, variables_of, is_judged_at, is_logic_sort, only_among, command_kind, head_kind, step_kind, fault_at, steps_fault, procedures_fault, declarations_kind, first_file_fault, IsWellFormedTheory}
+use Rattle.model_files.specs.FileFaults.{FileKind, version_kind, twice_kind, unknown_kind, sort_kind, constant_kind, scope_kind, share_name, declared_by, scope_of, is_judged_at, is_logic_sort, only_among, declarations, inside_head, header, head_kind, proof_step, steps_from, procedures_from, first_fault_at, IsWellFormedTheory}
+use Rattle.model_files.proofs.Places.{passes-each, each-passes, first-none, both-none, none-first, none-both}
 use Rattle.model_files.proofs.FileTests.{all-append}
 use Rattle.model_grammar.specs.FirstForm.{is_first_formula, is_first_kind, is_first_command, is_first_step, is_first_procedure, is_first_form, declares_none}
 use Rattle.first_form.specs.FormTests.{is_declared, does_formula_fit, does_command_fit, do_steps_fit, are_apart, does_head_fit, do_procedures_fit, is_name_among, do_names_differ, does_theory_fit}
 use Rattle.first_form.proofs.Declared.{join, all-join, form_scope, params-only, only-params, declared-only, distinct-apart}
-use Rattle.first_form.proofs.FirstFormulas.{first-none, formula-first, formula-declared, formula-sorted, formula-fits}
-use Rattle.first_form.proofs.FirstCommands.{does_own_fit, command-list, Stand, commands-stand, standing-fit, no-locals}
-use Rattle.first_form.proofs.Places.{none-unless, unless-none, judged-none, Fine, fine-none, none-fine, does_step_fit, step-none, none-step}
+use Rattle.first_form.proofs.FirstFormulas.{formula-first, formula-declared, formula-sorted, formula-fits}
+use Rattle.first_form.proofs.FirstCommands.{command-list, Stand, commands-stand, standing-fit, no-locals}
+use Rattle.first_form.proofs.Places.{judged-none, Fine, fine-inside, inside-fine, does_step_fit, step-none, none-step}
 
 -- PLACES
-place-none : (n s : ℕ) (k : Option FileKind) → fault_at n s k ≡ None → k ≡ None
-place-none n s None e = refl
-place-none n s (Some k) e = absurd cc
-
 -- the parts of a header that fits
 pub record HeadFits (f : ProcedureOf Named) : Type 0 where
   pub sort : f.sort ≡ grove
@@ -49,25 +46,18 @@ pub record HeadIsFirst (f : ProcedureOf Named) : Type 0 where
   pub post : is_first_formula f.post ≡ true
   pub body : list_all is_first_kind (commands_in f.body) ≡ true
 
+-- its body declares no variables
+declared-is : (f : ProcedureOf Named) → list_all is_first_kind (commands_in f.body) ≡ true
+    → declared_by f ≡ f.params ++ f.results
+declared-is f k =
+    ap (λ z. f.params ++ (f.results ++ z)) (no-locals (commands_in f.body) k)
+    ∙ ap (λ z. f.params ++ z) (append-nil f.results)
+
 module _ (theory : Theory) (none : theory.logic ≡ []) where
   scope-is : (f : ProcedureOf Named) → list_all is_first_kind (commands_in f.body) ≡ true
-      → scope_of theory f ≡ form_scope f.params f.results (procedures_of theory)
+      → scope_of theory f ≡ form_scope f.params f.results
   scope-is f k =
-      let v : (f.results ++ locals_of f.body) ≡ f.results =
-      ap (λ z. f.results ++ z) (no-locals (commands_in f.body) k) ∙ append-nil f.results in
-      λ j. record { variables = f.params ++ v j; logics = none j; procedures = procedures_of theory }
-
-  -- the kind of a header in a scope
-  abbrev head_at : Scope → List (ProcedureOf Named) → ProcedureOf Named → Option FileKind
-  head_at scope earlier f =
-      unless_kind (not (list_any (λ g. bytes_eq f.name g.name) earlier)
-      && distinct_by bytes_eq (map name_of scope.variables)) twice_kind
-      (command_kind scope f.params
-      (variables_of f.pre ++ (variables_of f.post ++ variables_of_command f.body))
-      (is_judged_at (shape f.sort) f.pre && is_judged_at (shape f.sort) f.post)
-      (commands_in f.body)
-      (unless_kind (only_among f.params (variables_of f.pre)
-      && only_among (f.params ++ f.results) (variables_of f.post)) scope_kind None))
+      (λ j. map as_var (declared-is f k j) ++ none j) ∙ append-nil (form_scope f.params f.results)
 
   judged : (f : ProcedureOf Named) (p : Named) (ps rs : List ProgVar) → f.sort ≡ grove
       → does_formula_fit ps rs p ≡ true → is_judged_at (shape f.sort) p ≡ true
@@ -97,55 +87,58 @@ module _ (theory : Theory) (none : theory.logic ≡ []) where
       (sym (command-list f.params f.results f.body) ∙ h.body) in
       let pre = params-only f.params f.results (variables_of f.pre) (formula-declared f.params [] f.pre h.pre) in
       let post = formula-declared f.params f.results f.post h.post in
-      let only : (only_among f.params (variables_of f.pre)
-      && only_among (f.params ++ f.results) (variables_of f.post)) ≡ true =
-      join (only_among f.params (variables_of f.pre)) (only_among (f.params ++ f.results) (variables_of f.post)) pre.1
-      (declared-only f.params f.results (variables_of f.post) post) in
       let fine : Fine f.params f.results (procedures_of theory)
-      (variables_of f.pre ++ (variables_of f.post ++ variables_of_command f.body))
-      (is_judged_at (shape f.sort) f.pre && is_judged_at (shape f.sort) f.post) (commands_in f.body)
-      (unless_kind (only_among f.params (variables_of f.pre)
-      && only_among (f.params ++ f.results) (variables_of f.post)) scope_kind None) = record {
+      (variables_of f.pre ++ (variables_of f.post ++ variables_of_command f.body)) (commands_in f.body) =
+      record {
         declared = all-join (is_declared f.params f.results) (variables_of f.pre)
             (variables_of f.post ++ variables_of_command f.body) pre.0
             (all-join (is_declared f.params f.results) (variables_of f.post) (variables_of_command f.body) post st.declared);
-        sorting = join (is_judged_at (shape f.sort) f.pre) (is_judged_at (shape f.sort) f.post)
-            (judged f f.pre f.params [] h.sort h.pre) (judged f f.post f.params f.results h.sort h.post);
         parts = st.parts;
         spared = st.spared;
-        after = none-unless _ scope_kind None only refl;
       } in
-      ap (λ z. head_at z earlier f) (scope-is f st.kinds)
-      ∙ none-unless (not (list_any (λ g. bytes_eq f.name g.name) earlier)
-      && distinct_by bytes_eq (map name_of (f.params ++ f.results))) twice_kind _
-      (join (not (list_any (λ g. bytes_eq f.name g.name) earlier))
-      (distinct_by bytes_eq (map name_of (f.params ++ f.results))) new
-      (distinct-apart f.params f.results ∙ h.apart))
-      (fine-none f.params f.results (procedures_of theory) _ _ _ _ st.kinds fine)
+      let here : (k : FileKind) → inside_head theory f k ≡ true =
+      fine-inside theory f (scope-is f st.kinds) _ (commands_in f.body) st.kinds fine in
+      each-passes (header theory earlier f) (head-passes here
+      (join (not (list_any (λ g. bytes_eq f.name g.name) earlier)) _ new
+      (ap (λ z. distinct_by share_name (map as_var z)) (declared-is f st.kinds)
+      ∙ distinct-apart f.params f.results ∙ h.apart))
+      (join (is_judged_at (shape f.sort) f.pre) (is_judged_at (shape f.sort) f.post)
+      (judged f f.pre f.params [] h.sort h.pre) (judged f f.post f.params f.results h.sort h.post))
+      (join (only_among f.params (variables_of f.pre)) _ pre.1
+      (declared-only f.params f.results (variables_of f.post) post)))
+    where
+      head-passes : ((k : FileKind) → inside_head theory f k ≡ true)
+          → header theory earlier f twice_kind ≡ true
+          → (is_judged_at (shape f.sort) f.pre && is_judged_at (shape f.sort) f.post) ≡ true
+          → header theory earlier f scope_kind ≡ true
+          → (k : FileKind) → header theory earlier f k ≡ true
+      head-passes here once sorted scoped twice_kind = once
+      head-passes here once sorted scoped sort_kind =
+          join (is_judged_at (shape f.sort) f.pre && is_judged_at (shape f.sort) f.post) _ sorted (here sort_kind)
+      head-passes here once sorted scoped scope_kind = scoped
+      head-passes here once sorted scoped k = here k
 
   none-head : (earlier : List (ProcedureOf Named)) (f : ProcedureOf Named) → HeadIsFirst f
       → head_kind theory earlier f ≡ None
       → (does_head_fit f ≡ true) × (not (list_any (λ g. bytes_eq f.name g.name) earlier) ≡ true)
   none-head earlier f h w =
-      let a = unless-none (not (list_any (λ g. bytes_eq f.name g.name) earlier)
-      && distinct_by bytes_eq (map name_of (f.params ++ f.results))) twice_kind _
-      (sym (ap (λ z. head_at z earlier f) (scope-is f h.body)) ∙ w) in
-      let b = both_true (not (list_any (λ g. bytes_eq f.name g.name) earlier))
-      (distinct_by bytes_eq (map name_of (f.params ++ f.results))) a.0 in
-      let fine = none-fine f.params f.results (procedures_of theory)
+      let passes = passes-each (header theory earlier f) w in
+      let b = both_true (not (list_any (λ g. bytes_eq f.name g.name) earlier)) _ (passes twice_kind) in
+      let t = both_true (is_judged_at (shape f.sort) f.pre && is_judged_at (shape f.sort) f.post) _
+      (passes sort_kind) in
+      let s = both_true (is_judged_at (shape f.sort) f.pre) (is_judged_at (shape f.sort) f.post) t.0 in
+      let fine = inside-fine theory f (scope-is f h.body)
       (variables_of f.pre ++ (variables_of f.post ++ variables_of_command f.body))
-      (is_judged_at (shape f.sort) f.pre && is_judged_at (shape f.sort) f.post) (commands_in f.body)
-      (unless_kind (only_among f.params (variables_of f.pre)
-      && only_among (f.params ++ f.results) (variables_of f.post)) scope_kind None) a.1 in
-      let s = both_true (is_judged_at (shape f.sort) f.pre) (is_judged_at (shape f.sort) f.post) fine.sorting in
+      (commands_in f.body) (passes unknown_kind) t.1 (passes constant_kind) in
       let d = all-append (is_declared f.params f.results) (variables_of f.pre)
       (variables_of f.post ++ variables_of_command f.body) fine.declared in
       let d' = all-append (is_declared f.params f.results) (variables_of f.post) (variables_of_command f.body) d.1 in
       let o = both_true (only_among f.params (variables_of f.pre))
-      (only_among (f.params ++ f.results) (variables_of f.post)) (unless-none _ scope_kind None fine.after).0 in
+      (only_among (f.params ++ f.results) (variables_of f.post)) (passes scope_kind) in
       let sort : same_data_sort f.sort grove ≡ true = ap (λ z. same_data_sort z grove) h.sort in
       let apart : (are_apart f.params f.results && are_apart f.results []) ≡ true =
-      sym (distinct-apart f.params f.results) ∙ b.1 in
+      sym (distinct-apart f.params f.results)
+      ∙ sym (ap (λ z. distinct_by share_name (map as_var z)) (declared-is f h.body)) ∙ b.1 in
       let pre : does_formula_fit f.params [] f.pre ≡ true =
       formula-fits f.params [] f.pre 0 h.pre (unjudged f f.pre h.sort s.0)
       (only-params f.params f.results (variables_of f.pre) d.0 o.0) in
@@ -159,28 +152,32 @@ module _ (theory : Theory) (none : theory.logic ≡ []) where
 
   -- STEPS
   steps-none : (f : ProcedureOf Named)
-      → scope_of theory f ≡ form_scope f.params f.results (procedures_of theory)
+      → scope_of theory f ≡ form_scope f.params f.results
       → (n place : ℕ) (steps : List (StepOf Named)) → do_steps_fit f.params f.results place steps ≡ true
-      → (steps_fault theory f n place steps ≡ None) × (list_all is_first_step steps ≡ true)
+      → (first_fault_at (steps_from theory n f place steps) ≡ None) × (list_all is_first_step steps ≡ true)
   steps-none f e n place [] h = (refl, refl)
   steps-none f e n place (step ∷ steps) h =
       let a = both_true (does_step_fit f.params f.results place step)
       (do_steps_fit f.params f.results (place + 1) steps) h in
       let b = step-none theory f e place step a.0 in
-      let c = steps-none f e n (place + 1) steps a.1 in
-      ((λ j. or_else (fault_at n place (b.0 j)) (c.0 j)), join (is_first_step step) (list_all is_first_step steps) b.1 c.1)
+      let c = steps-none f e n (place + 1) steps a.1 in (
+        none-first n place (proof_step theory f place step) (steps_from theory n f (place + 1) steps)
+            b.0 c.0,
+        join (is_first_step step) (list_all is_first_step steps) b.1 c.1,
+      )
 
   none-steps : (f : ProcedureOf Named)
-      → scope_of theory f ≡ form_scope f.params f.results (procedures_of theory)
-      → (n place : ℕ) (steps : List (StepOf Named)) → steps_fault theory f n place steps ≡ None
+      → scope_of theory f ≡ form_scope f.params f.results
+      → (n place : ℕ) (steps : List (StepOf Named))
+      → first_fault_at (steps_from theory n f place steps) ≡ None
       → list_all is_first_step steps ≡ true → do_steps_fit f.params f.results place steps ≡ true
   none-steps f e n place [] w h = refl
   none-steps f e n place (step ∷ steps) w h =
-      let a = first-none (fault_at n place (step_kind theory f place step))
-      (steps_fault theory f n (place + 1) steps) w in
+      let a = first-none n place (proof_step theory f place step)
+      (steps_from theory n f (place + 1) steps) w in
       let b = both_true (is_first_step step) (list_all is_first_step steps) h in
       join (does_step_fit f.params f.results place step) (do_steps_fit f.params f.results (place + 1) steps)
-      (none-step theory f e place step (place-none n place (step_kind theory f place step) a.0) b.0)
+      (none-step theory f e place step a.0 b.0)
       (none-steps f e n (place + 1) steps a.1 b.1)
 
   -- PROCEDURES
@@ -206,7 +203,7 @@ module _ (theory : Theory) (none : theory.logic ≡ []) where
 
   procedures-none : (earlier : List (ProcedureOf Named)) (n : ℕ) (fs : List (ProcedureOf Named))
       → do_procedures_fit fs ≡ true → do_names_differ (map (λ g. g.name) earlier) fs ≡ true
-      → (procedures_fault theory earlier n fs ≡ None) × (list_all is_first_procedure fs ≡ true)
+      → (first_fault_at (procedures_from theory earlier n fs) ≡ None) × (list_all is_first_procedure fs ≡ true)
   procedures-none earlier n [] e d = (refl, refl)
   procedures-none earlier n (f ∷ fs) e d =
       let a = both_true (does_head_fit f && do_steps_fit f.params f.results 1 f.proof) (do_procedures_fit fs) e in
@@ -219,20 +216,24 @@ module _ (theory : Theory) (none : theory.logic ≡ []) where
       head-none earlier f h (ap not (name-any f.name earlier) ∙ c.0) in
       let s = steps-none f (scope-is f k.body) n 1 f.proof b.1 in
       let later = procedures-none (f ∷ earlier) (n + 1) fs a.1 c.1 in (
-        (λ j. or_else (fault_at n 0 (here j)) (or_else (s.0 j) (later.0 j))),
+        none-first n 0 (header theory earlier f) (steps_from theory n f 1 f.proof
+            ++ procedures_from theory (f ∷ earlier) (n + 1) fs) here
+            (none-both (steps_from theory n f 1 f.proof)
+            (procedures_from theory (f ∷ earlier) (n + 1) fs) s.0 later.0),
         join (is_first_procedure f) (list_all is_first_procedure fs) (first-procedure f k s.1) later.1,
       )
 
   none-procedures : (earlier : List (ProcedureOf Named)) (n : ℕ) (fs : List (ProcedureOf Named))
-      → procedures_fault theory earlier n fs ≡ None → list_all is_first_procedure fs ≡ true
+      → first_fault_at (procedures_from theory earlier n fs) ≡ None → list_all is_first_procedure fs ≡ true
       → (do_procedures_fit fs ≡ true) × (do_names_differ (map (λ g. g.name) earlier) fs ≡ true)
   none-procedures earlier n [] w e = (refl, refl)
   none-procedures earlier n (f ∷ fs) w e =
-      let a = first-none (fault_at n 0 (head_kind theory earlier f)) _ w in
-      let b = first-none (steps_fault theory f n 1 f.proof) (procedures_fault theory (f ∷ earlier) (n + 1) fs) a.1 in
+      let a = first-none n 0 (header theory earlier f) (steps_from theory n f 1 f.proof
+      ++ procedures_from theory (f ∷ earlier) (n + 1) fs) w in
+      let b = both-none (steps_from theory n f 1 f.proof) _ a.1 in
       let c = both_true (is_first_procedure f) (list_all is_first_procedure fs) e in
       let k = procedure-first f c.0 in
-      let h = none-head earlier f k.0 (place-none n 0 (head_kind theory earlier f) a.0) in
+      let h = none-head earlier f k.0 a.0 in
       let s : do_steps_fit f.params f.results 1 f.proof ≡ true =
       none-steps f (scope-is f k.0.body) n 1 f.proof b.0 k.1 in
       let later = none-procedures (f ∷ earlier) (n + 1) fs b.1 c.1 in (
@@ -247,6 +248,13 @@ no-logic : (xs : List Var) → declares_none xs ≡ true → xs ≡ []
 no-logic [] e = refl
 no-logic (x ∷ xs) e = false≢true e
 
+declared-none : (theory : Theory) → (theory.version == 1) ≡ true → theory.logic ≡ []
+    → (k : FileKind) → declarations theory k ≡ true
+declared-none theory version none version_kind = version
+declared-none theory version none twice_kind = ap (λ z. distinct_by share_name z) none
+declared-none theory version none sort_kind = ap (λ z. list_all is_logic_sort z) none
+declared-none theory version none k = refl
+
 pub fitting_is : (theory : Theory) → does_theory_fit theory ≡ true
     → IsWellFormedTheory theory × (is_first_form theory ≡ true)
 fitting_is theory e =
@@ -255,18 +263,17 @@ fitting_is theory e =
     let c = both_true (do_procedures_fit theory.procedures) (do_names_differ [] theory.procedures) a.1 in
     let none : theory.logic ≡ [] = no-logic theory.logic b.1 in
     let p = procedures-none theory none [] 1 theory.procedures c.0 c.1 in (
-      (λ j. or_else (fault_at 0 0 (unless_kind (b.0 j) version_kind
-          (unless_kind (distinct_by bytes_eq (map logic_name (none j))) twice_kind
-          (unless_kind (list_all is_logic_sort (none j)) sort_kind None)))) (p.0 j)),
+      none-first 0 0 (declarations theory) (procedures_from theory [] 1 theory.procedures)
+          (each-passes (declarations theory) (declared-none theory b.0 none)) p.0,
       join (declares_none theory.logic) (list_all is_first_procedure theory.procedures) b.1 p.1,
     )
 
 pub is_fitting : (theory : Theory) → IsWellFormedTheory theory → is_first_form theory ≡ true
     → does_theory_fit theory ≡ true
 is_fitting theory w e =
-    let a = first-none (fault_at 0 0 (declarations_kind theory)) (procedures_fault theory [] 1 theory.procedures) w in
+    let a = first-none 0 0 (declarations theory) (procedures_from theory [] 1 theory.procedures) w in
     let b = both_true (declares_none theory.logic) (list_all is_first_procedure theory.procedures) e in
-    let version = unless-none (theory.version == 1) version_kind _ (place-none 0 0 (declarations_kind theory) a.0) in
+    let version = passes-each (declarations theory) a.0 version_kind in
     let none : theory.logic ≡ [] = no-logic theory.logic b.0 in
     let p = none-procedures theory none [] 1 theory.procedures a.1 b.1 in
-    λ j. (version.0 j && b.0 j) && (p.0 j && p.1 j)
+    λ j. (version j && b.0 j) && (p.0 j && p.1 j)

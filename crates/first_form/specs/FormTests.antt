@@ -1,8 +1,8 @@
 -- Being well formed and of the first form as one test that goes down a theory. Nothing here is to be
 -- believed: the proofs tie it to the definitions. The parameters and the results of the procedure
 -- are passed along, as the variables that may stand at a place.
-use Rattle.std.specs.Prelude.{ℕ, ◌+◌, ◌==◌, Bool, true, false, not, ◌&&◌, ◌||◌, List, [], ◌∷◌, Option, Some, None, is_none, bytes_eq}
-use Rattle.std.specs.List.{list_all, list_any}
+use Rattle.std.specs.Prelude.{ℕ, ◌+◌, ◌==◌, Bool, true, false, not, ◌&&◌, ◌||◌, cond, List, [], ◌∷◌, Option, Some, None, is_none, bytes_eq}
+use Rattle.std.specs.List.{list_all}
 use Rattle.model_shapes.specs.Tests.{same_data_sort, same_value_sort}
 use Rattle.model_shapes.specs.Sorts.{ValueSort, node_sort, list_sort, int_sort, str_sort, bool_sort, grove}
 use Rattle.model_terms.specs.Variables.{Var, prog}
@@ -13,8 +13,14 @@ use Rattle.model_terms.specs.TermLimits.{or_else}
 use Rattle.model_terms.specs.Stores.{ProgVar, named, sort_of, as_var}
 use Rattle.model_commands.specs.Commands.{Command, skip, block, assign, create_node, node_name, Block, stop, ◌then◌}
 use Rattle.model_commands.specs.Theories.{JudgementOf, entails, triple, Reason, auto, by_rule, StepOf, ProcedureOf, Theory}
-use Rattle.model_files.specs.FileFaults.{declared_sort, is_among, has_command}
+use Rattle.model_commands.specs.SortTests.{is_among, has_command}
 use Rattle.model_grammar.specs.FirstForm.{is_first_reason, declares_none}
+
+-- the sort with which a name is declared first
+abbrev pub declared_sort : List ProgVar → List ℕ → Option ValueSort
+declared_sort [] name = None
+declared_sort (named first s ∷ rest) name =
+    cond (bytes_eq name first) (Some s) (declared_sort rest name)
 
 -- declared with this sort
 abbrev pub is_sort_found : Option ValueSort → ValueSort → Bool

@@ -3,7 +3,7 @@ ghost use Rattle.std.specs.Prelude.{◌≡◌, map};
 ghost use Rattle.dom_terms.specs.Sorts.{value_sort_of};
 ghost use Rattle.dom_terms.specs.Terms.{prog_var_of, term_of};
 ghost use Rattle.dom_syntax.specs.Commands.{block_of, command_of};
-ghost use Rattle.model_files.specs.FileFaults as faults;
+ghost use Rattle.model_commands.specs.SortTests as sorts;
 ghost use Rattle.first_form.specs.FormTests as tests;
 
 use crate::scopes::{is_among, is_declared};
@@ -30,7 +30,7 @@ fn does_setting_fit(
 }
 
 fn has_command(block: &Block) -> bool
-    ensures { result ≡ faults.has_command (block_of block.now) }
+    ensures { result ≡ sorts.has_command (block_of block.now) }
 {
     match block.as_slice() {
         [] => false,

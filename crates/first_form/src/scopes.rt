@@ -1,6 +1,6 @@
 // The variables that are declared: the parameters and the results of a procedure.
 ghost use Rattle.std.specs.Prelude.{◌≡◌, MatchOption, None, Some, map};
-ghost use Rattle.model_files.specs.FileFaults as faults;
+ghost use Rattle.model_commands.specs.SortTests as sorts;
 ghost use Rattle.dom_terms.specs.Sorts.{value_sort_of};
 ghost use Rattle.dom_terms.specs.Terms.{prog_var_of, var_of};
 ghost use Rattle.first_form.specs.FormTests as tests;
@@ -10,8 +10,8 @@ use dom_terms::{ProgVar, Text, ValueSort, same_prog_var, same_text, same_value_s
 // The sort with which the name is declared first.
 fn declared_sort(variables: &[ProgVar], name: &Text) -> Option<ValueSort>
     ensures { MatchOption result
-        (faults.declared_sort (map prog_var_of variables.now) name.now ≡ None)
-        (λ sort. faults.declared_sort (map prog_var_of variables.now) name.now
+        (tests.declared_sort (map prog_var_of variables.now) name.now ≡ None)
+        (λ sort. tests.declared_sort (map prog_var_of variables.now) name.now
         ≡ Some (value_sort_of sort)) }
 {
     let mut rest = variables;
@@ -41,7 +41,7 @@ pub(crate) fn is_declared(params: &[ProgVar], results: &[ProgVar], variable: &Pr
 
 // Whether the variable is one of these.
 pub(crate) fn is_among(variables: &[ProgVar], variable: &ProgVar) -> bool
-    ensures { result ≡ faults.is_among (map prog_var_of variables.now) (prog_var_of variable.now) }
+    ensures { result ≡ sorts.is_among (map prog_var_of variables.now) (prog_var_of variable.now) }
 {
     let mut rest = variables;
     'variables: while let [first, others @ ..] = rest {

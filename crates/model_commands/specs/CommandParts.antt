@@ -1,11 +1,13 @@
--- What stands in a command: its commands in the order of the text, and what each has of its own.
--- The definitions of file faults, limits and modified variables are read off these lists.
+-- What stands in a command: its commands in the order of the text, and what each has of its own; and
+-- what stands in formulas and steps. File faults and the limit of variables are read off these lists.
 use Rattle.std.specs.Prelude.{List, [], ◌∷◌, ◌++◌, map}
 use Rattle.std.specs.List.{flat_map}
 use Rattle.model_terms.specs.Variables.{Var}
 use Rattle.model_terms.specs.Terms.{Term, literal, variable, sum, difference, appended}
 use Rattle.model_terms.specs.Stores.{ProgVar, as_var}
 use Rattle.model_terms.specs.Conditions.{Cond, cond_true, cond_false, cond_variable, cond_equal, cond_at_most, cond_not, cond_and, cond_or}
+use Rattle.model_formulas.specs.Formulas.{Named, conjunction, disjunction, implication, negation, existential, universal, equality, at_most, node_formula, one_tree, one_root, concatenation, grove_sum, grove_sum_hole, application, hole_adjoint, context_adjoint, same_as, length_is, value_meets}
+use Rattle.model_commands.specs.Theories.{JudgementOf, entails, triple, Reason, auto, by_rule}
 use Rattle.model_commands.specs.Commands.{Command, block, assign, create_node, node_name, child_nodes, parent_node, list_item, append_child, remove_child, if_else, while_do, local, call, Block, stop, ◌then◌}
 
 -- the command and each command in its blocks, in the order of the text
@@ -84,3 +86,45 @@ variables_of_command command = flat_map own_variables (commands_in command)
 -- the local variables of a body, in the order of the text
 abbrev pub locals_of : Command → List ProgVar
 locals_of command = flat_map locals (commands_in command)
+
+-- FORMULAS AND STEPS: the variables of a formula, those of its quantifiers included
+abbrev pub variables_of : Named → List Var
+variables_of (conjunction p q) = variables_of p ++ variables_of q
+variables_of (disjunction p q) = variables_of p ++ variables_of q
+variables_of (implication p q) = variables_of p ++ variables_of q
+variables_of (negation p) = variables_of p
+variables_of (existential x p) = x ∷ variables_of p
+variables_of (universal x p) = x ∷ variables_of p
+variables_of (equality a b) = variables_of_term a ++ variables_of_term b
+variables_of (at_most a b) = variables_of_term a ++ variables_of_term b
+variables_of (node_formula name number p list) =
+    variables_of_term name
+    ++ (variables_of_term number ++ (variables_of p ++ variables_of_term list))
+variables_of (one_tree p) = variables_of p
+variables_of (one_root p) = variables_of p
+variables_of (concatenation side p q) = variables_of p ++ variables_of q
+variables_of (grove_sum p q) = variables_of p ++ variables_of q
+variables_of (grove_sum_hole p q) = variables_of p ++ variables_of q
+variables_of (application h p q) = variables_of p ++ variables_of q
+variables_of (hole_adjoint p q) = variables_of p ++ variables_of q
+variables_of (context_adjoint k p q) = variables_of p ++ variables_of q
+variables_of (same_as a) = variables_of_term a
+variables_of (length_is a) = variables_of_term a
+variables_of (value_meets s a p) = variables_of_term a ++ variables_of p
+variables_of formula = []
+
+-- the variables of a judgement
+abbrev pub variables_of_judgement : JudgementOf Named → List Var
+variables_of_judgement (entails p q s) = variables_of p ++ variables_of q
+variables_of_judgement (triple p c q d) =
+    variables_of p ++ (variables_of q ++ variables_of_command c)
+
+-- its commands
+abbrev pub commands_of_judgement : JudgementOf Named → List Command
+commands_of_judgement (entails p q s) = []
+commands_of_judgement (triple p c q d) = commands_in c
+
+-- the arguments of a step
+abbrev pub arguments_of : Reason → List Term
+arguments_of auto = []
+arguments_of (by_rule name premises arguments) = arguments

@@ -1,22 +1,24 @@
 -- What the tests of file faults say of terms, conditions, calls and commands.
-use Rattle.std.proofs.Common.{◌≡◌, ◌⊎◌, List, [], ◌∷◌, ◌++◌, Bool, true, false, not, ◌&&◌, ◌||◌, sym, refl, subst, inl, inr, Option, Some, None}
+use Rattle.std.proofs.Common.{◌≡◌, ◌∙◌, ◌⊎◌, List, [], ◌∷◌, ◌++◌, Bool, true, false, not, ◌&&◌, ◌||◌, sym, refl, subst, inl, inr, Option, Some, None}
 use Rattle.std.specs.List.{list_all, list_any, flat_map}
+use Rattle.std.proofs.lemmas.List.Folds.{list_all-append, list_any-append}
 use Rattle.model_shapes.specs.Tests.{same_value_sort}
 use Rattle.model_shapes.specs.Sorts.{ValueSort, node_sort, list_sort, int_sort, str_sort, bool_sort}
 use Rattle.model_shapes.specs.Values.{FitsValue, value_sort}
 use Rattle.model_shapes.proofs.Truth.{false≢true, both_true}
+use Rattle.model_terms.specs.VariableTests.{same_var}
 use Rattle.model_terms.specs.Variables.{Var, prog, logic, bound}
 use Rattle.model_shapes.proofs.Tests.{same_value_sort-is}
-use Rattle.model_terms.specs.Terms.{Term, literal, variable, sum, difference, appended}
+use Rattle.model_terms.specs.Terms.{Term, literal, variable, sum, difference, appended, InTerm}
 use Rattle.model_formulas.specs.WellSorted.{has_sort, both_have, one_sort, both_logic_of_one_sort, is_literal}
 use Rattle.model_formulas.proofs.SortedTerms.{literal-fits}
-use Rattle.model_terms.specs.Stores.{ProgVar, named, sort_of, same_name, Computes}
+use Rattle.model_terms.specs.Stores.{ProgVar, as_var, sort_of, same_name, Computes}
 use Rattle.model_terms.specs.Conditions.{Cond, cond_true, cond_false, cond_variable, cond_equal, cond_at_most, cond_not, cond_and, cond_or, Tests}
 use Rattle.model_commands.specs.Commands.{Command, skip, block, assign, create_node, node_name, child_nodes, parent_node, list_item, append_child, remove_child, if_else, while_do, local, call, Block, stop, ◌then◌, Among}
 use Rattle.model_commands.specs.CommandParts.{commands_in, commands_of, variables_of_term}
 use Rattle.model_commands.specs.Theories.{Procedure, Procedures, procedure_named}
-use Rattle.model_commands.specs.Sorting.{Feed, Receive, CallFits, Distinct, Sorted, BlockSorted}
-use Rattle.model_files.specs.FileFaults.{is_program, is_plain, evaluates, condition_sorted, feeds, receives, call_fits, parts_fit, has_command, callee_known, is_among, distinct_by, stands_in, results_apart}
+use Rattle.model_commands.specs.Sorting.{Feed, Receive, CallFits, Distinct, InTerms, Sorted, BlockSorted}
+use Rattle.model_commands.specs.SortTests.{is_program, is_plain, evaluates, condition_sorted, feeds, receives, call_fits, parts_fit, has_command, callee_known, is_among, distinct_by, stands_in, results_apart}
 use Rattle.model_terms.proofs.StoreLaws.{same_name-refl}
 use Rattle.model_commands.proofs.StoreLaws.{either-true}
 
@@ -24,12 +26,8 @@ use Rattle.model_commands.proofs.StoreLaws.{either-true}
 -- a test of each member of two lists
 pub all-append : {A : Type 0} (p : A → Bool) (xs ys : List A) → list_all p (xs ++ ys) ≡ true
     → (list_all p xs ≡ true) × (list_all p ys ≡ true)
-all-append p [] ys e = (refl, e)
-all-append p (x ∷ xs) ys e =
-    let h : (p x ≡ true) × (list_all p (xs ++ ys) ≡ true) =
-    both_true (p x) (list_all p (xs ++ ys)) e in
-    let r : (list_all p xs ≡ true) × (list_all p ys ≡ true) = all-append p xs ys h.1 in
-    ((λ j. h.0 j && r.0 j), r.1)
+all-append p xs ys e =
+    both_true (list_all p xs) (list_all p ys) (sym (list_all-append p xs ys) ∙ e)
 
 -- a test and its denial aren't both true
 pub not-both : (b : Bool) → not b ≡ true → b ≡ true → ⊥
@@ -198,26 +196,45 @@ apart-distinct (x ∷ xs) e =
 -- a variable that stands in one of two lists
 pub stands-left : (xs ys : List Var) (x : ProgVar) → stands_in xs x ≡ true
     → stands_in (xs ++ ys) x ≡ true
-stands-left [] ys x e = false≢true e
-stands-left (prog n s ∷ xs) ys x e =
-    go (same_name x (named n s)) e (stands-left xs ys x)
-  where
-    go : (b : Bool) → (b || stands_in xs x) ≡ true
-        → (stands_in xs x ≡ true → stands_in (xs ++ ys) x ≡ true)
-        → (b || stands_in (xs ++ ys) x) ≡ true
-    go true q rec = refl
-    go false q rec = rec q
-stands-left (logic n s ∷ xs) ys x e = stands-left xs ys x e
-stands-left (bound i s ∷ xs) ys x e = stands-left xs ys x e
+stands-left xs ys x e =
+    list_any-append (same_var (as_var x)) xs ys ∙ left-true (stands_in xs x) (stands_in ys x) e
 
 -- in the second
 pub stands-right : (xs ys : List Var) (x : ProgVar) → stands_in ys x ≡ true
     → stands_in (xs ++ ys) x ≡ true
-stands-right [] ys x e = e
-stands-right (prog n s ∷ xs) ys x e =
-    right-true (same_name x (named n s)) (stands_in (xs ++ ys) x) (stands-right xs ys x e)
-stands-right (logic n s ∷ xs) ys x e = stands-right xs ys x e
-stands-right (bound i s ∷ xs) ys x e = stands-right xs ys x e
+stands-right xs ys x e =
+    list_any-append (same_var (as_var x)) xs ys ∙ right-true (stands_in xs x) (stands_in ys x) e
+
+-- the variable itself
+stands-itself : (y : Var) (x : ProgVar) → as_var x ≡ y → stands_in (y ∷ []) x ≡ true
+stands-itself y x e =
+    subst (λ z. stands_in (z ∷ []) x ≡ true) e (left-true (same_name x x) false (same_name-refl x))
+
+-- a variable that stands in a term
+pub stands-term : (t : Term) (x : ProgVar) → InTerm (as_var x) t
+    → stands_in (variables_of_term t) x ≡ true
+stands-term (literal v) x m = absurd m
+stands-term (variable y) x m = stands-itself y x m
+stands-term (sum a b) x (inl m) =
+    stands-left (variables_of_term a) (variables_of_term b) x (stands-term a x m)
+stands-term (sum a b) x (inr m) =
+    stands-right (variables_of_term a) (variables_of_term b) x (stands-term b x m)
+stands-term (difference a b) x (inl m) =
+    stands-left (variables_of_term a) (variables_of_term b) x (stands-term a x m)
+stands-term (difference a b) x (inr m) =
+    stands-right (variables_of_term a) (variables_of_term b) x (stands-term b x m)
+stands-term (appended a b) x (inl m) =
+    stands-left (variables_of_term a) (variables_of_term b) x (stands-term a x m)
+stands-term (appended a b) x (inr m) =
+    stands-right (variables_of_term a) (variables_of_term b) x (stands-term b x m)
+
+stands-terms : (ts : List Term) (x : ProgVar) → InTerms (as_var x) ts
+    → stands_in (flat_map variables_of_term ts) x ≡ true
+stands-terms [] x m = absurd m
+stands-terms (t ∷ ts) x (inl m) =
+    stands-left (variables_of_term t) (flat_map variables_of_term ts) x (stands-term t x m)
+stands-terms (t ∷ ts) x (inr m) =
+    stands-right (variables_of_term t) (flat_map variables_of_term ts) x (stands-terms ts x m)
 
 -- what a test of each says of one
 pub each-among : (p : ProgVar → Bool) (xs : List ProgVar) → list_all p xs ≡ true → (x : ProgVar)

@@ -1,6 +1,6 @@
 -- What the tests of names and scopes say: of names that are distinct, of variables that are set,
 -- and of program variables that stand free.
-use Rattle.std.proofs.Common.{◌≡◌, ◌⊎◌, ℕ, List, [], ◌∷◌, ◌++◌, map, Bool, true, false, not, ◌||◌, sym, refl, subst, inl, inr, bytes_eq}
+use Rattle.std.proofs.Common.{◌≡◌, ◌⊎◌, ℕ, List, [], ◌∷◌, ◌++◌, map, Bool, true, false, not, ◌||◌, sym, refl, subst, inl, inr}
 use Rattle.std.specs.List.{list_all, list_any}
 use Rattle.model_shapes.specs.Sorts.{ValueSort}
 use Rattle.model_shapes.proofs.Truth.{false≢true, both_true}
@@ -13,8 +13,9 @@ use Rattle.model_formulas.specs.Substitution.{FreeIn}
 use Rattle.model_formulas.specs.Nameless.{nameless, walked, naming, names, name_or}
 use Rattle.model_terms.specs.Stores.{ProgVar, named, as_var, same_name}
 use Rattle.model_commands.specs.Commands.{Command, skip, block, assign, create_node, node_name, child_nodes, parent_node, list_item, append_child, remove_child, if_else, while_do, local, call, Block, stop, ◌then◌, Among, Modifies, BlockModifies}
-use Rattle.model_commands.specs.CommandParts.{commands_in, commands_of, targets, variables_of_term}
-use Rattle.model_files.specs.FileFaults.{name_of, distinct_by, is_among, stands_in, spares, only_among, variables_of}
+use Rattle.model_commands.specs.CommandParts.{commands_in, commands_of, targets, variables_of_term, variables_of}
+use Rattle.model_commands.specs.SortTests.{distinct_by, is_among, stands_in}
+use Rattle.model_files.specs.FileFaults.{share_name, spares, only_among}
 use Rattle.model_terms.proofs.StoreLaws.{same_name-is, same_name-refl}
 use Rattle.model_files.proofs.FileTests.{all-append, not-both, left-true, right-true, among-test, stands-left, stands-right, each-among}
 
@@ -28,40 +29,43 @@ among-right : (xs ys : List ProgVar) (x : ProgVar) → Among ys x → Among (xs 
 among-right [] ys x m = m
 among-right (z ∷ xs) ys x m = inr (among-right xs ys x m)
 
--- the name of a variable is among the names
+-- a variable shares its name with itself, and so with one of those that it is among
+share_name-refl : (x : ProgVar) → share_name (as_var x) (as_var x) ≡ true
+share_name-refl (named name s) = bytes-refl name
+
 name-test : (xs : List ProgVar) (x : ProgVar) → Among xs x
-    → list_any (bytes_eq (name_of x)) (map name_of xs) ≡ true
+    → list_any (share_name (as_var x)) (map as_var xs) ≡ true
 name-test [] x m = absurd m
 name-test (z ∷ xs) x (inl q) =
-    left-true (bytes_eq (name_of x) (name_of z)) (list_any (bytes_eq (name_of x)) (map name_of xs))
-    (subst (λ y. bytes_eq (name_of x) (name_of y) ≡ true) q (bytes-refl (name_of x)))
+    left-true (share_name (as_var x) (as_var z)) (list_any (share_name (as_var x)) (map as_var xs))
+    (subst (λ y. share_name (as_var x) (as_var y) ≡ true) q (share_name-refl x))
 name-test (z ∷ xs) x (inr m) =
-    right-true (bytes_eq (name_of x) (name_of z)) (list_any (bytes_eq (name_of x)) (map name_of xs))
+    right-true (share_name (as_var x) (as_var z)) (list_any (share_name (as_var x)) (map as_var xs))
     (name-test xs x m)
 
 -- distinct names in one list and another belong to different variables
-distinct-apart : (xs ys : List ProgVar) → distinct_by bytes_eq (map name_of (xs ++ ys)) ≡ true
+distinct-apart : (xs ys : List ProgVar) → distinct_by share_name (map as_var (xs ++ ys)) ≡ true
     → (x : ProgVar) → Among xs x → Among ys x → ⊥
 distinct-apart [] ys e x m n = m
-distinct-apart (z ∷ xs) ys e x m n = go m (λ q m'. distinct-apart xs ys q x m' n)
+distinct-apart (z ∷ xs) ys e x m n = first m (λ q m'. distinct-apart xs ys q x m' n)
   where
-    tests : (not (list_any (bytes_eq (name_of z)) (map name_of (xs ++ ys))) ≡ true)
-        × (distinct_by bytes_eq (map name_of (xs ++ ys)) ≡ true)
+    tests : (not (list_any (share_name (as_var z)) (map as_var (xs ++ ys))) ≡ true)
+        × (distinct_by share_name (map as_var (xs ++ ys)) ≡ true)
     tests =
-        both_true (not (list_any (bytes_eq (name_of z)) (map name_of (xs ++ ys))))
-        (distinct_by bytes_eq (map name_of (xs ++ ys))) e
+        both_true (not (list_any (share_name (as_var z)) (map as_var (xs ++ ys))))
+        (distinct_by share_name (map as_var (xs ++ ys))) e
 
-    go : (x ≡ z) ⊎ Among xs x
-        → (distinct_by bytes_eq (map name_of (xs ++ ys)) ≡ true → Among xs x → ⊥) → ⊥
-    go (inl q) rec =
-        not-both (list_any (bytes_eq (name_of z)) (map name_of (xs ++ ys))) tests.0
-        (subst (λ y. list_any (bytes_eq (name_of y)) (map name_of (xs ++ ys)) ≡ true) q
+    first : (x ≡ z) ⊎ Among xs x
+        → (distinct_by share_name (map as_var (xs ++ ys)) ≡ true → Among xs x → ⊥) → ⊥
+    first (inl q) rec =
+        not-both (list_any (share_name (as_var z)) (map as_var (xs ++ ys))) tests.0
+        (subst (λ y. list_any (share_name (as_var y)) (map as_var (xs ++ ys)) ≡ true) q
         (name-test (xs ++ ys) x (among-right xs ys x n)))
-    go (inr m') rec = rec tests.1 m'
+    first (inr m') rec = rec tests.1 m'
 
 -- parameters and results with distinct names are apart
 pub names-apart : (xs ys zs : List ProgVar)
-    → distinct_by bytes_eq (map name_of (xs ++ (ys ++ zs))) ≡ true
+    → distinct_by share_name (map as_var (xs ++ (ys ++ zs))) ≡ true
     → (x : ProgVar) → Among xs x → Among ys x → ⊥
 names-apart xs ys zs e x m n = distinct-apart xs (ys ++ zs) e x m (among-left ys zs x n)
 
@@ -267,8 +271,8 @@ only-stands allowed (prog n s ∷ rest) x e m =
     go true q m rec =
         subst (λ z. is_among allowed z ≡ true) (sym (same_name-is x (named n s) q)) tests.0
     go false q m rec = rec tests.1 m
-only-stands allowed (logic n s ∷ rest) x e m = only-stands allowed rest x e m
-only-stands allowed (bound i s ∷ rest) x e m = only-stands allowed rest x e m
+only-stands allowed (logic n s ∷ rest) (named k u) e m = only-stands allowed rest (named k u) e m
+only-stands allowed (bound i s ∷ rest) (named k u) e m = only-stands allowed rest (named k u) e m
 
 -- a formula with these program variables alone has no others free
 pub only-free : (allowed : List ProgVar) (p : Named) → only_among allowed (variables_of p) ≡ true

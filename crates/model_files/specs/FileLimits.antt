@@ -3,12 +3,13 @@ use Rattle.std.specs.Prelude.{ℕ, ◌+◌, Bool, true, ◌&&◌, List, [], ◌�
 use Rattle.model_limits.specs.Limits.{standard_limits}
 use Rattle.model_formulas.specs.Formulas.{Named}
 use Rattle.model_commands.specs.Theories.{ProcedureOf}
+use Rattle.model_files.specs.FileFaults.{declared_by}
 
--- no procedure declares more variables than the most
+-- no procedure declares more variables than the most, its parameters, results and locals
 abbrev pub variables_within : List (ProcedureOf Named) → Bool
 variables_within [] = true
 variables_within (f ∷ fs) =
-    nat_le (length f.params + length f.results) standard_limits.variables && variables_within fs
+    nat_le (length (declared_by f)) standard_limits.variables && variables_within fs
 
 -- the steps of all proofs
 abbrev pub step_count : List (ProcedureOf Named) → ℕ

@@ -1,5 +1,5 @@
 use Rattle.std.proofs.Common.{◌≡◌, ◌≤◌, ◌∙◌, ap, true, refl, List, [], ◌∷◌, length, arith}
-use Rattle.model_files.specs.FileFaults.{has_command}
+use Rattle.model_commands.specs.SortTests.{has_command}
 use Rattle.dom_syntax.specs.Commands.{block_of}
 use Rattle.dom_syntax.specs.declared.commands.Command.{Command}
 use Rattle.first_form.proofs.commands.has_command.Goals as goal

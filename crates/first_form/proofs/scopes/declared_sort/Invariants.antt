@@ -1,6 +1,6 @@
 use Rattle.std.proofs.Common.{◌≡◌, length, map}
 use Rattle.dom_terms.specs.Terms.{prog_var_of}
-use Rattle.model_files.specs.FileFaults.{declared_sort}
+use Rattle.first_form.specs.FormTests.{declared_sort}
 use Rattle.first_form.proofs.scopes.declared_sort.Given as goal
 
 abbrev pub invariant-variables : goal.invariant-variables

@@ -1,6 +1,6 @@
 use Rattle.std.proofs.Common.{◌≡◌, length, map}
 use Rattle.dom_terms.specs.Terms.{prog_var_of}
-use Rattle.model_files.specs.FileFaults.{is_among}
+use Rattle.model_commands.specs.SortTests.{is_among}
 use Rattle.first_form.proofs.scopes.is_among.Given as goal
 
 abbrev pub invariant-variables : goal.invariant-variables
