@@ -9,7 +9,7 @@ use Rattle.model_shapes.proofs.Truth.{false≢true, both_true}
 use Rattle.model_terms.specs.VariableTests.{same_var}
 use Rattle.model_terms.specs.Variables.{Var, prog, logic, bound}
 use Rattle.model_shapes.proofs.Tests.{same_value_sort-is}
-use Rattle.model_terms.specs.Terms.{Term, literal, variable, sum, difference, appended, InTerm}
+use Rattle.model_terms.specs.Terms.{Term, literal, variable, sum, difference, appended}
 use Rattle.model_formulas.specs.WellSorted.{has_sort, both_have, one_sort, both_logic_of_one_sort, is_literal}
 use Rattle.model_formulas.proofs.SortedTerms.{literal-fits}
 use Rattle.model_terms.specs.Stores.{ProgVar, as_var, sort_of, same_name, Computes}
@@ -17,7 +17,7 @@ use Rattle.model_terms.specs.Conditions.{Cond, cond_true, cond_false, cond_varia
 use Rattle.model_commands.specs.Commands.{Command, skip, block, assign, create_node, node_name, child_nodes, parent_node, list_item, append_child, remove_child, if_else, while_do, local, call, Block, stop, ◌then◌, Among}
 use Rattle.model_commands.specs.CommandParts.{commands_in, commands_of, variables_of_term}
 use Rattle.model_commands.specs.Theories.{Procedure, Procedures, procedure_named}
-use Rattle.model_commands.specs.Sorting.{Feed, Receive, CallFits, Distinct, InTerms, Sorted, BlockSorted}
+use Rattle.model_commands.specs.Sorting.{Feed, Receive, CallFits, Distinct, Sorted, BlockSorted}
 use Rattle.model_commands.specs.SortTests.{is_program, is_plain, evaluates, condition_sorted, feeds, receives, call_fits, parts_fit, has_command, callee_known, is_among, distinct_by, stands_in, results_apart}
 use Rattle.model_terms.proofs.StoreLaws.{same_name-refl}
 use Rattle.model_commands.proofs.StoreLaws.{either-true}
@@ -204,37 +204,6 @@ pub stands-right : (xs ys : List Var) (x : ProgVar) → stands_in ys x ≡ true
     → stands_in (xs ++ ys) x ≡ true
 stands-right xs ys x e =
     list_any-append (same_var (as_var x)) xs ys ∙ right-true (stands_in xs x) (stands_in ys x) e
-
--- the variable itself
-stands-itself : (y : Var) (x : ProgVar) → as_var x ≡ y → stands_in (y ∷ []) x ≡ true
-stands-itself y x e =
-    subst (λ z. stands_in (z ∷ []) x ≡ true) e (left-true (same_name x x) false (same_name-refl x))
-
--- a variable that stands in a term
-pub stands-term : (t : Term) (x : ProgVar) → InTerm (as_var x) t
-    → stands_in (variables_of_term t) x ≡ true
-stands-term (literal v) x m = absurd m
-stands-term (variable y) x m = stands-itself y x m
-stands-term (sum a b) x (inl m) =
-    stands-left (variables_of_term a) (variables_of_term b) x (stands-term a x m)
-stands-term (sum a b) x (inr m) =
-    stands-right (variables_of_term a) (variables_of_term b) x (stands-term b x m)
-stands-term (difference a b) x (inl m) =
-    stands-left (variables_of_term a) (variables_of_term b) x (stands-term a x m)
-stands-term (difference a b) x (inr m) =
-    stands-right (variables_of_term a) (variables_of_term b) x (stands-term b x m)
-stands-term (appended a b) x (inl m) =
-    stands-left (variables_of_term a) (variables_of_term b) x (stands-term a x m)
-stands-term (appended a b) x (inr m) =
-    stands-right (variables_of_term a) (variables_of_term b) x (stands-term b x m)
-
-stands-terms : (ts : List Term) (x : ProgVar) → InTerms (as_var x) ts
-    → stands_in (flat_map variables_of_term ts) x ≡ true
-stands-terms [] x m = absurd m
-stands-terms (t ∷ ts) x (inl m) =
-    stands-left (variables_of_term t) (flat_map variables_of_term ts) x (stands-term t x m)
-stands-terms (t ∷ ts) x (inr m) =
-    stands-right (variables_of_term t) (flat_map variables_of_term ts) x (stands-terms ts x m)
 
 -- what a test of each says of one
 pub each-among : (p : ProgVar → Bool) (xs : List ProgVar) → list_all p xs ≡ true → (x : ProgVar)

@@ -73,7 +73,7 @@ scope_of theory procedure = map as_var (declared_by procedure) ++ theory.logic
 
 -- FORMULAS AND STEPS: a formula may be judged at the sort
 abbrev pub is_judged_at : Sort → Named → Bool
-is_judged_at s formula = is_none (first_fault formula s 0)
+is_judged_at s formula = is_none (first_fault formula s)
 
 -- an argument of a step: a term of a value sort, or one logic variable of a sort
 abbrev pub is_argument : Term → Bool
