@@ -20,12 +20,12 @@ zero-emptied outside z = (nodes-emptied 0 outside ∙ z.0, lists-emptied 0 outsi
 
 -- a clash
 clash-emptied : (outside : Trees) → Clashes (fill outside none) → Clashes outside
-clash-emptied outside (n, twice) = (n, go twice)
+clash-emptied outside (n, twice) = (n, by_cases twice)
   where
-    go : (2 ≤ node_uses n (fill outside none)) ⊎ (2 ≤ list_uses n (fill outside none))
+    by_cases : (2 ≤ node_uses n (fill outside none)) ⊎ (2 ≤ list_uses n (fill outside none))
         → (2 ≤ node_uses n outside) ⊎ (2 ≤ list_uses n outside)
-    go (inl h) = inl (omega (arith, nodes-emptied n outside))
-    go (inr h) = inr (omega (arith, lists-emptied n outside))
+    by_cases (inl h) = inl (omega (arith, nodes-emptied n outside))
+    by_cases (inr h) = inr (omega (arith, lists-emptied n outside))
 
 -- what is told of the one holds of the other
 pub reports-emptied : {A : Type 0} (r : Result A PlugFault) (outside : Trees)

@@ -46,7 +46,12 @@ mutual
       let left : HasForest a = had-forest a b.0 in
       let inside : (y : ForestInner) × (forest_inner_of y ≡ x) = had-inner x b.1 in
       let right : HasForest r = had-forest r b.2 in (
-        t.Node' s n (record { ptr = null_ptr; alloc = record { memory = record { seal = tt } }; value = tt }) left.0 inside.0 right.0 l,
+        t.Node' s n (record {
+          ptr = null_ptr;
+          alloc =
+              record { memory = record { seal = tt } };
+          value = tt;
+        }) left.0 inside.0 right.0 l,
         (λ j. model.around_node s n (model.between (left.1 j) (inside.1 j) (right.1 j)) l),
       )
 

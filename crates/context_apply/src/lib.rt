@@ -1,7 +1,7 @@
 //! Contexts of trees, forests and groves as the program holds them, plugged, composed and cut out.
 //! Promises that each is seen as a context of the definitions, that plugging and composing fill the
-//! hole and are refused exactly where a number would stand twice, and that what is cut out fits back.
-//! Stands on the trees, forests and groves of the program.
+//! hole and are refused exactly where a number would stand twice, and that what is cut out fits
+//! back. Stands on the trees, forests and groves of the program.
 #![tactic(auto)]
 
 mod composing;

@@ -6,12 +6,14 @@ use Rattle.grove_data.specs.Trees.{tree_of, forest_of}
 use Rattle.grove_data.specs.declared.trees.Tree.{Tree, out-Tree}
 use Rattle.grove_data.proofs.Walks.{tree_is, forest_at}
 
-greatest_node-beside : (a b : Trees) → greatest_node (beside a b) ≡ max (greatest_node a) (greatest_node b)
+greatest_node-beside : (a b : Trees) → greatest_node (beside a b)
+    ≡ max (greatest_node a) (greatest_node b)
 greatest_node-beside none b = omega arith
 greatest_node-beside (node s i k l r) b = omega (arith, greatest_node-beside r b)
 greatest_node-beside (hole r) b = greatest_node-beside r b
 
-greatest_list-beside : (a b : Trees) → greatest_list (beside a b) ≡ max (greatest_list a) (greatest_list b)
+greatest_list-beside : (a b : Trees) → greatest_list (beside a b)
+    ≡ max (greatest_list a) (greatest_list b)
 greatest_list-beside none b = omega arith
 greatest_list-beside (node s i k l r) b = omega (arith, greatest_list-beside r b)
 greatest_list-beside (hole r) b = greatest_list-beside r b
@@ -26,13 +28,15 @@ pub node_at_place : (items : List Tree) (i : ℕ) (t : Tree) → i < length item
     → greatest_node (forest_of (drop i items))
     ≡ max (greatest_node (tree_of t)) (greatest_node (forest_of (drop (i + 1) items)))
 node_at_place items i t h e =
-    ap greatest_node (forest_at items i t h e) ∙ greatest_node-beside (tree_of t) (forest_of (drop (i + 1) items))
+    ap greatest_node (forest_at items i t h e)
+    ∙ greatest_node-beside (tree_of t) (forest_of (drop (i + 1) items))
 
 pub list_at_place : (items : List Tree) (i : ℕ) (t : Tree) → i < length items → t ≡ get_or items i t
     → greatest_list (forest_of (drop i items))
     ≡ max (greatest_list (tree_of t)) (greatest_list (forest_of (drop (i + 1) items)))
 list_at_place items i t h e =
-    ap greatest_list (forest_at items i t h e) ∙ greatest_list-beside (tree_of t) (forest_of (drop (i + 1) items))
+    ap greatest_list (forest_at items i t h e)
+    ∙ greatest_list-beside (tree_of t) (forest_of (drop (i + 1) items))
 
 pub size_at_place : (items : List Tree) (i : ℕ) (t : Tree) → i < length items → t ≡ get_or items i t
     → size (forest_of (drop i items)) ≡ size (tree_of t) + size (forest_of (drop (i + 1) items))
@@ -45,7 +49,8 @@ pub node_in_tree : (t : Tree)
 node_in_tree t = omega (arith, ap greatest_node (tree_is t))
 
 pub list_in_tree : (t : Tree)
-    → greatest_list (tree_of t) ≡ max (out-Tree t).list (greatest_list (forest_of (out-Tree t).kids))
+    → greatest_list (tree_of t) ≡ max (out-Tree t).list
+    (greatest_list (forest_of (out-Tree t).kids))
 list_in_tree t = omega (arith, ap greatest_list (tree_is t))
 
 pub size_in_tree : (t : Tree) → size (tree_of t) ≡ 1 + size (forest_of (out-Tree t).kids)

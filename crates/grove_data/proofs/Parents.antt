@@ -20,15 +20,16 @@ width-none (hole r) e = absurd (omega arith)
 
 unused : (id : ℕ) (g : Trees) → width (nodes_where (numbered id) g) ≡ 0 → node_uses id g ≡ 0
 unused id none e = refl
-unused id (node s i k l r) e = go (ℕ_discrete id i) e (unused id k) (unused id r)
+unused id (node s i k l r) e = by_decision (ℕ_discrete id i) e (unused id k) (unused id r)
   where
-    go : (d : Dec (id ≡ i)) → width (cond (is_yes d) (node s i k l (nodes_where (numbered id) r))
+    by_decision : (d : Dec (id ≡ i))
+        → width (cond (is_yes d) (node s i k l (nodes_where (numbered id) r))
         (beside (nodes_where (numbered id) k) (nodes_where (numbered id) r))) ≡ 0
         → (width (nodes_where (numbered id) k) ≡ 0 → node_uses id k ≡ 0)
         → (width (nodes_where (numbered id) r) ≡ 0 → node_uses id r ≡ 0)
         → one_if d + (node_uses id k + node_uses id r) ≡ 0
-    go (yes f) w inside behind = absurd (omega arith)
-    go (no f) w inside behind =
+    by_decision (yes f) w inside behind = absurd (omega arith)
+    by_decision (no f) w inside behind =
         let both = width-beside (nodes_where (numbered id) k) (nodes_where (numbered id) r) in
         omega (arith, inside (omega arith), behind (omega arith))
 unused id (hole r) e = unused id r e
@@ -38,17 +39,18 @@ nowhere : (id : ℕ) (g : Trees) → has_root id g ≡ false → width (nodes_wh
     → node_uses id g ≡ 0
 nowhere id none h e = refl
 nowhere id (node s i k l r) h e =
-    go (ℕ_discrete id i) (has_root id k) refl h e (nowhere id k) (nowhere id r)
+    by_decision (ℕ_discrete id i) (has_root id k) refl h e (nowhere id k) (nowhere id r)
   where
-    go : (d : Dec (id ≡ i)) (b : Bool) → has_root id k ≡ b → (is_yes d || has_root id r) ≡ false
+    by_decision : (d : Dec (id ≡ i)) (b : Bool) → has_root id k ≡ b → (is_yes d || has_root id r)
+        ≡ false
         → width (cond b (node s i k l (nodes_where (parental id) r))
         (beside (nodes_where (parental id) k) (nodes_where (parental id) r))) ≡ 0
         → (has_root id k ≡ false → width (nodes_where (parental id) k) ≡ 0 → node_uses id k ≡ 0)
         → (has_root id r ≡ false → width (nodes_where (parental id) r) ≡ 0 → node_uses id r ≡ 0)
         → one_if d + (node_uses id k + node_uses id r) ≡ 0
-    go (yes f) b x y w inside behind = absurd cc
-    go (no f) true x y w inside behind = absurd (omega arith)
-    go (no f) false x y w inside behind =
+    by_decision (yes f) b x y w inside behind = absurd cc
+    by_decision (no f) true x y w inside behind = absurd (omega arith)
+    by_decision (no f) false x y w inside behind =
         let both = width-beside (nodes_where (parental id) k) (nodes_where (parental id) r) in
         omega (arith, inside x (omega arith), behind y (omega arith))
 nowhere id (hole r) h e = nowhere id r h e
@@ -60,24 +62,24 @@ found id g h e = omega (arith, unused id g (ap width e))
 -- what passes a test and isn't empty has a first tree
 width-first : (test : ℕ → Trees → ℕ → Bool) (g : Trees) → None ≡ first_tree (nodes_where test g)
     → width (nodes_where test g) ≡ 0
-width-first test g = go (nodes_where test g) (those-pass test g)
+width-first test g = by_shape (nodes_where test g) (those-pass test g)
   where
-    go : (x : Trees) → Roots test x → None ≡ first_tree x → width x ≡ 0
-    go none p e = refl
-    go (node s i k l r) p e = absurd cc
-    go (hole r) p e = absurd p
+    by_shape : (x : Trees) → Roots test x → None ≡ first_tree x → width x ≡ 0
+    by_shape none p e = refl
+    by_shape (node s i k l r) p e = absurd cc
+    by_shape (hole r) p e = absurd p
 
 -- the first number is that of the first tree
 number-first : (test : ℕ → Trees → ℕ → Bool) (g : Trees) (s : List ℕ) (i : ℕ) (k : Trees) (l : ℕ)
     → Some (node s i k l none) ≡ first_tree (nodes_where test g)
     → (first_number (nodes_where test g) ≡ node_number i) × (1 ≤ width (nodes_where test g))
-number-first test g s i k l = go (nodes_where test g) (those-pass test g)
+number-first test g s i k l = by_shape (nodes_where test g) (those-pass test g)
   where
-    go : (x : Trees) → Roots test x → Some (node s i k l none) ≡ first_tree x
+    by_shape : (x : Trees) → Roots test x → Some (node s i k l none) ≡ first_tree x
         → (first_number x ≡ node_number i) × (1 ≤ width x)
-    go none p e = absurd cc
-    go (node s' i' k' l' r) p e = let f : i' ≡ i = cc in (ap node_number f, omega arith)
-    go (hole r) p e = absurd p
+    by_shape none p e = absurd cc
+    by_shape (node s' i' k' l' r) p e = let f : i' ≡ i = cc in (ap node_number f, omega arith)
+    by_shape (hole r) p e = absurd p
 
 -- a root has no parent
 pub root_alone : (id : ℕ) (g : Trees) → WellFormed g → true ≡ has_root id g
@@ -86,7 +88,8 @@ root_alone id g wf e =
     let one : bit (has_root id g) ≡ 1 = ap bit (sym e) in
     let apart = width-parental id g in
     let once = wf.nodes_once id in
-    let none_there : nodes_where (parental id) g ≡ none = width-none (nodes_where (parental id) g) (omega arith) in
+    let none_there : nodes_where (parental id) g ≡ none =
+    width-none (nodes_where (parental id) g) (omega arith) in
     (found id g (omega arith), ap first_number none_there)
 
 -- where no root has the number and no child, no node has it
@@ -97,7 +100,8 @@ nowhere_found id g h e =
     width-none (nodes_where (numbered id) g) (omega (arith, width-numbered id g))
 
 -- the node that has the number among its children
-pub parent_found : (id : ℕ) (g : Trees) (t : Tree) → Some (tree_of t) ≡ first_tree (nodes_where (parental id) g)
+pub parent_found : (id : ℕ) (g : Trees) (t : Tree)
+    → Some (tree_of t) ≡ first_tree (nodes_where (parental id) g)
     → (nodes_where (numbered id) g ≢ none)
     × (first_number (nodes_where (parental id) g) ≡ node_number (out-Tree t).id)
 parent_found id g t e =

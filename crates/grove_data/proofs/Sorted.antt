@@ -23,7 +23,8 @@ use Rattle.grove_data.proofs.Walks.{tree_is, forest_at}
 -- a forest has no hole among its roots
 no-root_holes : (ts : List Tree) → root_holes (forest_of ts) ≡ 0
 no-root_holes [] = refl
-no-root_holes (t ∷ ts) = ap (λ z. root_holes (beside z (forest_of ts))) (tree_is t) ∙ no-root_holes ts
+no-root_holes (t ∷ ts) = ap (λ z. root_holes (beside z (forest_of ts))) (tree_is t)
+    ∙ no-root_holes ts
 
 -- roots in another order are the same grove
 uses-summed : (u : Trees) (ts : List Tree)
@@ -37,7 +38,8 @@ uses-summed u (t ∷ ts) =
       sum_by-cons (λ t. root_uses u (tree_of t)) t ts,
     )
 
-moved-same : (old new : List Tree) → IsPermutation old new → SameGrove (forest_of new) (forest_of old)
+moved-same : (old new : List Tree) → IsPermutation old new
+    → SameGrove (forest_of new) (forest_of old)
 moved-same old new p u =
     uses-summed u new ∙ sum_by-IsPermutation (λ t. root_uses u (tree_of t)) old new p
     ∙ sym (uses-summed u old)
@@ -47,7 +49,8 @@ abbrev pub number_of : Tree → ℕ
 number_of t = (out-Tree t).id
 
 -- trees whose numbers don't fall stand by rising number
-from-list : (n : ℕ) (ts : List Tree) → ((j : ℕ) (d : Tree) → j < length ts → n ≤ number_of (get_or ts j d))
+from-list : (n : ℕ) (ts : List Tree)
+    → ((j : ℕ) (d : Tree) → j < length ts → n ≤ number_of (get_or ts j d))
     → FromNumber n (forest_of ts)
 from-list n [] h = tt
 from-list n (t ∷ ts) h =
@@ -70,7 +73,8 @@ sorted_is old new wf p h =
     (λ n. omega (
       arith,
       wf.nodes_once n,
-      same-count (node_uses n) (node_uses-beside n) (forest_of new) (forest_of old) (moved-same old new p),
+      same-count (node_uses n) (node_uses-beside n) (forest_of new) (forest_of old)
+          (moved-same old new p),
     ))
     (no-root_holes new) (rising-list new h) (sorted-rising (forest_of old))
     (λ u. moved-same old new p u ∙ sym (sorted-same (forest_of old) u))
@@ -95,7 +99,8 @@ and-true false = refl
 same-is : (a b : Trees) → same_trees a b ≡ true → a ≡ b
 same-is none none e = refl
 same-is (node s i k l r) (node s' i' k' l' r') e =
-    let x = both_true (bytes_eq s s' && (i == i' && (l == l' && same_trees k k'))) (same_trees r r') e in
+    let x = both_true (bytes_eq s s' && (i == i' && (l == l' && same_trees k k')))
+    (same_trees r r') e in
     let y = both_true (bytes_eq s s') (i == i' && (l == l' && same_trees k k')) x.0 in
     let z = both_true (i == i') (l == l' && same_trees k k') y.1 in
     let w = both_true (l == l') (same_trees k k') z.1 in
@@ -116,7 +121,8 @@ same-itself (node s i k l r) =
     (both (i == i) _ number (both (l == l) (same_trees k k) list (same-itself k)))) (same-itself r)
 same-itself (hole r) = same-itself r
 
-pub sorted_alike : (a b : List Tree) → WellFormed (forest_of a) → Rising (forest_of a) → Rising (forest_of b)
+pub sorted_alike : (a b : List Tree) → WellFormed (forest_of a) → Rising (forest_of a)
+    → Rising (forest_of b)
     → IsTrue (same_trees (forest_of a) (forest_of b)) ↔ SameAt grove (forest_of a) (forest_of b)
 sorted_alike a b wf x y = (
   λ e u. ap (root_uses u) (same-is (forest_of a) (forest_of b) e),
@@ -133,14 +139,17 @@ pub trees_by_fields : (t u : Tree) → same_trees (tree_of t) (tree_of u)
 trees_by_fields t u = rw (tree_is t, tree_is u) (and-true _)
 
 -- forests are compared tree by tree
-pub forests_by_trees : (items : List Tree) (i : ℕ) (t : Tree) → i < length items → t ≡ get_or items i t
-    → (u : Tree) (others : List Tree) → same_trees (forest_of (drop i items)) (forest_of (u ∷ others))
+pub forests_by_trees : (items : List Tree) (i : ℕ) (t : Tree) → i < length items
+    → t ≡ get_or items i t
+    → (u : Tree) (others : List Tree)
+    → same_trees (forest_of (drop i items)) (forest_of (u ∷ others))
     ≡ (same_trees (tree_of t) (tree_of u)
     && same_trees (forest_of (drop (i + 1) items)) (forest_of others))
 forests_by_trees items i t h e u others =
     rw (forest_at items i t h e, tree_is t, tree_is u, and-true) refl
 
 -- no trees are left of the one forest, and some of the other
-pub some-left : (others : List Tree) → 1 ≤ length others → same_trees (forest_of []) (forest_of others) ≡ false
+pub some-left : (others : List Tree) → 1 ≤ length others
+    → same_trees (forest_of []) (forest_of others) ≡ false
 some-left [] n = absurd (omega arith)
 some-left (t ∷ others) n = ap (λ z. same_trees none (beside z (forest_of others))) (tree_is t)

@@ -14,4 +14,5 @@ tree_is = fold_out-Tree Trees tree_step
 pub forest_at : (items : List Tree) (i : ℕ) (t : Tree) → i < length items → t ≡ get_or items i t
     → forest_of (drop i items) ≡ beside (tree_of t) (forest_of (drop (i + 1) items))
 forest_at items i t h e =
-    rw (add-one, drop-cons items i t) (ap (λ x. beside (tree_of x) (forest_of (drop (suc i) items))) (sym e))
+    rw (add-one, drop-cons items i t)
+    (ap (λ x. beside (tree_of x) (forest_of (drop (suc i) items))) (sym e))

@@ -27,12 +27,15 @@ pub found : (n : ℕ) (ts : List Lexeme) (a : Trees) → whole (reader n) ts ≡
 found = whole_.whole_found reader SpellsGrove (not_next (codes "+")) refl sound_at only_at
 
 -- what is spelled is read, unless it nests too deeply
-only : (n : ℕ) (ts : List Lexeme) (a : Trees) → SpellsGrove a ts → (whole (reader n) ts ≡ Ok a) ⊎ (whole (reader n) ts ≡ Err Deep)
+only : (n : ℕ) (ts : List Lexeme) (a : Trees) → SpellsGrove a ts → (whole (reader n) ts ≡ Ok a)
+    ⊎ (whole (reader n) ts ≡ Err Deep)
 only = whole_.whole_or_deep reader SpellsGrove (not_next (codes "+")) refl sound_at only_at
 
 -- so a list at which the reading stops spells nothing
-pub nothing : (n : ℕ) (ts : List Lexeme) (k : ℕ) (a : Trees) → whole (reader n) ts ≡ Err (At k) → SpellsGrove a ts → ⊥
-nothing n ts k a e l = elim (only n ts a l) [ inl h ↦ (let x = sym e ∙ h in cc) | inr h ↦ (let x = sym e ∙ h in cc) ]
+pub nothing : (n : ℕ) (ts : List Lexeme) (k : ℕ) (a : Trees) → whole (reader n) ts ≡ Err (At k)
+    → SpellsGrove a ts → ⊥
+nothing n ts k a e l = elim (only n ts a l)
+    [ inl h ↦ (let x = sym e ∙ h in cc) | inr h ↦ (let x = sym e ∙ h in cc) ]
 
 -- a list spells at most one grove
 pub at_most_one : (ts : List Lexeme) (a b : Trees) → SpellsGrove a ts → SpellsGrove b ts → a ≡ b

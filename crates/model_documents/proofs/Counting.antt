@@ -25,21 +25,21 @@ abbrev pub uses : Numbered → Trees → ℕ
 uses (node_numbered n) = node_uses n
 uses (list_numbered n) = list_uses n
 
-pub bit-one_if : (m n : ℕ) → bit (m == n) ≡ one_if (ℕ_discrete m n)
-bit-one_if m n = go (m == n) (ℕ_discrete m n) refl
+pub bit-decided : (m n : ℕ) → bit (m == n) ≡ one_if (ℕ_discrete m n)
+bit-decided m n = by_decision (m == n) (ℕ_discrete m n) refl
   where
-    go : (b : Bool) (d : Dec (m ≡ n)) → (m == n) ≡ b → bit b ≡ one_if d
-    go true (yes e) f = refl
-    go true (no e) f = absurd (e (grind (arith, nat_tests)))
-    go false (yes e) f = absurd (grind (arith, nat_tests))
-    go false (no e) f = refl
+    by_decision : (b : Bool) (d : Dec (m ≡ n)) → (m == n) ≡ b → bit b ≡ one_if d
+    by_decision true (yes e) f = refl
+    by_decision true (no e) f = absurd (e (grind (arith, nat_tests)))
+    by_decision false (yes e) f = absurd (grind (arith, nat_tests))
+    by_decision false (no e) f = refl
 
 -- in document order each number is counted
 pub counted : (q : Numbered) (g : Trees) → count q (numbers_in g) ≡ uses q g
 counted (node_numbered n) none = refl
 counted (node_numbered n) (node s i k l r) = omega (
   arith,
-  bit-one_if n i,
+  bit-decided n i,
   count-append (node_numbered n) (numbers_in k) (numbers_in r),
   counted (node_numbered n) k,
   counted (node_numbered n) r,
@@ -48,7 +48,7 @@ counted (node_numbered n) (hole r) = counted (node_numbered n) r
 counted (list_numbered n) none = refl
 counted (list_numbered n) (node s i k l r) = omega (
   arith,
-  bit-one_if n l,
+  bit-decided n l,
   count-append (list_numbered n) (numbers_in k) (numbers_in r),
   counted (list_numbered n) k,
   counted (list_numbered n) r,
@@ -61,8 +61,10 @@ same-itself (node_numbered n) = grind (arith, nat_tests)
 same-itself (list_numbered n) = grind (arith, nat_tests)
 
 pub same-is : (p q : Numbered) → same_numbered p q ≡ true → p ≡ q
-same-is (node_numbered m) (node_numbered n) e = let f : m ≡ n = grind (arith, nat_tests) in ap node_numbered f
-same-is (list_numbered m) (list_numbered n) e = let f : m ≡ n = grind (arith, nat_tests) in ap list_numbered f
+same-is (node_numbered m) (node_numbered n) e = let f : m ≡ n = grind (arith, nat_tests) in
+    ap node_numbered f
+same-is (list_numbered m) (list_numbered n) e = let f : m ≡ n = grind (arith, nat_tests) in
+    ap list_numbered f
 same-is (node_numbered m) (list_numbered n) e = absurd cc
 same-is (list_numbered m) (node_numbered n) e = absurd cc
 

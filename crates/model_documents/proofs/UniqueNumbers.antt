@@ -33,7 +33,8 @@ Fresh before ns = (q : Numbered)
 
 repeat-fresh : (before ns : List Numbered) → first_repeat_behind before ns ≡ None → Fresh before ns
 repeat-fresh before [] e = λ q. (omega arith, λ h. refl)
-repeat-fresh before (n ∷ ns) e = go (list_any (same_numbered n) before) refl e (repeat-fresh (n ∷ before) ns)
+repeat-fresh before (n ∷ ns) e =
+    by_test (list_any (same_numbered n) before) refl e (repeat-fresh (n ∷ before) ns)
   where
     add : (a b : Bool) (c : ℕ) → (b ≡ true → a ≡ true → ⊥) → ((a || b) ≡ true → c ≡ 0) → c ≤ 1
         → (bit a + c ≤ 1) × (b ≡ true → bit a + c ≡ 0)
@@ -42,11 +43,12 @@ repeat-fresh before (n ∷ ns) e = go (list_any (same_numbered n) before) refl e
     add false true c apart h w = (omega (arith, h refl), λ x. omega (arith, h refl))
     add false false c apart h w = (omega arith, λ x. absurd cc)
 
-    go : (b : Bool) → list_any (same_numbered n) before ≡ b
+    by_test : (b : Bool) → list_any (same_numbered n) before ≡ b
         → cond b (Some n) (first_repeat_behind (n ∷ before) ns) ≡ None
-        → (first_repeat_behind (n ∷ before) ns ≡ None → Fresh (n ∷ before) ns) → Fresh before (n ∷ ns)
-    go true f x rec = absurd cc
-    go false f x rec = λ q. let w = rec x q in
+        → (first_repeat_behind (n ∷ before) ns ≡ None → Fresh (n ∷ before) ns)
+        → Fresh before (n ∷ ns)
+    by_test true f x rec = absurd cc
+    by_test false f x rec = λ q. let w = rec x q in
         add (same_numbered q n) (list_any (same_numbered q) before) (count q ns)
         (λ there same. let apart : list_any (same_numbered n) before ≡ true =
         subst (λ z. list_any (same_numbered z) before ≡ true) (same-is q n same) there in absurd cc)
@@ -55,18 +57,19 @@ repeat-fresh before (n ∷ ns) e = go (list_any (same_numbered n) before) refl e
 fresh-repeat : (before ns : List Numbered) → Fresh before ns → first_repeat_behind before ns ≡ None
 fresh-repeat before [] f = refl
 fresh-repeat before (n ∷ ns) f =
-    go (list_any (same_numbered n) before) refl (fresh-repeat (n ∷ before) ns)
+    by_test (list_any (same_numbered n) before) refl (fresh-repeat (n ∷ before) ns)
   where
-    add : (a b : Bool) (c : ℕ) → bit a + c ≤ 1 → (b ≡ true → bit a + c ≡ 0) → (a || b) ≡ true → c ≡ 0
+    add : (a b : Bool) (c : ℕ) → bit a + c ≤ 1 → (b ≡ true → bit a + c ≡ 0) → (a || b) ≡ true
+        → c ≡ 0
     add true b c w h e = omega arith
     add false true c w h e = omega (arith, h refl)
     add false false c w h e = absurd cc
 
-    go : (b : Bool) → list_any (same_numbered n) before ≡ b
+    by_test : (b : Bool) → list_any (same_numbered n) before ≡ b
         → (Fresh (n ∷ before) ns → first_repeat_behind (n ∷ before) ns ≡ None)
         → cond b (Some n) (first_repeat_behind (n ∷ before) ns) ≡ None
-    go true e rec = absurd (omega (arith, ap bit (same-itself n), (f n).1 e))
-    go false e rec = rec (λ q. (
+    by_test true e rec = absurd (omega (arith, ap bit (same-itself n), (f n).1 e))
+    by_test false e rec = rec (λ q. (
       omega (arith, (f q).0),
       add (same_numbered q n) (list_any (same_numbered q) before) (count q ns) (f q).0 (f q).1,
     ))
@@ -76,15 +79,15 @@ in-range : (q : Numbered) (ns : List Numbered) → is_in_range q ≡ false
     → find (λ n. not (is_in_range n)) ns ≡ None → count q ns ≡ 0
 in-range q [] out e = refl
 in-range q (n ∷ ns) out e =
-    go (is_in_range n) (same_numbered q n) refl refl e (in-range q ns out)
+    by_test (is_in_range n) (same_numbered q n) refl refl e (in-range q ns out)
   where
-    go : (a b : Bool) → is_in_range n ≡ a → same_numbered q n ≡ b
+    by_test : (a b : Bool) → is_in_range n ≡ a → same_numbered q n ≡ b
         → cond (not a) (Some n) (find (λ n. not (is_in_range n)) ns) ≡ None
         → (find (λ n. not (is_in_range n)) ns ≡ None → count q ns ≡ 0) → bit b + count q ns ≡ 0
-    go true true x y f rec =
+    by_test true true x y f rec =
         let z : is_in_range q ≡ true = ap is_in_range (same-is q n y) ∙ x in absurd cc
-    go true false x y f rec = omega (arith, rec f)
-    go false b x y f rec = absurd cc
+    by_test true false x y f rec = omega (arith, rec f)
+    by_test false b x y f rec = absurd cc
 
 -- where no number repeats, each stands once
 pub unrepeated-once : (g : Trees) → first_repeat g ≡ None → (q : Numbered) → uses q g ≤ 1

@@ -37,11 +37,13 @@ page-in-range : first_out_of_range page ≡ None
 page-in-range = refl
 
 -- a node and a list may have one number, two lists may not
-repeated-list : first_repeat (leaf (codes "a") 1 5 (leaf (codes "b") 2 5 none)) ≡ Some (list_numbered 5)
+repeated-list : first_repeat (leaf (codes "a") 1 5 (leaf (codes "b") 2 5 none))
+    ≡ Some (list_numbered 5)
 repeated-list = refl
 
 -- in document order the list of a node stands before its children: 5 is repeated before 2
-list-first : first_repeat (node (codes "a") 1 (leaf (codes "b") 2 5 (leaf (codes "c") 2 6 none)) 5 none)
+list-first : first_repeat (node (codes "a") 1 (leaf (codes "b") 2 5 (leaf (codes "c") 2 6 none)) 5
+    none)
     ≡ Some (list_numbered 5)
 list-first = refl
 

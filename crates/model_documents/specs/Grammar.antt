@@ -1,5 +1,6 @@
--- The grammar of documents, one case for each production: the trees, forests and groves of PODS 2008
--- as this language writes them. A number of a node or a list is any number that a token can be.
+-- The grammar of documents, one case for each production: the trees, forests and groves of PODS
+-- 2008 as this language writes them. A number of a node or a list is any number that a token can
+-- be.
 use Rattle.std.specs.Prelude.{ℕ, List, [], ◌∷◌, ◌++◌, codes}
 use Rattle.model_shapes.specs.Trees.{Trees, none, node, beside}
 use Rattle.model_text.specs.Lexemes.{Lexeme, terminal, number_lexeme, literal_lexeme}

@@ -1,5 +1,5 @@
--- The numbers of the nodes and children lists of a document: the first that is out of range, and the
--- first that repeats.
+-- The numbers of the nodes and children lists of a document: the first that is out of range, and
+-- the first that repeats.
 use Rattle.model_limits.specs.Limits.{standard_limits}
 use Rattle.std.specs.Prelude.{ℕ, Bool, false, not, ◌&&◌, ◌==◌, nat_le, cond, List, [], ◌∷◌, ◌++◌, Option, Some, None}
 use Rattle.std.specs.List.{list_any, find}
@@ -31,8 +31,8 @@ is_in_range (list_numbered n) = nat_le 1 n && nat_le n standard_limits.identifie
 abbrev pub first_out_of_range : Trees → Option Numbered
 first_out_of_range trees = find (λ n. not (is_in_range n)) (numbers_written trees)
 
--- the numbers in document order: a tree before its children, and the number of a node before that of
--- its list
+-- the numbers in document order: a tree before its children, and the number of a node before that
+-- of its list
 abbrev pub numbers_in : Trees → List Numbered
 numbers_in none = []
 numbers_in (node name number kids list rest) =

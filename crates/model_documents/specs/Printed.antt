@@ -22,14 +22,16 @@ quoted text = quote ∷ (escaped text ++ quote ∷ [])
 -- the text of a tree, given that of its children
 abbrev pub tree_text : List ℕ → ℕ → List ℕ → ℕ → List ℕ
 tree_text name number kids list =
-    quoted name ++ (codes "#" ++ (decimal number ++ (codes "[" ++ (kids ++ (codes "]%" ++ decimal list)))))
+    quoted name ++ (codes "#" ++ (decimal number
+    ++ (codes "[" ++ (kids ++ (codes "]%" ++ decimal list)))))
 
 -- the text of a forest: its trees in `<` and `>`, with ` * ` between them; there is no hole in it
 abbrev mutual
   pub forest_text : Trees → List ℕ
   forest_text none = codes "0f"
   forest_text (node name number kids list rest) =
-      codes "<" ++ (tree_text name number (forest_text kids) list ++ (codes ">" ++ further_trees rest))
+      codes "<" ++ (tree_text name number (forest_text kids) list
+      ++ (codes ">" ++ further_trees rest))
   forest_text (hole rest) = forest_text rest
 
   -- the trees behind the first
@@ -52,5 +54,6 @@ further_roots (hole rest) = further_roots rest
 abbrev pub grove_text : Trees → List ℕ
 grove_text none = codes "0g"
 grove_text (node name number kids list rest) =
-    codes "[" ++ (tree_text name number (forest_text kids) list ++ (codes "]" ++ further_roots rest))
+    codes "[" ++ (tree_text name number (forest_text kids) list
+    ++ (codes "]" ++ further_roots rest))
 grove_text (hole rest) = grove_text rest

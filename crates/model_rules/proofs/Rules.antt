@@ -35,7 +35,8 @@ use Rattle.model_rules.proofs.Ends.{UpTo, At, At-map, Sound, to_sound, from_soun
 value_in-decided : (x : ProgVar) (v : Value) (st : Store) (y : ProgVar)
     → value_in (set x v st) y ≡ cond (is_yes (var_eq (as_var y) (as_var x))) v (value_in st y)
 value_in-decided x v st y =
-    value_in-set x v st y ∙ ap (λ b. cond b v (value_in st y)) (by_test (var_eq (as_var y) (as_var x)))
+    value_in-set x v st y ∙ ap (λ b. cond b v (value_in st y))
+    (by_test (var_eq (as_var y) (as_var x)))
   where
     by_test : (d : Dec (as_var y ≡ as_var x)) → same_name y x ≡ is_yes d
     by_test (yes q) = subst (λ z. same_var (as_var y) z ≡ true) q (same_var-refl (as_var y))
@@ -46,20 +47,26 @@ set-env : (x : ProgVar) (v : Value) (st : Store) (e : Environment)
     → with_store (lookup (set x v st)) e ≡ setting (as_var x) (val v) (with_store (lookup st) e)
 set-env x v st e = fun_ext at
   where
-    at : (y : Var) → with_store (lookup (set x v st)) e y ≡ setting (as_var x) (val v) (with_store (lookup st) e) y
-    at (prog z u) = ap val (value_in-decided x v st (named z u)) ∙ by_test (var_eq (prog z u) (as_var x))
+    at : (y : Var) → with_store (lookup (set x v st)) e y
+        ≡ setting (as_var x) (val v) (with_store (lookup st) e) y
+    at (prog z u) = ap val (value_in-decided x v st (named z u))
+        ∙ by_test (var_eq (prog z u) (as_var x))
       where
-        by_test : (b : Dec (prog z u ≡ as_var x)) → val (cond (is_yes b) v (value_in st (named z u))) ≡ setting_at (val v) (with_store (lookup st) e) b
+        by_test : (b : Dec (prog z u ≡ as_var x))
+            → val (cond (is_yes b) v (value_in st (named z u)))
+            ≡ setting_at (val v) (with_store (lookup st) e) b
         by_test (yes q) = refl
         by_test (no m) = refl
     at (logic z u) = by_test x (var_eq (logic z u) (as_var x))
       where
-        by_test : (x : ProgVar) (b : Dec (logic z u ≡ as_var x)) → e (logic z u) ≡ setting_at (val v) (with_store (lookup st) e) b
+        by_test : (x : ProgVar) (b : Dec (logic z u ≡ as_var x))
+            → e (logic z u) ≡ setting_at (val v) (with_store (lookup st) e) b
         by_test (named y s) (yes q) = absurd cc
         by_test x (no m) = refl
     at (bound i u) = by_test x (var_eq (bound i u) (as_var x))
       where
-        by_test : (x : ProgVar) (b : Dec (bound i u ≡ as_var x)) → e (bound i u) ≡ setting_at (val v) (with_store (lookup st) e) b
+        by_test : (x : ProgVar) (b : Dec (bound i u ≡ as_var x))
+            → e (bound i u) ≡ setting_at (val v) (with_store (lookup st) e) b
         by_test (named y s) (yes q) = absurd cc
         by_test x (no m) = refl
 
@@ -83,18 +90,22 @@ AllHold ps n [] = Unit
 AllHold ps n (j ∷ js) = HoldsUpTo ps n j × AllHold ps n js
 
 -- an assignment whose term is tested has parts of the right sorts
-assign-sorted : (ps : Procedures) (x : ProgVar) (t : Term) → IsTrue (evaluates (sort_of x) t) → Computes (sort_of x) t
-assign-sorted ps x t e = sorted-command ps (assign x t) (record { known = refl; fitting = rw e refl; apart = refl })
+assign-sorted : (ps : Procedures) (x : ProgVar) (t : Term) → IsTrue (evaluates (sort_of x) t)
+    → Computes (sort_of x) t
+assign-sorted ps x t e = sorted-command ps (assign x t)
+    (record { known = refl; fitting = rw e refl; apart = refl })
 
 module _ (ps : Procedures) where
   -- the commands of a chain
   chain-sorted : (d : DataSort) (js : List Judgement) (p : Formula) (b : Block) (q : Formula)
       → Chain d js p b q → AllSorted ps js → BlockSorted ps b
   chain-sorted d js p b q (last_link p1 q1 c) so = (so.0, tt)
-  chain-sorted d js p b q (more_links js1 p1 m q1 c b1 rest) so = (so.0, chain-sorted d js1 m b1 q1 rest so.1)
+  chain-sorted d js p b q (more_links js1 p1 m q1 c b1 rest) so =
+      (so.0, chain-sorted d js1 m b1 q1 rest so.1)
 
   -- what the conclusion of a row says has parts of the right sorts
-  pub row-sorted : {name : List ℕ} {arguments : List Term} {js : List Judgement} {j : Judgement} → Row name arguments js j → AllSorted ps js → JudgementSorted ps j
+  pub row-sorted : {name : List ℕ} {arguments : List Term} {js : List Judgement} {j : Judgement}
+      → Row name arguments js j → AllSorted ps js → JudgementSorted ps j
   row-sorted (skip_row p d) so = tt
   row-sorted (assign_row q x t d e) so = assign-sorted ps x t e
   row-sorted (seq_row js p q b d chain) so = chain-sorted d js p b q chain so
@@ -116,10 +127,13 @@ module _ (ps : Procedures) (bodies : BodiesSorted ps) where
       (λ k. at_end ps ⊥ n (At d c q e) after g
       (At-map d c (formula_with (replacing (as_var x) t) q) q e st after g
       (other-store st after e a.proper
-      (set-proper x (value_of st t) st (value-fits (sort_of x) t st so (proper-store st e a.proper)) (proper-store st e a.proper)))
+      (set-proper x (value_of st t) st
+      (value-fits (sort_of x) t st so (proper-store st e a.proper))
+      (proper-store st e a.proper)))
       (λ b wb m. subst (λ z. Meets q z (shape d) b)
       (replacing-env (as_var x) t (with_store (lookup st) e)
-      ∙ ap (λ z. setting (as_var x) z (with_store (lookup st) e)) (meaning-value (sort_of x) t st e so)
+      ∙ ap (λ z. setting (as_var x) z (with_store (lookup st) e))
+      (meaning-value (sort_of x) t st e so)
       ∙ sym (set-env x (value_of st t) st e))
       (meets-with q (replacing (as_var x) t) (with_store (lookup st) e) (shape d) b m)) a))
     where
@@ -140,7 +154,8 @@ module _ (ps : Procedures) (bodies : BodiesSorted ps) where
 
   seq-sound : (n : ℕ) (js : List Judgement) (p : Formula) (b : Block) (q : Formula) (d : DataSort)
       → Chain d js p b q → AllSorted ps js → AllHold ps n js → Sound ps bodies n p (block b) q d
-  seq-sound zero js p b q d chain so h e c wc st g a = at_zero ps ⊥ (At d c q e) (run (block b)) [] st g
+  seq-sound zero js p b q d chain so h e c wc st g a =
+      at_zero ps ⊥ (At d c q e) (run (block b)) [] st g
   seq-sound (suc n) js p b q d chain so h e c wc st g a =
       at_step ps ⊥ n (At d c q e) (run (block b)) [] st g
       (λ k. subst (λ z. Well ps ⊥ n (At d c q e) z st g) (sym (append-nil (pieces_of b)))
@@ -148,7 +163,8 @@ module _ (ps : Procedures) (bodies : BodiesSorted ps) where
       (chain-sound (suc n) d js p b q chain so h e c wc st g a)))
 
   -- EACH ROW
-  pub row-sound : (n : ℕ) {name : List ℕ} {arguments : List Term} {js : List Judgement} {j : Judgement}
+  pub row-sound : (n : ℕ) {name : List ℕ} {arguments : List Term} {js : List Judgement}
+      {j : Judgement}
       → Row name arguments js j → AllSorted ps js → AllHold ps n js → HoldsUpTo ps n j
   row-sound n (skip_row p d) so h = from_sound ps bodies n p skip p d (skip-sound n p d)
   row-sound n (assign_row q x t d e) so h =

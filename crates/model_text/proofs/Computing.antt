@@ -8,5 +8,6 @@ use Rattle.model_text.specs.Tokens.{symbols, piece_at, characters, tokens_from, 
 
 -- `unfolding lexing` lets `refl` compute the tokens and the lexemes of bytes that are written out
 unfoldable pub lexing : Unit {0}
-unfolding encode_utf8 chars is_utf8 utf8_valid_len unicode_ident reserved_words symbols piece_at characters tokens_from tokens_of
+unfolding encode_utf8 chars is_utf8 utf8_valid_len unicode_ident reserved_words symbols piece_at
+    characters tokens_from tokens_of
 lexing = tt

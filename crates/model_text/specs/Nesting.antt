@@ -1,5 +1,5 @@
--- What is asked of the tokens of a text before it is read: how many brackets are open at one token, and
--- how long the text is that a literal stands for.
+-- What is asked of the tokens of a text before it is read: how many brackets are open at one token,
+-- and how long the text is that a literal stands for.
 use Rattle.std.specs.Prelude.{ℕ, ◌+◌, ◌-◌, Bool, true, false, ◌&&◌, ◌||◌, cond, List, [], ◌∷◌, length, map, bytes_eq, codes, nat_le}
 use Rattle.model_limits.specs.Limits.{standard_limits}
 use Rattle.model_text.specs.Tokens.{tokens_of}
@@ -25,7 +25,8 @@ closes lexeme = is_the (codes ")") lexeme || (is_the (codes "]") lexeme
 
 -- how many brackets are open behind a lexeme, where so many are open before it
 abbrev pub open_behind : ℕ → Lexeme → ℕ
-open_behind before lexeme = cond (opens lexeme) (before + 1) (cond (closes lexeme) (before - 1) before)
+open_behind before lexeme = cond (opens lexeme) (before + 1)
+    (cond (closes lexeme) (before - 1) before)
 
 -- never are more brackets open than the most, where so many are open before
 abbrev pub nests_within : ℕ → ℕ → List Lexeme → Bool

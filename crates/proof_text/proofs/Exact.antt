@@ -25,16 +25,22 @@ only_at n = theory_only n (n + 4294967167)
 
 -- what is read is spelled
 pub found : (n : ℕ) (ts : List Lexeme) (t : Theory) → whole (reader n) ts ≡ Ok t → SpellsTheory t ts
-found = whole_.whole_found reader SpellsTheory (not_begun (the_terminal (codes "proc"))) refl sound_at only_at
+found = whole_.whole_found reader SpellsTheory (not_begun (the_terminal (codes "proc"))) refl
+    sound_at only_at
 
 -- what is spelled is read, unless it nests too deeply
-pub only : (n : ℕ) (ts : List Lexeme) (t : Theory) → SpellsTheory t ts → (whole (reader n) ts ≡ Ok t) ⊎ (whole (reader n) ts ≡ Err Deep)
-only = whole_.whole_or_deep reader SpellsTheory (not_begun (the_terminal (codes "proc"))) refl sound_at only_at
+pub only : (n : ℕ) (ts : List Lexeme) (t : Theory) → SpellsTheory t ts
+    → (whole (reader n) ts ≡ Ok t) ⊎ (whole (reader n) ts ≡ Err Deep)
+only = whole_.whole_or_deep reader SpellsTheory (not_begun (the_terminal (codes "proc"))) refl
+    sound_at only_at
 
 -- a list spells at most one theory
 pub one_theory : (ts : List Lexeme) (t u : Theory) → SpellsTheory t ts → SpellsTheory u ts → t ≡ u
-one_theory = whole_.one_value reader SpellsTheory (not_begun (the_terminal (codes "proc"))) refl sound_at only_at
+one_theory = whole_.one_value reader SpellsTheory (not_begun (the_terminal (codes "proc"))) refl
+    sound_at only_at
 
 -- where it spells none, the fault token
-pub fault : (n : ℕ) (ts : List Lexeme) (k : ℕ) → whole (reader n) ts ≡ Err (At k) → IsFaultToken SpellsTheory ts (suc (length ts - k))
-fault = whole_.whole_fault reader SpellsTheory (not_begun (the_terminal (codes "proc"))) refl sound_at only_at
+pub fault : (n : ℕ) (ts : List Lexeme) (k : ℕ) → whole (reader n) ts ≡ Err (At k)
+    → IsFaultToken SpellsTheory ts (suc (length ts - k))
+fault = whole_.whole_fault reader SpellsTheory (not_begun (the_terminal (codes "proc"))) refl
+    sound_at only_at

@@ -1,7 +1,7 @@
 -- The readers of terms, formulas and commands on lists of lexemes, each with one lexeme of
--- look-ahead. Nothing here is to be believed: the proofs tie it to the grammar, which says what they
--- read. Depth bounds the nesting and `most` the length of blocks. `declared` has the sorts of the
--- names.
+-- look-ahead. Nothing here is to be believed: the proofs tie it to the grammar, which says what
+-- they read. Depth bounds the nesting and `most` the length of blocks. `declared` has the sorts of
+-- the names.
 use Rattle.std.specs.Prelude.{ℕ, zero, suc, nat_le, true, false, cond, List, [], ◌∷◌, Option, Some, None, Err, codes, pos, negsuc}
 use Rattle.model_shapes.specs.Sorts.{grove}
 use Rattle.model_shapes.specs.Values.{null, nolist, int, str, boolean}
@@ -32,7 +32,8 @@ leaf_term declared _ = None
 -- the number behind a sign
 abbrev pub negated : ℕ → Option Term
 negated zero = None
-negated (suc n) = cond (nat_le (suc n) standard_limits.integer) (Some (literal (int (negsuc n)))) None
+negated (suc n) = cond (nat_le (suc n) standard_limits.integer) (Some (literal (int (negsuc n))))
+    None
 
 -- the literal behind its sign
 abbrev pub leaf_negative : Lexeme → Option Term

@@ -1,7 +1,6 @@
--- The readers of theories on lists of lexemes, each with one lexeme of look-ahead. Nothing here is to
--- be believed: the proofs tie it to the grammar, which says
--- what they read; depth bounds the nesting and `most` the length of lists. `declared` has the
--- sorts of the names.
+-- The readers of theories on lists of lexemes, each with one lexeme of look-ahead. Nothing here is
+-- to be believed: the proofs tie it to the grammar, which says what they read; depth bounds the
+-- nesting and `most` the length of lists. `declared` has the sorts of the names.
 use Rattle.std.specs.Prelude.{ℕ, ◌+◌, cond, List, [], ◌∷◌, ◌++◌, Option, Some, None, bytes_eq, codes}
 use Rattle.model_shapes.specs.Sorts.{ValueSort, node_sort, list_sort, int_sort, str_sort, bool_sort, DataSort, grove}
 use Rattle.model_terms.specs.Terms.{Term}
@@ -49,7 +48,8 @@ declaration_at =
 
 unfoldable pub arguments_at : List ProgVar → ℕ → ℕ → Read (List Term)
 arguments_at declared depth most =
-    when (codes "with") (expect (codes "(") (then (sep_list comma (term_at declared depth) most) λ es.
+    when (codes "with") (expect (codes "(")
+    (then (sep_list comma (term_at declared depth) most) λ es.
     expect (codes ")") (ret es)))
     (ret [])
 
@@ -70,7 +70,8 @@ step_tail declared depth most line =
     (ret (record { number = n; line = line; reason = by_rule w ns es; judgement = j }))))
 
 -- what stands behind a procedure's sort
-unfoldable pub contents_at : ℕ → ℕ → List ℕ → List ProgVar → List ProgVar → DataSort → Read (ProcedureOf Named)
+unfoldable pub contents_at : ℕ → ℕ → List ℕ → List ProgVar → List ProgVar → DataSort
+    → Read (ProcedureOf Named)
 contents_at depth most f ps rs d =
     expect (codes "requires") (then (formula_at (ps ++ rs) depth) λ p.
     expect (codes "ensures") (then (formula_at (ps ++ rs) depth) λ q.
@@ -96,7 +97,8 @@ procedure_tail depth most =
 
 -- more procedures, each behind the word `proc`
 unfoldable pub more_procedures_at : ℕ → ℕ → Read (List (ProcedureOf Named))
-more_procedures_at depth most = many (the_terminal (codes "proc")) (λ x. procedure_tail depth most) most
+more_procedures_at depth most = many (the_terminal (codes "proc")) (λ x. procedure_tail depth most)
+    most
 
 unfoldable pub procedures_at : ℕ → ℕ → Read (List (ProcedureOf Named))
 procedures_at depth most =

@@ -23,7 +23,8 @@ fn commands<'a>(
     tokens: &'a [Token],
 ) -> Result<(Block, &'a [Token]), ReadFault>
     ensures { Gives (λ x. (map command_of x.0, lexemes_in x.1.now)) result
-        (sep_list semicolon (command_at (map prog_var_of declared.now) u32.MAX depth) u32.MAX (lexemes_in tokens.now)) }
+        (sep_list semicolon (command_at (map prog_var_of declared.now) u32.MAX depth) u32.MAX
+        (lexemes_in tokens.now)) }
 {
     let mut found = Block::new(alloc);
     let mut rest = tokens;
@@ -65,7 +66,8 @@ fn value<'a>(
     tokens: &'a [Token],
 ) -> Result<(Command, &'a [Token]), ReadFault>
     ensures { Gives (λ x. (command_of x.0, lexemes_in x.1.now)) result
-        (value_at (prog_var_of variable) (term_at (map prog_var_of declared.now) depth) (lexemes_in tokens.now)) }
+        (value_at (prog_var_of variable) (term_at (map prog_var_of declared.now) depth)
+        (lexemes_in tokens.now)) }
 {
     if let Some(rest) = after(tokens, "createNode") {
         let (name, rest) = bracketed(alloc, declared, depth, rest)?;
@@ -88,7 +90,8 @@ fn setting<'a>(
     tokens: &'a [Token],
 ) -> Result<(Command, &'a [Token]), ReadFault>
     ensures { Gives (λ x. (command_of x.0, lexemes_in x.1.now)) result
-        (setting_at (map prog_var_of declared.now) (term_at (map prog_var_of declared.now) depth) (lexemes_in tokens.now)) }
+        (setting_at (map prog_var_of declared.now) (term_at (map prog_var_of declared.now) depth)
+        (lexemes_in tokens.now)) }
 {
     let (name, rest) = name(alloc, tokens)?;
     let rest = expect(rest, ":=")?;

@@ -37,7 +37,8 @@ fn sort_of(token: &Token) -> Option<ValueSort>
 
 // A sort of values.
 fn value_sort(tokens: &[Token]) -> Result<(ValueSort, &[Token]), ReadFault>
-    ensures { Gives (λ x. (value_sort_of x.0, lexemes_in x.1.now)) result (leaf leaf_value_sort (lexemes_in tokens.now)) }
+    ensures { Gives (λ x. (value_sort_of x.0, lexemes_in x.1.now)) result
+        (leaf leaf_value_sort (lexemes_in tokens.now)) }
 {
     let [first, rest @ ..] = tokens else {
         return Err(ReadFault::Text(0));
@@ -51,7 +52,8 @@ fn value_sort(tokens: &[Token]) -> Result<(ValueSort, &[Token]), ReadFault>
 // A name and its sort.
 #[tactic(auto, unfolding(crate::specs::Readers::declaration_at))]
 fn declaration(alloc: Global, tokens: &[Token]) -> Result<(ProgVar, &[Token]), ReadFault>
-    ensures { Gives (λ x. (prog_var_of x.0, lexemes_in x.1.now)) result (declaration_at (lexemes_in tokens.now)) }
+    ensures { Gives (λ x. (prog_var_of x.0, lexemes_in x.1.now)) result
+        (declaration_at (lexemes_in tokens.now)) }
 {
     let (name, rest) = name(alloc, tokens)?;
     let rest = expect(rest, ":")?;
@@ -94,7 +96,8 @@ pub fn declarations(alloc: Global, tokens: &[Token]) -> Result<(Vars, &[Token]),
 
 /// The parameters and then the results.
 pub fn joined(alloc: Global, params: &Vars, results: &Vars) -> Result<Vars, OutOfMemory>
-    ensures { IfOk result (λ all. map prog_var_of all ≡ map prog_var_of params.now ++ map prog_var_of results.now) }
+    ensures { IfOk result (λ all. map prog_var_of all ≡ map prog_var_of params.now
+        ++ map prog_var_of results.now) }
 {
     let mut all = params.copy(alloc)?;
     for item in results.as_slice() {

@@ -28,7 +28,8 @@ fn sort_of(token: &Token) -> Option<DataSort>
 
 /// A sort of data: `g`.
 pub fn data_sort(tokens: &[Token]) -> Result<(DataSort, &[Token]), ReadFault>
-    ensures { Gives (λ x. (data_sort_of x.0, lexemes_in x.1.now)) result (leaf leaf_sort (lexemes_in tokens.now)) }
+    ensures { Gives (λ x. (data_sort_of x.0, lexemes_in x.1.now)) result
+        (leaf leaf_sort (lexemes_in tokens.now)) }
 {
     let [first, rest @ ..] = tokens else {
         return Err(ReadFault::Text(0));

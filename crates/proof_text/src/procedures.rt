@@ -37,7 +37,8 @@ fn contents<'a>(
     tokens: &'a [Token],
 ) -> Result<(Procedure, &'a [Token]), ReadFault>
     ensures { Gives (λ x. (procedure_of x.0, lexemes_in x.1.now)) result
-        (contents_at depth u32.MAX header.name (map prog_var_of header.params) (map prog_var_of header.results)
+        (contents_at depth u32.MAX header.name (map prog_var_of header.params)
+        (map prog_var_of header.results)
         (data_sort_of header.sort) (lexemes_in tokens.now)) }
 {
     let declared = joined(alloc, &header.params, &header.results)?;
@@ -76,7 +77,8 @@ fn procedure(
     depth: u32,
     tokens: &[Token],
 ) -> Result<(Procedure, &[Token]), ReadFault>
-    ensures { Gives (λ x. (procedure_of x.0, lexemes_in x.1.now)) result (procedure_tail depth u32.MAX (lexemes_in tokens.now)) }
+    ensures { Gives (λ x. (procedure_of x.0, lexemes_in x.1.now)) result
+        (procedure_tail depth u32.MAX (lexemes_in tokens.now)) }
 {
     let (name, rest) = name(alloc, tokens)?;
     let (params, rest) = declarations(alloc, rest)?;
@@ -101,7 +103,8 @@ fn more_procedures<'a>(
     tokens: &'a [Token],
 ) -> Result<(Procedures, &'a [Token]), ReadFault>
     ensures { Gives (λ x. (map procedure_of x.0, lexemes_in x.1.now)) result
-        (with_front (procedure_of first ∷ []) (more_procedures_at depth u32.MAX (lexemes_in tokens.now))) }
+        (with_front (procedure_of first ∷ [])
+        (more_procedures_at depth u32.MAX (lexemes_in tokens.now))) }
 {
     let mut found = Procedures::new(alloc);
     found.push(first)?;
@@ -126,7 +129,8 @@ pub fn procedures(
     depth: u32,
     tokens: &[Token],
 ) -> Result<(Procedures, &[Token]), ReadFault>
-    ensures { Gives (λ x. (map procedure_of x.0, lexemes_in x.1.now)) result (procedures_at depth u32.MAX (lexemes_in tokens.now)) }
+    ensures { Gives (λ x. (map procedure_of x.0, lexemes_in x.1.now)) result
+        (procedures_at depth u32.MAX (lexemes_in tokens.now)) }
 {
     let rest = expect(tokens, "proc")?;
     let (first, rest) = procedure(alloc, depth, rest)?;

@@ -18,7 +18,8 @@ use token_readers::{ReadFault, after, expect, number, step_line, word};
 
 // One or more numbers with commas between them.
 fn numbers(alloc: Global, tokens: &[Token]) -> Result<(Numbers, &[Token]), ReadFault>
-    ensures { Gives (λ x. (x.0, lexemes_in x.1.now)) result (sep_list comma (leaf leaf_number) u32.MAX (lexemes_in tokens.now)) }
+    ensures { Gives (λ x. (x.0, lexemes_in x.1.now)) result
+        (sep_list comma (leaf leaf_number) u32.MAX (lexemes_in tokens.now)) }
 {
     let mut found = Numbers::new(alloc);
     let mut rest = tokens;
@@ -36,7 +37,8 @@ fn numbers(alloc: Global, tokens: &[Token]) -> Result<(Numbers, &[Token]), ReadF
 // The numbers of the steps that a step cites, in brackets.
 #[tactic(auto, unfolding(crate::specs::Readers::bracketed_at))]
 fn premises(alloc: Global, tokens: &[Token]) -> Result<(Numbers, &[Token]), ReadFault>
-    ensures { Gives (λ x. (x.0, lexemes_in x.1.now)) result (bracketed_at (leaf leaf_number) u32.MAX (lexemes_in tokens.now)) }
+    ensures { Gives (λ x. (x.0, lexemes_in x.1.now)) result
+        (bracketed_at (leaf leaf_number) u32.MAX (lexemes_in tokens.now)) }
 {
     let rest = expect(tokens, "(")?;
     if let Some(behind) = after(rest, ")") {
@@ -55,7 +57,8 @@ fn terms<'a>(
     tokens: &'a [Token],
 ) -> Result<(Terms, &'a [Token]), ReadFault>
     ensures { Gives (λ x. (map term_of x.0, lexemes_in x.1.now)) result
-        (sep_list comma (term_at (map prog_var_of declared.now) depth) u32.MAX (lexemes_in tokens.now)) }
+        (sep_list comma (term_at (map prog_var_of declared.now) depth) u32.MAX
+        (lexemes_in tokens.now)) }
 {
     let mut found = Terms::new(alloc);
     let mut rest = tokens;
@@ -132,7 +135,8 @@ pub fn steps<'a>(
     tokens: &'a [Token],
 ) -> Result<(Steps, &'a [Token]), ReadFault>
     ensures { Gives (λ x. (map step_of x.0, lexemes_in x.1.now)) result
-        (many leaf_step (step_tail (map prog_var_of declared.now) depth u32.MAX) u32.MAX (lexemes_in tokens.now)) }
+        (many leaf_step (step_tail (map prog_var_of declared.now) depth u32.MAX) u32.MAX
+        (lexemes_in tokens.now)) }
 {
     let mut found = Steps::new(alloc);
     let mut rest = tokens;

@@ -71,7 +71,8 @@ fn negative(number: u64) -> Option<i64>
 
 // What stands behind the sign of a negative literal.
 fn leaf_negative(tokens: &[Token]) -> Result<(Term, &[Token]), ReadFault>
-    ensures { Gives (λ x. (term_of x.0, lexemes_in x.1.now)) result (leaf leaf_negative (lexemes_in tokens.now)) }
+    ensures { Gives (λ x. (term_of x.0, lexemes_in x.1.now)) result
+        (leaf leaf_negative (lexemes_in tokens.now)) }
 {
     let [first, rest @ ..] = tokens else {
         return Err(ReadFault::Text(0));
@@ -94,7 +95,8 @@ enum Operator {
 
 #[tactic(auto, unfolding(crate::specs::Expressions::operator_at))]
 fn sign(tokens: &[Token]) -> Result<(Operator, &[Token]), ReadFault>
-    ensures { Gives (λ x. (operator_of x.0, lexemes_in x.1.now)) result (operator_at (lexemes_in tokens.now)) }
+    ensures { Gives (λ x. (operator_of x.0, lexemes_in x.1.now)) result
+        (operator_at (lexemes_in tokens.now)) }
 {
     if let Some(rest) = after(tokens, "+") {
         return Ok((Operator::Add, rest));

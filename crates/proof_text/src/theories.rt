@@ -21,7 +21,8 @@ pub const MOST_DEPTH: u32 = 128;
 
 #[tactic(auto, unfolding(crate::specs::Readers::theory_at))]
 fn theory(alloc: Global, tokens: &[Token]) -> Result<(Theory, &[Token]), ReadFault>
-    ensures { Gives (λ x. (theory_of x.0, lexemes_in x.1.now)) result (theory_at MOST_DEPTH u32.MAX (lexemes_in tokens.now)) }
+    ensures { Gives (λ x. (theory_of x.0, lexemes_in x.1.now)) result
+        (theory_at MOST_DEPTH u32.MAX (lexemes_in tokens.now)) }
 {
     let rest = expect(tokens, "domlogic")?;
     let (version, rest) = number(rest)?;
@@ -48,7 +49,8 @@ fn whole_theory(alloc: Global, tokens: &[Token]) -> Result<Theory, ReadFault>
 /// The theory that the tokens spell, all of them. `BadText` comes exactly where they spell none.
 pub fn read_theory(alloc: Global, tokens: &Tokens) -> Result<Theory, TextFault>
     ensures found { IfOk result (λ t. SpellsTheory (theory_of t) (lexemes_in tokens.now)) }
-    ensures bad_text { IsErrOf result TextFault.BadText → (t : Spelled) → SpellsTheory t (lexemes_in tokens.now) → ⊥ }
+    ensures bad_text { IsErrOf result TextFault.BadText → (t : Spelled)
+        → SpellsTheory t (lexemes_in tokens.now) → ⊥ }
 {
     match whole_theory(alloc, tokens.as_slice()) {
         Ok(found) => Ok(found),

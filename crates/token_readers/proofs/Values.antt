@@ -12,9 +12,11 @@ same_truth false true f g = g refl
 same_truth false false f g = refl
 
 -- whether a lexeme is a terminal
-pub terminal_value : (b : Bool) (text : List ℕ) (l : Lexeme) → (IsTrue b → l ≡ terminal text) → (l ≡ terminal text → IsTrue b) → b ≡ is_terminal text l
+pub terminal_value : (b : Bool) (text : List ℕ) (l : Lexeme) → (IsTrue b → l ≡ terminal text)
+    → (l ≡ terminal text → IsTrue b) → b ≡ is_terminal text l
 terminal_value b text l f g =
-    same_truth b (is_terminal text l) (λ t. ap (is_terminal text) (f t) ∙ text_refl text) (λ t. g (is_terminal_is text l t))
+    same_truth b (is_terminal text l) (λ t. ap (is_terminal text) (f t) ∙ text_refl text)
+    (λ t. g (is_terminal_is text l t))
 
 -- no name, no number
 pub no_name : (l : Lexeme) → ((text : List ℕ) → l ≡ name_lexeme text → ⊥) → None ≡ leaf_name l
@@ -27,9 +29,11 @@ no_number _ h = refl
 
 -- a word is any word
 pub word_leaf : (text : List ℕ) (line : ℕ) → leaf_word (word_lexeme text line) ≡ Some text
-word_leaf text line = go (bytes_eq text (codes "step")) (is_reserved text) refl refl
+word_leaf text line = by_test (bytes_eq text (codes "step")) (is_reserved text) refl refl
   where
-    go : (b r : Bool) → bytes_eq text (codes "step") ≡ b → is_reserved text ≡ r → leaf_word (if b then step_word line else (if r then terminal text else name_lexeme text)) ≡ Some text
-    go true r e f = ap Some (sym ((bytes_eq-Decides text (codes "step")).0 e))
-    go false true e f = rw f refl
-    go false false e f = refl
+    by_test : (b r : Bool) → bytes_eq text (codes "step") ≡ b → is_reserved text ≡ r
+        → leaf_word (if b then step_word line else (if r then terminal text else name_lexeme text))
+        ≡ Some text
+    by_test true r e f = ap Some (sym ((bytes_eq-Decides text (codes "step")).0 e))
+    by_test false true e f = rw f refl
+    by_test false false e f = refl

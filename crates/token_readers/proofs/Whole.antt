@@ -8,44 +8,54 @@ use Rattle.token_readers.proofs.Sound.{Sound, ok_parts, bind_ok, bind_err, bind_
 use Rattle.token_readers.proofs.Only.{Only, OrDeep, deep, read}
 
 -- no answer of the reader is two things
-never_err : {A : Type 0} (x : Answer A) (a : A) (rest : List Lexeme) (k : ℕ) → OrDeep x a rest → x ≡ Err (At k) → ⊥
+never_err : {A : Type 0} (x : Answer A) (a : A) (rest : List Lexeme) (k : ℕ) → OrDeep x a rest
+    → x ≡ Err (At k) → ⊥
 never_err x a rest k deep e = cc
 never_err x a rest k read e = cc
 
-never_more : {A : Type 0} (x : Answer A) (a b : A) (t : Lexeme) (s : List Lexeme) → OrDeep x a [] → x ≡ Ok (b, t ∷ s) → ⊥
+never_more : {A : Type 0} (x : Answer A) (a b : A) (t : Lexeme) (s : List Lexeme) → OrDeep x a []
+    → x ≡ Ok (b, t ∷ s) → ⊥
 never_more x a b t s deep e = cc
 never_more x a b t s read e = let d = (ok_parts a b [] (t ∷ s) e).1 in cc
 
-ok_read : {A : Type 0} (x : Answer A) (a : A) (rest : List Lexeme) → OrDeep x a rest → (x ≡ Err Deep → ⊥) → x ≡ Ok (a, rest)
+ok_read : {A : Type 0} (x : Answer A) (a : A) (rest : List Lexeme) → OrDeep x a rest
+    → (x ≡ Err Deep → ⊥) → x ≡ Ok (a, rest)
 ok_read x a rest deep h = absurd (h refl)
 ok_read x a rest read h = refl
 
 take_front : (p s : List Lexeme) (j : ℕ) → j ≤ length p → take j (p ++ s) ≡ take j p
 take_front p s j h = take-append-le j p s h
 
-begins_front : {A : Type 0} (L : A → List Lexeme → Type 0) (p : List Lexeme) (j : ℕ) → Begins L p → Begins L (take j p)
+begins_front : {A : Type 0} (L : A → List Lexeme → Type 0) (p : List Lexeme) (j : ℕ) → Begins L p
+    → Begins L (take j p)
 begins_front L p j b = (
   b.0,
   drop j p ++ b.1,
   subst (λ (z : List Lexeme). L b.0 z)
-      (ap (λ (z : List Lexeme). z ++ b.1) (sym (take-append-drop j p)) ∙ append_assoc (take j p) (drop j p) b.1) b.2,
+      (ap (λ (z : List Lexeme). z ++ b.1) (sym (take-append-drop j p))
+      ∙ append_assoc (take j p) (drop j p) b.1) b.2,
 )
 
-take_next : (p : List Lexeme) (t : Lexeme) (s : List Lexeme) → take (suc (length p)) (p ++ (t ∷ s)) ≡ p ++ (t ∷ [])
+take_next : (p : List Lexeme) (t : Lexeme) (s : List Lexeme) → take (suc (length p)) (p ++ (t ∷ s))
+    ≡ p ++ (t ∷ [])
 take_next [] t s = refl
 take_next (x ∷ p) t s = ap (λ (z : List Lexeme). x ∷ z) (take_next p t s)
 
 no_longer : {A : Type 0} (L : A → List Lexeme → Type 0) (ts p rest : List Lexeme) → ts ≡ p ++ rest
-    → ((t : Lexeme) (s : List Lexeme) → rest ≡ t ∷ s → (a : A) (u : List Lexeme) → L a (p ++ (t ∷ u)) → ⊥)
+    → ((t : Lexeme) (s : List Lexeme) → rest ≡ t ∷ s → (a : A) (u : List Lexeme)
+    → L a (p ++ (t ∷ u)) → ⊥)
     → suc (length p) ≤ length ts → Begins L (take (suc (length p)) ts) → ⊥
 no_longer L ts p [] e dead le x = omega (arith, ap (length {A = Lexeme}) e, length-append p [])
 no_longer L ts p (t ∷ s) e dead le x =
-    let h : take (suc (length p)) ts ≡ p ++ (t ∷ []) = ap (take (suc (length p))) e ∙ take_next p t s in
+    let h : take (suc (length p)) ts ≡ p ++ (t ∷ []) = ap (take (suc (length p))) e
+    ∙ take_next p t s in
     let y : Begins L (p ++ (t ∷ [])) = subst (λ (z : List Lexeme). Begins L z) h x in
     dead t s refl y.0 y.1 (subst (λ (z : List Lexeme). L y.0 z) (append_assoc p (t ∷ []) y.1) y.2)
 
-cut_fault : {A : Type 0} (L : A → List Lexeme → Type 0) (ts p rest : List Lexeme) → ts ≡ p ++ rest → Begins L p
-    → ((t : Lexeme) (s : List Lexeme) → rest ≡ t ∷ s → (a : A) (u : List Lexeme) → L a (p ++ (t ∷ u)) → ⊥)
+cut_fault : {A : Type 0} (L : A → List Lexeme → Type 0) (ts p rest : List Lexeme) → ts ≡ p ++ rest
+    → Begins L p
+    → ((t : Lexeme) (s : List Lexeme) → rest ≡ t ∷ s → (a : A) (u : List Lexeme)
+    → L a (p ++ (t ∷ u)) → ⊥)
     → IsFaultToken L ts (suc (length p))
 cut_fault L ts p rest e b dead = record {
   low = omega arith;
@@ -56,10 +66,12 @@ cut_fault L ts p rest e b dead = record {
   here = λ le x. no_longer L ts p rest e dead le x;
 }
 
-module _ {A : Type 0} (r : ℕ → Read A) (L : A → List Lexeme → Type 0) (stops : List Lexeme → Bool) (at_end : stops [] ≡ true)
+module _ {A : Type 0} (r : ℕ → Read A) (L : A → List Lexeme → Type 0) (stops : List Lexeme → Bool)
+    (at_end : stops [] ≡ true)
     (S : (n : ℕ) → Sound n (r n) L) (O : (n : ℕ) → Only (r n) L stops) where
   whole_reads : (n : ℕ) (a : A) (ts : List Lexeme) → L a ts → OrDeep (r n ts) a []
-  whole_reads n a ts l = subst (λ (z : List Lexeme). OrDeep (r n z) a []) (append-nil ts) ((O n).only a ts [] l at_end)
+  whole_reads n a ts l = subst (λ (z : List Lexeme). OrDeep (r n z) a []) (append-nil ts)
+      ((O n).only a ts [] l at_end)
 
   -- what is read is spelled
   pub whole_found : (n : ℕ) (ts : List Lexeme) (a : A) → whole (r n) ts ≡ Ok a → L a ts
@@ -68,15 +80,19 @@ module _ {A : Type 0} (r : ℕ → Read A) (L : A → List Lexeme → Type 0) (s
       let f = (S n).found ts x.0.0 x.0.1 x.1 in
       ended_found x.0.0 x.0.1 a x.2 ts f.0 f.1 f.2
     where
-      ended_found : (b : A) (rest : List Lexeme) (a : A) → ended b rest ≡ Ok a → (ts s : List Lexeme) → ts ≡ s ++ rest → L b s → L a ts
+      ended_found : (b : A) (rest : List Lexeme) (a : A) → ended b rest ≡ Ok a
+          → (ts s : List Lexeme) → ts ≡ s ++ rest → L b s → L a ts
       ended_found b [] a e ts s h l =
           let ba : b ≡ a = cc in
-          subst (λ (z : A). L z ts) ba (subst (λ (z : List Lexeme). L b z) (sym (h ∙ append-nil s)) l)
+          subst (λ (z : A). L z ts) ba (subst (λ (z : List Lexeme). L b z) (sym (h ∙ append-nil s))
+          l)
       ended_found b (t ∷ rest) a e ts s h l = absurd cc
 
   -- what is spelled is read
-  pub whole_only : (n : ℕ) (ts : List Lexeme) (a : A) → length ts < n → L a ts → whole (r n) ts ≡ Ok a
-  whole_only n ts a lt l = bind_then (r n ts) (λ (x : A × List Lexeme). ended x.0 x.1) (a, []) (ok_read (r n ts) a [] (whole_reads n a ts l) ((S n).ends ts lt))
+  pub whole_only : (n : ℕ) (ts : List Lexeme) (a : A) → length ts < n → L a ts
+      → whole (r n) ts ≡ Ok a
+  whole_only n ts a lt l = bind_then (r n ts) (λ (x : A × List Lexeme). ended x.0 x.1) (a, [])
+      (ok_read (r n ts) a [] (whole_reads n a ts l) ((S n).ends ts lt))
 
   -- a list spells at most one value
   pub one_value : (ts : List Lexeme) (a b : A) → L a ts → L b ts → a ≡ b
@@ -87,49 +103,70 @@ module _ {A : Type 0} (r : ℕ → Read A) (L : A → List Lexeme → Type 0) (s
       (ok_parts a b [] [] (sym x ∙ y)).0
 
   -- where it spells nothing, the fault token
-  pub whole_fault : (n : ℕ) (ts : List Lexeme) (k : ℕ) → whole (r n) ts ≡ Err (At k) → IsFaultToken L ts (suc (length ts - k))
+  pub whole_fault : (n : ℕ) (ts : List Lexeme) (k : ℕ) → whole (r n) ts ≡ Err (At k)
+      → IsFaultToken L ts (suc (length ts - k))
   whole_fault n ts k e =
       elim (bind_err (r n ts) (λ (x : A × List Lexeme). ended x.0 x.1) (At k) e) [
         | inl h ↦
             let v = (S n).viable ts k h in
-            let len : length ts - k ≡ length v.0 = omega (arith, ap (length {A = Lexeme}) v.2, length-append v.0 v.1, v.3) in
+            let len : length ts - k ≡ length v.0 =
+            omega (arith, ap (length {A = Lexeme}) v.2, length-append v.0 v.1, v.3) in
             subst (λ (z : ℕ). IsFaultToken L ts (suc z)) (sym len)
             (cut_fault L ts v.0 v.1 v.2 (v.4, v.5, v.6) λ t s es a u la.
             let h2 : r n (v.0 ++ (t ∷ s)) ≡ Err (At (suc (length s))) =
-            subst (λ (z : List Lexeme). r n (v.0 ++ z) ≡ Err (At (length z))) es (subst (λ (z : List Lexeme). r n z ≡ Err (At (length v.1))) v.2 (subst (λ (z : ℕ). r n ts ≡ Err (At z)) v.3 h)) in
-            never_err (r n (v.0 ++ (t ∷ u))) a [] (suc (length u)) (whole_reads n a (v.0 ++ (t ∷ u)) la) ((S n).local_err v.0 t s h2 u))
+            subst (λ (z : List Lexeme). r n (v.0 ++ z) ≡ Err (At (length z))) es
+            (subst (λ (z : List Lexeme). r n z ≡ Err (At (length v.1))) v.2
+            (subst (λ (z : ℕ). r n ts ≡ Err (At z)) v.3 h)) in
+            never_err (r n (v.0 ++ (t ∷ u))) a [] (suc (length u))
+            (whole_reads n a (v.0 ++ (t ∷ u)) la) ((S n).local_err v.0 t s h2 u))
         | inr x ↦
             let f = (S n).found ts x.0.0 x.0.1 x.1 in
             more_fault n ts k x.0.0 x.0.1 f.0 x.1 x.2 f.1 f.2
       ]
     where
-      more_fault : (n : ℕ) (ts : List Lexeme) (k : ℕ) (b : A) (rest s : List Lexeme) → r n ts ≡ Ok (b, rest) → ended b rest ≡ Err (At k) → ts ≡ s ++ rest → L b s
+      more_fault : (n : ℕ) (ts : List Lexeme) (k : ℕ) (b : A) (rest s : List Lexeme)
+          → r n ts ≡ Ok (b, rest) → ended b rest ≡ Err (At k) → ts ≡ s ++ rest → L b s
           → IsFaultToken L ts (suc (length ts - k))
       more_fault n ts k b [] s e h cut l = absurd cc
       more_fault n ts k b (t ∷ rest) s e h cut l =
           let ke : suc (length rest) ≡ k = cc in
-          let len : length ts - k ≡ length s = omega (arith, ap (length {A = Lexeme}) cut, length-append s (t ∷ rest), ke) in
+          let len : length ts - k ≡ length s =
+          omega (arith, ap (length {A = Lexeme}) cut, length-append s (t ∷ rest), ke) in
           subst (λ (z : ℕ). IsFaultToken L ts (suc z)) (sym len)
-          (cut_fault L ts s (t ∷ rest) cut (b, [], subst (λ (z : List Lexeme). L b z) (sym (append-nil s)) l) λ t2 s2 es a u la.
+          (cut_fault L ts s (t ∷ rest) cut
+          (b, [], subst (λ (z : List Lexeme). L b z) (sym (append-nil s)) l) λ t2 s2 es a u la.
           let h2 : r n (s ++ (t2 ∷ s2)) ≡ Ok (b, t2 ∷ s2) =
-          subst (λ (z : List Lexeme). r n (s ++ z) ≡ Ok (b, z)) es (subst (λ (z : List Lexeme). r n z ≡ Ok (b, t ∷ rest)) cut e) in
-          never_more (r n (s ++ (t2 ∷ u))) a b t2 u (whole_reads n a (s ++ (t2 ∷ u)) la) ((S n).local_ok s t2 s2 b h2 u))
+          subst (λ (z : List Lexeme). r n (s ++ z) ≡ Ok (b, z)) es
+          (subst (λ (z : List Lexeme). r n z ≡ Ok (b, t ∷ rest)) cut e) in
+          never_more (r n (s ++ (t2 ∷ u))) a b t2 u (whole_reads n a (s ++ (t2 ∷ u)) la)
+          ((S n).local_ok s t2 s2 b h2 u))
 
   -- what is spelled is read, or nothing is said
-  pub whole_or_deep : (n : ℕ) (ts : List Lexeme) (a : A) → L a ts → (whole (r n) ts ≡ Ok a) ⊎ (whole (r n) ts ≡ Err Deep)
+  pub whole_or_deep : (n : ℕ) (ts : List Lexeme) (a : A) → L a ts → (whole (r n) ts ≡ Ok a)
+      ⊎ (whole (r n) ts ≡ Err Deep)
   whole_or_deep n ts a l = cases (r n ts) (whole_reads n a ts l)
     where
-      cases : (x : Answer A) → OrDeep x a [] → ((x >>= λ z. ended z.0 z.1) ≡ Ok a) ⊎ ((x >>= λ z. ended z.0 z.1) ≡ Err Deep)
+      cases : (x : Answer A) → OrDeep x a [] → ((x >>= λ z. ended z.0 z.1) ≡ Ok a)
+          ⊎ ((x >>= λ z. ended z.0 z.1) ≡ Err Deep)
       cases x deep = inr refl
       cases x read = inl refl
 
   pub left_fits : (n : ℕ) (ts : List Lexeme) (k : ℕ) → whole (r n) ts ≡ Err (At k) → k ≤ length ts
   left_fits n ts k e =
       elim (bind_err (r n ts) (λ (x : A × List Lexeme). ended x.0 x.1) (At k) e) [
-        | inl h ↦ let v = (S n).viable ts k h in omega (arith, ap (length {A = Lexeme}) v.2, length-append v.0 v.1, v.3)
-        | inr x ↦ let f = (S n).found ts x.0.0 x.0.1 x.1 in omega (arith, ap (length {A = Lexeme}) f.1, length-append f.0 x.0.1, ended_left x.0.0 x.0.1 k x.2)
+        | inl h ↦ let v = (S n).viable ts k h in
+            omega (arith, ap (length {A = Lexeme}) v.2, length-append v.0 v.1, v.3)
+        | inr x ↦ let f = (S n).found ts x.0.0 x.0.1 x.1 in
+            omega (
+              arith,
+              ap (length {A = Lexeme}) f.1,
+              length-append f.0 x.0.1,
+              ended_left x.0.0
+                  x.0.1 k x.2,
+            )
       ]
     where
-      ended_left : (b : A) (rest : List Lexeme) (k : ℕ) → ended b rest ≡ Err (At k) → k ≡ length rest
+      ended_left : (b : A) (rest : List Lexeme) (k : ℕ) → ended b rest ≡ Err (At k)
+          → k ≡ length rest
       ended_left b [] k h = absurd cc
       ended_left b (t ∷ rest) k h = cc

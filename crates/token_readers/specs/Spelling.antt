@@ -9,7 +9,8 @@ Begins {A} L p = (a : A) × (s : List Lexeme) × L a (p ++ s)
 
 -- The least k such that no spelling begins with the first k lexemes, or one more than the length
 -- where each prefix begins one.
-pub record IsFaultToken {A : Type 0} (L : A → List Lexeme → Type 0) (ts : List Lexeme) (k : ℕ) : Type 0 where
+pub record IsFaultToken {A : Type 0} (L : A → List Lexeme → Type 0) (ts : List Lexeme)
+    (k : ℕ) : Type 0 where
   pub low : 0 < k
   pub high : k ≤ length ts + 1
   pub before : (j : ℕ) → j < k → Begins L (take j ts)

@@ -48,7 +48,8 @@ fn line_of(token: &Token) -> Option<u32>
 
 /// A word that isn't reserved.
 pub fn name(alloc: Global, tokens: &[Token]) -> Result<(Text, &[Token]), ReadFault>
-    ensures { Gives (λ x. (x.0, lexemes_in x.1.now)) result (leaf leaf_name (lexemes_in tokens.now)) }
+    ensures { Gives (λ x. (x.0, lexemes_in x.1.now)) result
+        (leaf leaf_name (lexemes_in tokens.now)) }
 {
     let [first, rest @ ..] = tokens else {
         return Err(ReadFault::Text(0));
@@ -61,7 +62,8 @@ pub fn name(alloc: Global, tokens: &[Token]) -> Result<(Text, &[Token]), ReadFau
 
 /// Any word, reserved or not.
 pub fn word(alloc: Global, tokens: &[Token]) -> Result<(Text, &[Token]), ReadFault>
-    ensures { Gives (λ x. (x.0, lexemes_in x.1.now)) result (leaf leaf_word (lexemes_in tokens.now)) }
+    ensures { Gives (λ x. (x.0, lexemes_in x.1.now)) result
+        (leaf leaf_word (lexemes_in tokens.now)) }
 {
     let [first, rest @ ..] = tokens else {
         return Err(ReadFault::Text(0));
@@ -74,7 +76,8 @@ pub fn word(alloc: Global, tokens: &[Token]) -> Result<(Text, &[Token]), ReadFau
 
 /// A number of at most 32 bits.
 pub fn number(tokens: &[Token]) -> Result<(u32, &[Token]), ReadFault>
-    ensures { Gives (λ x. (x.0, lexemes_in x.1.now)) result (leaf leaf_number (lexemes_in tokens.now)) }
+    ensures { Gives (λ x. (x.0, lexemes_in x.1.now)) result
+        (leaf leaf_number (lexemes_in tokens.now)) }
 {
     let [first, rest @ ..] = tokens else {
         return Err(ReadFault::Text(0));
@@ -87,7 +90,8 @@ pub fn number(tokens: &[Token]) -> Result<(u32, &[Token]), ReadFault>
 
 /// The line of the word `step` and what stands behind it, where it comes first.
 pub fn step_line(tokens: &[Token]) -> Option<(u32, &[Token])>
-    ensures { option_map (λ x. (x.0, lexemes_in x.1.now)) result ≡ first leaf_step (lexemes_in tokens.now) }
+    ensures { option_map (λ x. (x.0, lexemes_in x.1.now)) result
+        ≡ first leaf_step (lexemes_in tokens.now) }
 {
     let [first, rest @ ..] = tokens else {
         return None;

@@ -1,7 +1,7 @@
 //! Readers of lists of tokens, how they are put together, and why what they read is what a grammar
-//! spells. Promises that a reader put together by these rules is exact; the lemmas that say so, with the
-//! fault token, stand in proofs/.
-//! Stands on text_tokens and on what the grammar sees of a token.
+//! spells. Promises that a reader put together by these rules is exact; the lemmas that say so,
+//! with the fault token, stand in proofs/. Stands on text_tokens and on what the grammar sees of a
+//! token.
 #![tactic(auto)]
 
 mod fault;

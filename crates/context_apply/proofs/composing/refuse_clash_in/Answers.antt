@@ -6,7 +6,8 @@ use Rattle.context_apply.proofs.composing.refuse_clash_in.Goals as goal
 
 pub refuse_clash-requires : goal.refuse_clash-requires
 refuse_clash-requires c =
-    subst NoZero (sym c.in_ok-trees.ensures) (zero-emptied (context_thing c.args.context.now) c.requires)
+    subst NoZero (sym c.in_ok-trees.ensures)
+    (zero-emptied (context_thing c.args.context.now) c.requires)
 
 pub returns : goal.returns
 returns c =

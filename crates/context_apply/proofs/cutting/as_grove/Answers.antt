@@ -11,5 +11,6 @@ returns-clause-same c t =
     let before = c.args.context.left in
     let after = c.args.context.right in
     put-first before after c.in_ok-rest-in-One.rest _ c.in_ok-rest-in-One.ensures t
-    ∙ ap (λ x. root_uses t (beside (forest_of before) (beside (inner_thing (forest_inner_of x)) (forest_of after))))
+    ∙ ap (λ x. root_uses t (beside (forest_of before)
+    (beside (inner_thing (forest_inner_of x)) (forest_of after))))
     (sym c.in-One.is)

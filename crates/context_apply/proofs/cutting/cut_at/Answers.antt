@@ -6,8 +6,12 @@ use Rattle.context_apply.proofs.cutting.cut_at.Goals as goal
 
 pub returns-clause-found : goal.returns-clause-found
 returns-clause-found c =
-    let found = rw c.in-Some.is at c.in_ok-inside.ensures.found in
-    (put-back-first _ _ _ _ c.in_ok-as_grove.ensures.same found.0, c.in_ok-as_grove.ensures.hole, refl, found.2)
+    let found = rw c.in-Some.is at c.in_ok-inside.ensures.found in (
+      put-back-first _ _ _ _ c.in_ok-as_grove.ensures.same found.0,
+      c.in_ok-as_grove.ensures.hole,
+      refl,
+      found.2,
+    )
 
 pub returns-clause-proper : goal.returns-clause-proper
 returns-clause-proper c =

@@ -8,4 +8,5 @@ returns-then-has_root-clause-parent c =
 
 pub returns-clause-parent : goal.returns-clause-parent
 returns-clause-parent c =
-    parent_found c.args.id (forest_of c.args.grove.now) c.in_ok-parent.parent.now c.in_ok-parent.ensures
+    parent_found c.args.id (forest_of c.args.grove.now) c.in_ok-parent.parent.now
+    c.in_ok-parent.ensures

@@ -8,5 +8,6 @@ use Rattle.logic_text.proofs.ranges.+ranges.Given as goal
 abbrev pub invariant-ranged_forest-loop-tree : goal.invariant-ranged_forest-loop-tree
 invariant-ranged_forest-loop-tree l = record {
   made : map tree_of l.made ≡ map raw_tree_of (take l.tree-index l.tree-items);
-  left : first_out_of_range (raw_forest_of (drop l.tree-index l.tree-items)) ≡ first_out_of_range (raw_forest_of l.tree-items);
+  left : first_out_of_range (raw_forest_of (drop l.tree-index l.tree-items))
+      ≡ first_out_of_range (raw_forest_of l.tree-items);
 }

@@ -21,5 +21,8 @@ decreases-forest l = 4 * l.depth + 3
 
 abbrev pub invariant-trees-loop : goal.invariant-trees-loop
 invariant-trees-loop l =
-    with_front (map raw_tree_of l.found) (sep_list l.between (marked_at l.left l.right (tree_at 4294967295 l.depth)) (4294967295 - l.counter) (lexemes_in l.rest))
-    ≡ sep_list l.between (marked_at l.left l.right (tree_at 4294967295 l.depth)) 4294967295 (lexemes_in l.tokens)
+    with_front (map raw_tree_of l.found)
+    (sep_list l.between (marked_at l.left l.right (tree_at 4294967295 l.depth))
+    (4294967295 - l.counter) (lexemes_in l.rest))
+    ≡ sep_list l.between (marked_at l.left l.right (tree_at 4294967295 l.depth)) 4294967295
+    (lexemes_in l.tokens)

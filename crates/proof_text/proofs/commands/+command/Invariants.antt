@@ -16,5 +16,8 @@ decreases-commands l = 2 * l.depth + 1
 
 abbrev pub invariant-commands-loop : goal.invariant-commands-loop
 invariant-commands-loop l =
-    with_front (map command_of l.found) (sep_list semicolon (command_at (map prog_var_of l.declared) 4294967295 l.depth) (4294967295 - l.counter) (lexemes_in l.rest))
-    ≡ sep_list semicolon (command_at (map prog_var_of l.declared) 4294967295 l.depth) 4294967295 (lexemes_in l.tokens)
+    with_front (map command_of l.found)
+    (sep_list semicolon (command_at (map prog_var_of l.declared) 4294967295 l.depth)
+    (4294967295 - l.counter) (lexemes_in l.rest))
+    ≡ sep_list semicolon (command_at (map prog_var_of l.declared) 4294967295 l.depth) 4294967295
+    (lexemes_in l.tokens)

@@ -9,5 +9,7 @@ use Rattle.proof_text.proofs.procedures.more_procedures.Given as goal
 abbrev pub invariant-loop : goal.invariant-loop
 invariant-loop l =
     with_front (map procedure_of l.found)
-    (many (the_terminal (codes "proc")) (λ x. procedure_tail l.depth 4294967295) (4294967295 - l.counter) (lexemes_in l.rest))
-    ≡ with_front (procedure_of l.fn.first ∷ []) (more_procedures_at l.depth 4294967295 (lexemes_in l.tokens))
+    (many (the_terminal (codes "proc")) (λ x. procedure_tail l.depth 4294967295)
+    (4294967295 - l.counter) (lexemes_in l.rest))
+    ≡ with_front (procedure_of l.fn.first ∷ [])
+    (more_procedures_at l.depth 4294967295 (lexemes_in l.tokens))

@@ -9,5 +9,8 @@ use Rattle.proof_text.proofs.steps.steps.Given as goal
 
 abbrev pub invariant-loop : goal.invariant-loop
 invariant-loop l =
-    with_front (map step_of l.found) (many leaf_step (step_tail (map prog_var_of l.declared) l.depth 4294967295) (4294967295 - l.counter) (lexemes_in l.rest))
-    ≡ many leaf_step (step_tail (map prog_var_of l.declared) l.depth 4294967295) 4294967295 (lexemes_in l.tokens)
+    with_front (map step_of l.found)
+    (many leaf_step (step_tail (map prog_var_of l.declared) l.depth 4294967295)
+    (4294967295 - l.counter) (lexemes_in l.rest))
+    ≡ many leaf_step (step_tail (map prog_var_of l.declared) l.depth 4294967295) 4294967295
+    (lexemes_in l.tokens)

@@ -9,5 +9,7 @@ use Rattle.proof_text.proofs.steps.terms.Given as goal
 
 abbrev pub invariant-loop : goal.invariant-loop
 invariant-loop l =
-    with_front (map term_of l.found) (sep_list comma (term_at (map prog_var_of l.declared) l.depth) (4294967295 - l.counter) (lexemes_in l.rest))
+    with_front (map term_of l.found)
+    (sep_list comma (term_at (map prog_var_of l.declared) l.depth) (4294967295 - l.counter)
+    (lexemes_in l.rest))
     ≡ sep_list comma (term_at (map prog_var_of l.declared) l.depth) 4294967295 (lexemes_in l.tokens)

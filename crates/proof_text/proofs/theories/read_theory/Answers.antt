@@ -10,8 +10,10 @@ use Rattle.proof_text.proofs.Exact.{found, only}
 use Rattle.proof_text.proofs.theories.read_theory.Goals as goal
 
 -- what is spelled is read, or nothing is said, so a list that isn't read spells nothing
-spells_nothing : (ts : List Lexeme) (k : ℕ) (t : Theory) → whole (theory_at 128 4294967295) ts ≡ Err (At k) → SpellsTheory t ts → ⊥
-spells_nothing ts k t e l = elim (only 128 ts t l) [ inl h ↦ (let x = sym e ∙ h in cc) | inr h ↦ (let x = sym e ∙ h in cc) ]
+spells_nothing : (ts : List Lexeme) (k : ℕ) (t : Theory) → whole (theory_at 128 4294967295) ts
+    ≡ Err (At k) → SpellsTheory t ts → ⊥
+spells_nothing ts k t e l = elim (only 128 ts t l)
+    [ inl h ↦ (let x = sym e ∙ h in cc) | inr h ↦ (let x = sym e ∙ h in cc) ]
 
 pub returns-in-Ok-clause-found : goal.returns-in-Ok-clause-found
 returns-in-Ok-clause-found c = found 128 _ _ (rw c.as_slice.ensures at c.in-Ok.ensures)
