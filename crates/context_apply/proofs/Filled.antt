@@ -7,7 +7,7 @@ use Rattle.model_shapes.proofs.ByConstruction.{fill-between, fill-before, fill-r
 use Rattle.grove_data.specs.Trees.{forest_of}
 use Rattle.grove_data.specs.declared.trees.Tree.{Tree}
 use Rattle.context_apply.specs.Clashes.{NoZero}
-use Rattle.context_apply.proofs.Joined.{forest-bare}
+use Rattle.grove_data.proofs.Bare.{forest-bare}
 
 -- a forest between two others
 pub between-filled : (left right : List Tree) (inside piece : Trees)

@@ -1,4 +1,4 @@
--- The trees of forests, one after another; none of them has a hole.
+-- The trees of forests, one after another.
 use Rattle.std.proofs.Common.{◌≡◌, List, [], ◌∷◌, ◌++◌, map, length, sym, refl, ap, arith, ◌∙◌, subst, Some}
 use Rattle.std.specs.Prelude.{slice_get}
 use Rattle.model_shapes.specs.Trees.{Trees, none, beside, width}
@@ -16,26 +16,6 @@ forest_of-append [] ys = refl
 forest_of-append (x ∷ xs) ys =
     ap (beside (tree_of x)) (forest_of-append xs ys)
     ∙ sym (beside_assoc (tree_of x) (forest_of xs) (forest_of ys))
-
-abbrev IsBare : Tree → Type 0
-IsBare t = holes (tree_of t) ≡ 0
-
-kids-bare : (ts : List ((t : Tree) × IsBare t)) → holes (forest_of (map (λ e. e.0) ts)) ≡ 0
-kids-bare [] = refl
-kids-bare (t ∷ ts) =
-    omega (arith, holes-beside (tree_of t.0) (forest_of (map (λ e. e.0) ts)), t.1, kids-bare ts)
-
--- no tree of the program has a hole
-pub tree-bare : (t : Tree) → holes (tree_of t) ≡ 0
-tree-bare = ind-Tree IsBare (λ x y is.
-    let inner = subst (λ z. holes (forest_of z.kids) ≡ 0) is (kids-bare y.kids) in
-    omega (arith, ap holes (fold-roll-Tree Trees tree_step x), inner))
-
--- and no forest
-pub forest-bare : (ts : List Tree) → holes (forest_of ts) ≡ 0
-forest-bare [] = refl
-forest-bare (t ∷ ts) =
-    omega (arith, holes-beside (tree_of t) (forest_of ts), tree-bare t, forest-bare ts)
 
 -- each tree is one root
 pub tree-width : (t : Tree) → width (tree_of t) ≡ 1

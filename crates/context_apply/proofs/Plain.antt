@@ -21,7 +21,8 @@ use Rattle.context_apply.specs.declared.contexts.Context.TheVariants as c
 use Rattle.context_apply.specs.declared.contexts.Piece.{Piece}
 use Rattle.context_apply.specs.declared.contexts.Piece.TheVariants as p
 use Rattle.context_apply.specs.Contexts.{tree_context_of, forest_inner_of, forest_context_of, grove_inner_of, grove_context_of, with_rest, context_thing, hole_sort_of, outer_sort_of, piece_thing, piece_sort_of}
-use Rattle.context_apply.proofs.Joined.{tree-bare, forest-bare, tree-width}
+use Rattle.grove_data.proofs.Bare.{tree-bare, forest-bare}
+use Rattle.context_apply.proofs.Joined.{tree-width}
 
 mutual
   -- what stands beside the hole has no hole

@@ -22,6 +22,3 @@ pub use faults::PlugFault;
 pub use laws::{contexts_are_plain, pieces_are_plain, plain_contexts_are_held};
 pub use plugging::plug;
 pub use sorts::{hole_sort, outer_sort};
-
-#[cfg(test)]
-mod tests;

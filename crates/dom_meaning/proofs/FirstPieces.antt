@@ -6,7 +6,7 @@ use Rattle.model_machine.specs.Machine as model
 use Rattle.model_groves.specs.Picks.{Pick}
 use Rattle.model_machine.specs.Machine.{Piece, Move, becomes, faults, bad_pick, move, next, at_fault, at_bad_pick, stepped, step}
 use Rattle.model_limits.specs.Limits.{standard_limits}
-use Rattle.model_machine.specs.Outcomes.{step_limit}
+use Rattle.model_machine.specs.Outcomes.{step_limit, limit_ahead}
 use Rattle.model_machine.specs.Fitting.{FitsPiece}
 use Rattle.dom_terms.specs.Stores.{store_of}
 use Rattle.grove_data.specs.Trees.{forest_of}
@@ -16,7 +16,6 @@ use Rattle.dom_meaning.specs.declared.plans.Change.{Change}
 use Rattle.dom_meaning.specs.Configs.{piece_of, pieces_in, config_of}
 use Rattle.dom_meaning.specs.Built.{is_built_piece, IsRunnable}
 use Rattle.dom_meaning.specs.Plans.{pieces_put, store_after, grove_after}
-use Rattle.dom_meaning.specs.Steps.{limit_ahead}
 use Rattle.dom_meaning.proofs.PieceLaws.{last-of, first_piece, pieces_in-append}
 use Rattle.dom_meaning.proofs.StepLaws.{first-built, first-fits, first-step, first-limit}
 
@@ -46,8 +45,8 @@ module _ (ps : Procedures) (config : Config) (piece : Pending)
   pub piece_fits : IsRunnable ps (config_of config) → FitsPiece ps (piece_of piece)
   piece_fits = first-fits ps (config_of config) (piece_of piece) (pieces_in others) first
 
-  pub piece_limit : limit_ahead (config_of config) ≡ step_limit standard_limits (piece_of piece)
-      (pieces_in others) (store_of config.store) (forest_of config.grove)
+  pub piece_limit : limit_ahead standard_limits (config_of config)
+      ≡ step_limit standard_limits (piece_of piece) (pieces_in others) (store_of config.store) (forest_of config.grove)
   piece_limit = first-limit ps (config_of config) (piece_of piece) (pieces_in others) first
 
   -- the step, by the move of the piece

@@ -7,4 +7,3 @@ pub mod StoreLaws
 pub mod RunLaws
 pub mod Bodies
 pub mod Beginnings
-pub mod ExampleLaws

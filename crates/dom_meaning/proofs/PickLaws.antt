@@ -3,7 +3,7 @@ use Rattle.std.proofs.Common.{◌≡◌, ℕ, zero, suc, ◌<◌, ◌+◌, true,
 use Rattle.std.specs.Prelude.{MatchOption, is_some, option_copied}
 use Rattle.std.proofs.Math.Decide.{ℕ_discrete}
 use Rattle.model_shapes.specs.Values.{node_number, list_number}
-use Rattle.model_shapes.specs.Trees.{Trees, none, node, hole, beside, width, node_uses, list_uses, tally}
+use Rattle.model_shapes.specs.Trees.{Trees, none, node, hole, beside, width, node_uses, list_uses, one_if}
 use Rattle.model_groves.specs.Groves.{is_yes}
 use Rattle.model_groves.specs.Groves.{nodes_where, numbered, listed, node_at, list_at, positive}
 use Rattle.model_groves.proofs.Groves.{width-numbered, width-listed}
@@ -22,16 +22,16 @@ node-unused : (n : ℕ) (g : Trees) → nodes_where (numbered n) g ≡ none → 
 node-unused n none e = refl
 node-unused n (hole r) e = node-unused n r e
 node-unused n (node s i k l r) e =
-    go (ℕ_discrete n i) e (node-unused n k) (node-unused n r)
+    by_test (ℕ_discrete n i) e (node-unused n k) (node-unused n r)
   where
-    go : (d : Dec (n ≡ i))
+    by_test : (d : Dec (n ≡ i))
         → cond (is_yes d) (node s i k l (nodes_where (numbered n) r))
         (beside (nodes_where (numbered n) k) (nodes_where (numbered n) r)) ≡ none
         → (nodes_where (numbered n) k ≡ none → node_uses n k ≡ 0)
         → (nodes_where (numbered n) r ≡ none → node_uses n r ≡ 0)
-        → tally d + (node_uses n k + node_uses n r) ≡ 0
-    go (yes same) e x y = absurd cc
-    go (no other) e x y =
+        → one_if d + (node_uses n k + node_uses n r) ≡ 0
+    by_test (yes same) e x y = absurd cc
+    by_test (no other) e x y =
         let h = none-beside (nodes_where (numbered n) k) (nodes_where (numbered n) r) e in
         omega (arith, x h.0, y h.1)
 
@@ -40,16 +40,16 @@ list-unused : (n : ℕ) (g : Trees) → nodes_where (listed n) g ≡ none → li
 list-unused n none e = refl
 list-unused n (hole r) e = list-unused n r e
 list-unused n (node s i k l r) e =
-    go (ℕ_discrete n l) e (list-unused n k) (list-unused n r)
+    by_test (ℕ_discrete n l) e (list-unused n k) (list-unused n r)
   where
-    go : (d : Dec (n ≡ l))
+    by_test : (d : Dec (n ≡ l))
         → cond (is_yes d) (node s i k l (nodes_where (listed n) r))
         (beside (nodes_where (listed n) k) (nodes_where (listed n) r)) ≡ none
         → (nodes_where (listed n) k ≡ none → list_uses n k ≡ 0)
         → (nodes_where (listed n) r ≡ none → list_uses n r ≡ 0)
-        → tally d + (list_uses n k + list_uses n r) ≡ 0
-    go (yes same) e x y = absurd cc
-    go (no other) e x y =
+        → one_if d + (list_uses n k + list_uses n r) ≡ 0
+    by_test (yes same) e x y = absurd cc
+    by_test (no other) e x y =
         let h = none-beside (nodes_where (listed n) k) (nodes_where (listed n) r) e in
         omega (arith, x h.0, y h.1)
 

@@ -9,16 +9,15 @@ use Rattle.model_commands.specs.Commands.{skip, block, assign, create_node, node
 use Rattle.model_commands.specs.CommandParts.{commands_in, commands_of}
 use Rattle.model_commands.specs.Theories.{Procedures}
 use Rattle.model_groves.specs.Groves.{node_at}
-use Rattle.model_machine.specs.Machine.{FaultKind, no_node, Piece, run, restore, return, Move, becomes, faults, bad_pick, pieces_of, reading, move, Config, next, stepped, step_on, step}
+use Rattle.model_machine.specs.Machine.{FaultKind, no_node, Piece, run, restore, return, Move, becomes, faults, bad_pick, pieces_of, reading, move, Config, configuration, next, stepped, step}
 use Rattle.model_groves.specs.Picks.{Pick, is_free}
 use Rattle.model_limits.specs.Limits.{standard_limits}
-use Rattle.model_machine.specs.Outcomes.{step_limit}
+use Rattle.model_machine.specs.Outcomes.{step_limit, limit_ahead}
 use Rattle.model_machine.specs.Fitting.{FitsPiece, FitPieces}
 use Rattle.model_commands.specs.Sorting.{BodiesSorted}
 use Rattle.model_files.proofs.FileTests.{all-append}
-use Rattle.model_machine.proofs.Starts.{step-fits}
+use Rattle.model_machine.proofs.Fine.{step-fits}
 use Rattle.dom_meaning.specs.Built.{is_built_kind, is_built, is_built_piece, IsRunnable}
-use Rattle.dom_meaning.specs.Steps.{limit_ahead}
 
 -- both tests pass
 join : (a b : Bool) → a ≡ true → b ≡ true → (a && b) ≡ true
@@ -84,14 +83,14 @@ built-stepped : (rest : List Piece) (m : Move) (after : Config) → BuiltMove m
     → list_all is_built_piece after.pending ≡ true
 built-stepped rest (becomes pieces store grove) after m r e =
     subst (λ (z : Config). list_all is_built_piece z.pending ≡ true)
-    (next-is (record { pending = pieces ++ rest; store = store; grove = grove }) after e)
+    (next-is (configuration (pieces ++ rest) store grove) after e)
     (all-join is_built_piece pieces rest m r)
 built-stepped rest (faults kind) after m r e = absurd cc
 built-stepped rest bad_pick after m r e = absurd cc
 
 built-step : (ps : Procedures) (pick : Pick) (pending : List Piece) (store : Store) (grove : Trees)
     (after : Config) → list_all is_built_piece pending ≡ true
-    → step_on ps pick pending store grove ≡ next after
+    → step ps (configuration pending store grove) pick ≡ next after
     → list_all is_built_piece after.pending ≡ true
 built-step ps pick [] store grove after b e = absurd cc
 built-step ps pick (piece ∷ rest) store grove after b e =
@@ -126,9 +125,9 @@ module _ (ps : Procedures) where
 
     pub first-step : (pick : Pick) → step ps before pick
         ≡ stepped rest (move ps pick piece before.store before.grove)
-    first-step pick = ap (λ z. step_on ps pick z before.store before.grove) first
+    first-step pick = ap (λ z. step ps (configuration z before.store before.grove) pick) first
 
-    pub first-limit : limit_ahead before
+    pub first-limit : limit_ahead standard_limits before
         ≡ step_limit standard_limits piece rest before.store before.grove
     first-limit =
-        ap (λ z. limit_ahead (record { pending = z; store = before.store; grove = before.grove })) first
+        ap (λ z. limit_ahead standard_limits (configuration z before.store before.grove)) first

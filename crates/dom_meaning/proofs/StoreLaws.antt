@@ -11,24 +11,24 @@ use Rattle.dom_terms.specs.declared.terms.ProgVar as declared
 pub found_value : (x : ProgVar) (store : Store) (v : values.Value) → Some v ≡ found_in store x
     → v ≡ value_in store x
 found_value x unset v e = absurd cc
-found_value x (holding y w store) v e = go (same_name x y) e (found_value x store v)
+found_value x (holding y w store) v e = by_test (same_name x y) e (found_value x store v)
   where
-    go : (b : Bool) → Some v ≡ cond b (Some w) (found_in store x)
+    by_test : (b : Bool) → Some v ≡ cond b (Some w) (found_in store x)
         → (Some v ≡ found_in store x → v ≡ value_in store x) → v ≡ cond b w (value_in store x)
-    go true q h = cc
-    go false q h = h q
+    by_test true q h = cc
+    by_test false q h = h q
 
 -- and one that isn't found has its sort's default
 pub absent_default : (x : ProgVar) (store : Store) → None ≡ found_in store x
     → default (sort_of x) ≡ value_in store x
 absent_default x unset e = refl
-absent_default x (holding y w store) e = go (same_name x y) e (absent_default x store)
+absent_default x (holding y w store) e = by_test (same_name x y) e (absent_default x store)
   where
-    go : (b : Bool) → None ≡ cond b (Some w) (found_in store x)
+    by_test : (b : Bool) → None ≡ cond b (Some w) (found_in store x)
         → (None ≡ found_in store x → default (sort_of x) ≡ value_in store x)
         → default (sort_of x) ≡ cond b w (value_in store x)
-    go true q h = absurd cc
-    go false q h = h q
+    by_test true q h = absurd cc
+    by_test false q h = h q
 
 -- the values, one by one
 pub values_are : (xs : List declared.ProgVar) (store : Store)

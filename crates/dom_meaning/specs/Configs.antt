@@ -1,6 +1,7 @@
 -- The configurations of the machine of the definitions, after PODS 2008, that those of the program
 -- stand for.
 use Rattle.std.specs.Prelude.{ℕ, List, map, reverse}
+use Rattle.model_groves.specs.Picks.{Pick}
 use Rattle.model_machine.specs.Machine as model
 use Rattle.dom_terms.specs.Terms.{prog_var_of}
 use Rattle.dom_terms.specs.Values.{value_seen}
@@ -31,5 +32,5 @@ config_of config = record {
 }
 
 -- the numbers that a new node is given: that of the node and that of its list
-abbrev pub pick_of : ℕ × ℕ → model.Pick
+abbrev pub pick_of : ℕ × ℕ → Pick
 pick_of pick = record { node = pick.0; list = pick.1 }

@@ -2,7 +2,7 @@
 -- reports of a limit. Want of memory is free.
 use Rattle.std.specs.Prelude.{◌≡◌, Result, Ok, Err, Option, Some, None}
 use Rattle.model_machine.specs.Machine as machine
-use Rattle.model_machine.specs.Outcomes as outcomes
+use Rattle.model_limits.specs.Limits as limits
 use Rattle.dom_terms.specs.declared.limits.LimitKind.{LimitKind}
 use Rattle.dom_terms.specs.declared.limits.LimitKind.TheVariants as l
 use Rattle.dom_terms.specs.declared.verdicts.EvalFault.{EvalFault}
@@ -20,16 +20,16 @@ fault_kind_of k.Cycle = machine.cycle
 fault_kind_of k.NotChild = machine.not_child
 
 -- the counted quantity
-abbrev pub limit_kind_of : LimitKind → outcomes.LimitKind
-limit_kind_of l.File = outcomes.file_limit
-limit_kind_of l.Nesting = outcomes.nesting_limit
-limit_kind_of l.Text = outcomes.text_limit
-limit_kind_of l.Variables = outcomes.variables_limit
-limit_kind_of l.Steps = outcomes.steps_limit
-limit_kind_of l.Nodes = outcomes.nodes_limit
-limit_kind_of l.Identifier = outcomes.identifier_limit
-limit_kind_of l.Number = outcomes.number_limit
-limit_kind_of l.Depth = outcomes.depth_limit
+abbrev pub limit_kind_of : LimitKind → limits.LimitKind
+limit_kind_of l.File = limits.file_limit
+limit_kind_of l.Nesting = limits.nesting_limit
+limit_kind_of l.Text = limits.text_limit
+limit_kind_of l.Variables = limits.variables_limit
+limit_kind_of l.Steps = limits.steps_limit
+limit_kind_of l.Nodes = limits.nodes_limit
+limit_kind_of l.Identifier = limits.identifier_limit
+limit_kind_of l.Number = limits.number_limit
+limit_kind_of l.Depth = limits.depth_limit
 
 -- the fault of a term as that of a step
 abbrev pub step_fault_of : EvalFault → StepFault
@@ -38,11 +38,11 @@ step_fault_of e.TextLimit = s.Limit l.Text
 step_fault_of e.OutOfMemory = s.OutOfMemory
 
 -- the fault is the limit that is passed
-abbrev pub IsLimit : StepFault → Option outcomes.LimitKind → Type 0
+abbrev pub IsLimit : StepFault → Option limits.LimitKind → Type 0
 IsLimit (s.Limit kind) limit = limit ≡ Some (limit_kind_of kind)
 IsLimit s.OutOfMemory limit = Unit
 
 -- an answer tells the limit: one where none is passed, and else the limit's fault
-abbrev pub TellsLimit : {A : Type 0} → Result A StepFault → Option outcomes.LimitKind → Type 0
+abbrev pub TellsLimit : {A : Type 0} → Result A StepFault → Option limits.LimitKind → Type 0
 TellsLimit (Ok answer) limit = limit ≡ None
 TellsLimit (Err fault) limit = IsLimit fault limit

@@ -5,4 +5,3 @@ pub mod Plans
 pub mod Steps
 pub mod Runs
 pub mod Starts
-pub mod Examples

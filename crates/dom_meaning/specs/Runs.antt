@@ -2,12 +2,11 @@
 use Rattle.std.specs.Prelude.{◌≡◌, ℕ, ◌+◌, List, map, nat_le, ◌&&◌, cond}
 use Rattle.model_shapes.specs.Trees.{Trees}
 use Rattle.model_terms.specs.Stores.{ProgVar}
-use Rattle.model_commands.specs.Theories.{Procedures}
+use Rattle.model_groves.specs.Picks.{Pick, next_pick}
 use Rattle.model_machine.specs.Machine as machine
 use Rattle.model_machine.specs.Outcomes as model
 use Rattle.model_limits.specs.Limits.{standard_limits}
 use Rattle.model_groves.specs.Sizes.{greatest_node, greatest_list}
-use Rattle.model_machine.specs.Outcomes.{outcome}
 use Rattle.dom_terms.specs.Terms.{prog_var_of}
 use Rattle.dom_terms.specs.Values.{value_seen}
 use Rattle.grove_data.specs.Trees.{forest_of}
@@ -17,17 +16,12 @@ use Rattle.dom_meaning.specs.declared.runs.Outcome.TheVariants as o
 use Rattle.dom_meaning.specs.Configs.{config_of}
 use Rattle.dom_meaning.specs.Faults.{fault_kind_of, limit_kind_of}
 
--- the outcome of a run of these results that goes on from here, when so many steps were taken
-abbrev pub outcome_from : Procedures → List ProgVar → ℕ → ℕ → machine.Config → model.Outcome
-outcome_from procedures results fuel taken config =
-    outcome standard_limits procedures results fuel taken config.pending config.store config.grove
-
 -- the answer is the outcome of a run of these results with this fuel
 abbrev pub IsOutcome : List ProgVar → ℕ → Outcome → model.Outcome → Type 0
 IsOutcome results fuel (o.Ended steps values grove) came_out =
     came_out ≡ model.ends steps (map value_seen values) (forest_of grove)
 IsOutcome results fuel (o.Fault kind steps command) came_out =
-    came_out ≡ model.has_fault (fault_kind_of kind) steps (machine.run (command_of command))
+    came_out ≡ model.has_fault (fault_kind_of kind) steps (command_of command)
 IsOutcome results fuel (o.Spent config) came_out =
     (came_out ≡ model.spends fuel (config_of config)) × (map prog_var_of config.results ≡ results)
 IsOutcome results fuel (o.Limit kind) came_out = came_out ≡ model.passes_limit (limit_kind_of kind)
@@ -39,8 +33,8 @@ IfSpent (o.Spent config) P = P (config_of config)
 IfSpent came_out P = Unit
 
 -- the next pick, and the bad one of two zeros where a number would pass the limit
-abbrev pub pick_within : Trees → machine.Pick
+abbrev pub pick_within : Trees → Pick
 pick_within grove =
     cond (nat_le (1 + greatest_node grove) standard_limits.identifier
-    && nat_le (1 + greatest_list grove) standard_limits.identifier) (model.next_pick grove)
+    && nat_le (1 + greatest_list grove) standard_limits.identifier) (next_pick grove)
     (record { node = 0; list = 0 })

@@ -17,6 +17,3 @@ pub use faults::{FaultKind, StepFault};
 pub use runs::{Outcome, run_plain};
 pub use starts::start;
 pub use steps::{StepOut, step};
-
-#[cfg(test)]
-mod tests;

@@ -2,7 +2,7 @@
 ghost use Rattle.std.specs.Prelude.{◌≡◌};
 ghost use Rattle.model_shapes.specs.Trees.{node_uses, list_uses, WellFormed};
 ghost use Rattle.model_groves.specs.Groves.{positive};
-ghost use Rattle.model_machine.specs.Machine as model;
+ghost use Rattle.model_groves.specs.Picks as model;
 ghost use Rattle.grove_data.specs.Trees.{forest_of};
 ghost use Rattle.dom_meaning.specs.Configs.{pick_of};
 

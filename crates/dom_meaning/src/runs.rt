@@ -5,9 +5,8 @@ ghost use Rattle.std.specs.List.{list_all};
 ghost use Rattle.model_terms.specs.Stores as stores;
 ghost use Rattle.model_commands.specs.Theories.{procedures_of};
 ghost use Rattle.model_files.specs.FileFaults.{IsWellFormedTheory};
-ghost use Rattle.model_machine.specs.Machine as machine;
-ghost use Rattle.model_machine.specs.Outcomes as model;
-ghost use Rattle.model_machine.specs.Outcomes.{values_in};
+ghost use Rattle.model_limits.specs.Limits.{standard_limits};
+ghost use Rattle.model_machine.specs.Outcomes.{outcome, has_fault, ends_at, first_command};
 ghost use Rattle.dom_terms.specs.Terms.{prog_var_of};
 ghost use Rattle.dom_terms.specs.Stores.{store_of};
 ghost use Rattle.grove_data.specs.Trees.{forest_of};
@@ -15,7 +14,7 @@ ghost use Rattle.dom_syntax.specs.Theories.{theory_of};
 ghost use Rattle.dom_meaning.specs.Configs.{config_of, pick_of};
 ghost use Rattle.dom_meaning.specs.Built.{is_built_piece, IsRunnable};
 ghost use Rattle.dom_meaning.specs.Faults.{fault_kind_of};
-ghost use Rattle.dom_meaning.specs.Runs.{outcome_from, IsOutcome, IfSpent, pick_within};
+ghost use Rattle.dom_meaning.specs.Runs.{IsOutcome, IfSpent, pick_within};
 
 use crate::configurations::{Config, Pending};
 use crate::faults::{FaultKind, StepFault};
@@ -59,8 +58,8 @@ pub fn run_plain(alloc: Global, theory: &Theory, config: Config, fuel: u32) -> O
     requires well_formed { IsWellFormedTheory (theory_of theory.now) }
     requires runnable { IsRunnable (procedures_of (theory_of theory.now)) (config_of config) }
     ensures outcome { IsOutcome (map prog_var_of config.results) fuel result
-        (outcome_from (procedures_of (theory_of theory.now)) (map prog_var_of config.results) fuel 0
-        (config_of config)) }
+        (outcome standard_limits (procedures_of (theory_of theory.now)) (map prog_var_of config.results)
+        fuel 0 (config_of config)) }
     ensures spent { IfSpent result (IsRunnable (procedures_of (theory_of theory.now))) }
 {
     let mut config = config;
@@ -83,10 +82,11 @@ fn turned(alloc: Global, theory: &Theory, mut config: Config, steps: u32) -> Res
     ensures outcome { let procedures = procedures_of (theory_of theory.now) in
         let results = map prog_var_of config.results in
         MatchResult result
-        (λ next. (fuel : ℕ) → outcome_from procedures results (suc fuel) steps (config_of config)
-        ≡ outcome_from procedures results fuel (suc steps) (config_of next))
-        (λ outcome. (fuel total : ℕ) → IsOutcome results total outcome
-        (outcome_from procedures results (suc fuel) steps (config_of config))) }
+        (λ next. (fuel : ℕ)
+        → outcome standard_limits procedures results (suc fuel) steps (config_of config)
+        ≡ outcome standard_limits procedures results fuel (suc steps) (config_of next))
+        (λ came_out. (fuel total : ℕ) → IsOutcome results total came_out
+        (outcome standard_limits procedures results (suc fuel) steps (config_of config))) }
     ensures next { MatchResult result
         (λ next. IsRunnable (procedures_of (theory_of theory.now)) (config_of next))
         (λ outcome. IfSpent outcome (λ left. ⊥)) }
@@ -117,8 +117,7 @@ fn next_pick(grove: &Grove) -> (u32, u32)
 // The end of a run.
 fn ended(alloc: Global, config: Config, steps: u32) -> Outcome
     ensures outcome { (total : ℕ) → IsOutcome (map prog_var_of config.results) total result
-        (model.ends steps (values_in (map prog_var_of config.results) (store_of config.store))
-        (forest_of config.grove)) }
+        (ends_at (map prog_var_of config.results) steps (config_of config)) }
     ensures spent { IfSpent result (λ left. ⊥) }
 {
     match values_of(alloc, &config.results, &config.store) {
@@ -135,9 +134,9 @@ fn ended(alloc: Global, config: Config, steps: u32) -> Outcome
 fn faulted(mut config: Config, kind: FaultKind, steps: u32) -> Outcome
     requires pending { 0 < length config.pending }
     requires built { list_all is_built_piece (config_of config).pending ≡ true }
-    ensures outcome { (results : plain.List stores.ProgVar) (total : ℕ) (piece : machine.Piece)
-        (rest : plain.List machine.Piece) → (config_of config).pending ≡ piece ∷ rest
-        → IsOutcome results total result (model.has_fault (fault_kind_of kind) steps piece) }
+    ensures outcome { (results : plain.List stores.ProgVar) (total : ℕ)
+        → IsOutcome results total result
+        (has_fault (fault_kind_of kind) steps (first_command (config_of config).pending)) }
     ensures spent { IfSpent result (λ left. ⊥) }
 {
     let place = config.pending.len() - 1;

@@ -4,6 +4,8 @@ ghost use Rattle.std.specs.Prelude.{◌≡◌, ◌≢◌, ◌<◌, [], ◌∷◌
 ghost use Rattle.model_commands.specs.Theories.{procedures_of};
 ghost use Rattle.model_files.specs.FileFaults.{IsWellFormedTheory};
 ghost use Rattle.model_machine.specs.Machine as model;
+ghost use Rattle.model_machine.specs.Outcomes.{limit_ahead};
+ghost use Rattle.model_limits.specs.Limits.{standard_limits};
 ghost use Rattle.model_shapes.specs.Trees.{beside};
 ghost use Rattle.model_shapes.specs.Values.{FitsValue};
 ghost use Rattle.model_terms.specs.Stores.{set};
@@ -17,7 +19,7 @@ ghost use Rattle.dom_meaning.specs.Configs.{config_of, pieces_in, pick_of};
 ghost use Rattle.dom_meaning.specs.Built.{IsRunnable};
 ghost use Rattle.dom_meaning.specs.Faults.{TellsLimit};
 ghost use Rattle.dom_meaning.specs.Plans.{pieces_put, store_after, grove_after, FitsStores};
-ghost use Rattle.dom_meaning.specs.Steps.{answer_of, limit_ahead};
+ghost use Rattle.dom_meaning.specs.Steps.{answer_of};
 ghost use Rattle.dom_meaning.specs.declared.steps.StepOut.TheVariants.{Next};
 
 use crate::configurations::{Config, Pending};
@@ -55,7 +57,7 @@ pub fn step(
     requires runnable { IsRunnable (procedures_of (theory_of theory.now)) (config_of config.old) }
     ensures step { IfOk result (λ out. answer_of out (config_of config.new)
         ≡ model.step (procedures_of (theory_of theory.now)) (config_of config.old) (pick_of pick)) }
-    ensures limit { TellsLimit result (limit_ahead (config_of config.old)) }
+    ensures limit { TellsLimit result (limit_ahead standard_limits (config_of config.old)) }
     ensures unchanged { result ≢ Ok Next → config.new ≡ config.old }
     ensures results { config.new.results ≡ config.old.results }
     ensures runnable { IsRunnable (procedures_of (theory_of theory.now)) (config_of config.new) }

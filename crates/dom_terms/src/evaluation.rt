@@ -22,9 +22,6 @@ use crate::values::Value;
 use crate::verdicts::EvalFault;
 use std::alloc::Global;
 
-#[cfg(test)]
-mod tests;
-
 // The most bytes that a text may have.
 const TEXT_BYTES: usize = 4096;
 

@@ -1,6 +1,6 @@
 ghost use Rattle.std.specs.Prelude.{◌≡◌, bytes_eq};
-ghost use Rattle.model_shapes.specs.Sorts as sorts;
-ghost use Rattle.model_terms.specs.Variables.{same_var};
+ghost use Rattle.model_shapes.specs.Tests as sorts;
+ghost use Rattle.model_terms.specs.VariableTests.{same_var};
 ghost use Rattle.dom_terms.specs.Sorts.{value_sort_of, data_sort_of, sort_of};
 ghost use Rattle.dom_terms.specs.Terms.{var_of, logic_var_of};
 

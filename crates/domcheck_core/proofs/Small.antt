@@ -1,7 +1,7 @@
 -- The theories that are read are small: no formula has more parts than lexemes.
 use Rattle.std.proofs.Common.{◌≡◌, ℕ, ◌≤◌, ◌<◌, List, [], ◌∷◌, ◌++◌, length, arith, length-append, codes}
 use Rattle.model_formulas.specs.Formulas.{Named}
-use Rattle.model_formulas.specs.WellSorted.{parts}
+use Rattle.model_formulas.specs.Parts.{parts}
 use Rattle.model_terms.specs.Stores.{ProgVar}
 use Rattle.model_commands.specs.Theories.{JudgementOf, StepOf, ProcedureOf, Theory}
 use Rattle.model_text.specs.Lexemes.{Lexeme, terminal}

@@ -19,12 +19,8 @@ mod form;
 mod groves;
 mod limits;
 mod replies;
-#[cfg(test)]
-mod run_tests;
 mod runs;
 mod status;
-#[cfg(test)]
-mod tests;
 
 use answers::answer_words;
 use outside_io::{Library, Sink, write_all_of};

@@ -6,8 +6,6 @@
 mod endings;
 mod names;
 mod reports;
-#[cfg(test)]
-mod tests;
 mod values;
 
 pub use endings::ended_text;

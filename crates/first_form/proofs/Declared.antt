@@ -2,10 +2,11 @@
 use Rattle.std.proofs.Common.{◌≡◌, ◌∙◌, sym, refl, ap, subst, ℕ, Bool, true, false, not, ◌&&◌, ◌||◌, cond, List, [], ◌∷◌, ◌++◌, map, Option, Some, None, is_some, is_none, bytes_eq}
 use Rattle.std.specs.List.{list_all, list_any, flat_map}
 use Rattle.std.proofs.lemmas.List.Folds.{list_all-append}
-use Rattle.model_shapes.specs.Sorts.{ValueSort, same_value_sort}
+use Rattle.model_shapes.specs.Tests.{same_value_sort}
+use Rattle.model_shapes.specs.Sorts.{ValueSort}
 use Rattle.model_shapes.proofs.Truth.{false≢true, both_true}
 use Rattle.model_terms.specs.Variables.{Var, prog, logic, bound}
-use Rattle.model_terms.specs.VariableTests.{same_value_sort-is, same_value_sort-refl}
+use Rattle.model_shapes.proofs.Tests.{same_value_sort-refl, same_value_sort-is}
 use Rattle.model_terms.specs.Terms.{Term, literal, variable, sum, difference, appended}
 use Rattle.model_terms.specs.TermLimits.{or_else}
 use Rattle.model_terms.specs.Stores.{ProgVar, named}

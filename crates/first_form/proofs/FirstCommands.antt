@@ -3,7 +3,8 @@ use Rattle.std.proofs.Common.{◌≡◌, ◌∙◌, sym, refl, ap, Bool, true, f
 use Rattle.std.specs.List.{list_all, flat_map}
 use Rattle.std.proofs.lemmas.List.Folds.{list_all-append}
 use Rattle.model_shapes.proofs.Truth.{false≢true, both_true}
-use Rattle.model_shapes.specs.Sorts.{ValueSort, node_sort, str_sort, same_value_sort}
+use Rattle.model_shapes.specs.Tests.{same_value_sort}
+use Rattle.model_shapes.specs.Sorts.{ValueSort, node_sort, str_sort}
 use Rattle.model_terms.specs.Terms.{Term}
 use Rattle.model_formulas.specs.WellSorted.{has_sort}
 use Rattle.model_terms.specs.Stores.{ProgVar, sort_of, as_var}

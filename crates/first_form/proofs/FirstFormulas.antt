@@ -6,7 +6,8 @@ use Rattle.model_shapes.proofs.Truth.{false≢true, both_true}
 use Rattle.model_terms.specs.Variables.{Var, prog, logic, bound}
 use Rattle.model_terms.specs.Terms.{Term, literal, variable, sum, difference, appended}
 use Rattle.model_formulas.specs.Formulas.{Named, truth, conjunction, equality, empty}
-use Rattle.model_formulas.specs.WellSorted.{has_sort, both_have, one_sort, alike, own, first_fault, parts}
+use Rattle.model_formulas.specs.Parts.{parts}
+use Rattle.model_formulas.specs.WellSorted.{has_sort, both_have, one_sort, both_logic_of_one_sort, own, first_fault}
 use Rattle.model_terms.specs.TermLimits.{or_else}
 use Rattle.model_terms.specs.Stores.{ProgVar}
 use Rattle.model_commands.specs.CommandParts.{variables_of_term}
@@ -23,7 +24,7 @@ drop-last n l i s true c e = refl
 drop-last n l i s false c e = ap (λ z. n || (l || (i || (s || z)))) e
 
 -- two program variables are none of a data sort
-alike-false : (ps rs : List ProgVar) (a b : Term) → is_term_declared ps rs a ≡ true → alike a b ≡ false
+alike-false : (ps rs : List ProgVar) (a b : Term) → is_term_declared ps rs a ≡ true → both_logic_of_one_sort a b ≡ false
 alike-false ps rs (variable (prog x u)) (variable y) e = refl
 alike-false ps rs (variable (logic x u)) (variable y) e = false≢true e
 alike-false ps rs (variable (bound i u)) (variable y) e = false≢true e
@@ -40,7 +41,7 @@ one-alike : (ps rs : List ProgVar) (a b : Term) → is_term_declared ps rs a ≡
     → one_sort a b ≡ are_alike a b
 one-alike ps rs a b e =
     drop-last (both_have node_sort a b) (both_have list_sort a b) (both_have int_sort a b)
-    (both_have str_sort a b) (both_have bool_sort a b) (alike a b) (alike-false ps rs a b e)
+    (both_have str_sort a b) (both_have bool_sort a b) (both_logic_of_one_sort a b) (alike-false ps rs a b e)
 
 logic-false : (ps rs : List ProgVar) (a : Term) → is_term_declared ps rs a ≡ true
     → is_logic_variable a ≡ false

@@ -1,10 +1,11 @@
 -- The test of the whole theory says that it is well formed and of the first form.
 use Rattle.std.proofs.Common.{◌≡◌, ◌∙◌, sym, refl, ap, ℕ, ◌+◌, ◌==◌, Bool, true, false, not, ◌&&◌, ◌||◌, List, [], ◌∷◌, ◌++◌, map, Option, Some, None, is_none, bytes_eq, append-nil}
 use Rattle.std.specs.List.{list_all, list_any}
-use Rattle.model_shapes.specs.Sorts.{shape, grove, same_data_sort}
+use Rattle.model_shapes.specs.Tests.{same_data_sort}
+use Rattle.model_shapes.specs.Sorts.{shape, grove}
 use Rattle.model_shapes.proofs.Truth.{false≢true, both_true}
 use Rattle.model_terms.specs.Variables.{Var}
-use Rattle.model_terms.specs.VariableTests.{same_data_sort-is, same_data_sort-refl}
+use Rattle.model_shapes.proofs.Tests.{same_data_sort-refl, same_data_sort-is}
 use Rattle.model_formulas.specs.Formulas.{Named}
 use Rattle.model_terms.specs.TermLimits.{or_else}
 use Rattle.model_formulas.specs.WellSorted.{first_fault}

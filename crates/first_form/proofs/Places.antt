@@ -1,10 +1,11 @@
 -- What the tests of steps and headers say of their places.
 use Rattle.std.proofs.Common.{◌≡◌, ◌⊎◌, inl, inr, ◌∙◌, sym, refl, ap, subst, ℕ, ◌+◌, ◌==◌, Bool, true, false, not, ◌&&◌, ◌||◌, List, [], ◌∷◌, ◌++◌, map, Option, Some, None, is_none, bytes_eq, codes}
 use Rattle.std.specs.List.{list_all, list_any, flat_map}
-use Rattle.model_shapes.specs.Sorts.{Sort, shape, tree, forest, grove, same_data_sort}
+use Rattle.model_shapes.specs.Tests.{same_data_sort}
+use Rattle.model_shapes.specs.Sorts.{Sort, shape, tree, forest, grove}
 use Rattle.model_shapes.proofs.Truth.{false≢true, both_true}
 use Rattle.model_terms.specs.Variables.{Var}
-use Rattle.model_terms.specs.VariableTests.{bytes-is, same_data_sort-is}
+use Rattle.model_shapes.proofs.Tests.{same_data_sort-is, bytes-is}
 use Rattle.model_terms.specs.Terms.{Term}
 use Rattle.model_formulas.specs.Formulas.{Named}
 use Rattle.model_formulas.specs.WellSorted.{first_fault}

@@ -3,7 +3,8 @@
 -- are passed along, as the variables that may stand at a place.
 use Rattle.std.specs.Prelude.{ℕ, ◌+◌, ◌==◌, Bool, true, false, not, ◌&&◌, ◌||◌, List, [], ◌∷◌, Option, Some, None, is_none, bytes_eq}
 use Rattle.std.specs.List.{list_all, list_any}
-use Rattle.model_shapes.specs.Sorts.{ValueSort, node_sort, list_sort, int_sort, str_sort, bool_sort, grove, same_value_sort, same_data_sort}
+use Rattle.model_shapes.specs.Tests.{same_data_sort, same_value_sort}
+use Rattle.model_shapes.specs.Sorts.{ValueSort, node_sort, list_sort, int_sort, str_sort, bool_sort, grove}
 use Rattle.model_terms.specs.Variables.{Var, prog}
 use Rattle.model_terms.specs.Terms.{Term, literal, variable, sum, difference, appended}
 use Rattle.model_formulas.specs.Formulas.{Named, truth, conjunction, equality, empty}

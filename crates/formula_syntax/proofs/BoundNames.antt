@@ -1,11 +1,12 @@
 -- No binder binds a program variable.
 use Rattle.std.proofs.Common.{◌≡◌, ℕ, List, ◌∷◌, refl, sym, ap, ◌∙◌, true, false}
 use Rattle.model_shapes.specs.Sorts.{ValueSort, Sort}
-use Rattle.model_terms.specs.Variables.{Var, bound, logic, prog, same_var, var_sort}
-use Rattle.model_terms.specs.Terms.{raised_var, var_eq}
+use Rattle.model_terms.specs.Variables.{Var, bound, logic, prog, var_sort}
+use Rattle.model_terms.specs.Terms.{raised_var}
 use Rattle.model_formulas.specs.Nameless.{names, name_or}
 use Rattle.model_formulas.proofs.SameFormulas.{same_formula-Decides}
-use Rattle.model_terms.specs.VariableTests.{false≢true, same_var-is, same_var-refl}
+use Rattle.model_shapes.proofs.Truth.{false≢true}
+use Rattle.model_terms.specs.VariableTests.{same_var-is, same_var-refl, var_eq, same_var}
 use Rattle.dom_terms.specs.Sorts.{sort_of}
 use Rattle.dom_terms.specs.Terms.{logic_var_of}
 use Rattle.formula_syntax.specs.declared.binders.Binders.{Binders}

@@ -5,13 +5,13 @@ use Rattle.std.proofs.lemmas.List.Folds.{list_any-append}
 use Rattle.std.proofs.lemmas.Map.Keys.{IsDistinct-head, IsDistinct-tail, IsDistinct-cons, IsDistinct-from_apart}
 use Rattle.std.proofs.lemmas.Map.Views.{any-filter_same}
 use Rattle.model_shapes.specs.Sorts.{Sort}
-use Rattle.model_terms.specs.Variables.{Var, prog, logic, bound, same_var, var_sort}
-use Rattle.model_terms.specs.VariableTests.{false≢true, same_var-is, same_var-refl}
+use Rattle.model_terms.specs.Variables.{Var, prog, logic, bound, var_sort}
+use Rattle.model_shapes.proofs.Truth.{false≢true}
+use Rattle.model_terms.specs.VariableTests.{same_var-is, same_var-refl, same_var}
 use Rattle.model_terms.specs.Terms.{Term, literal, variable, sum, difference, appended, raised_var, term_with, InTerm}
 use Rattle.model_formulas.specs.Formulas.{Named, truth, falsity, conjunction, disjunction, implication, negation, existential, universal, equality, at_most, empty, bare_hole, node_formula, one_tree, one_root, concatenation, grove_sum, grove_sum_hole, application, hole_adjoint, context_adjoint, same_as, length_is, value_meets}
 use Rattle.model_formulas.specs.Substitution.{FreeIn}
 use Rattle.model_formulas.specs.Nameless.{names, naming, walked, nameless}
-use Rattle.model_formulas.proofs.Nameless.{walked-nameless}
 use Rattle.formula_syntax.specs.FreeVariables.{is_among, without, each_once, term_variables, occurrences, free_in_order}
 use Rattle.formula_syntax.specs.Gathering.{outside}
 use Rattle.formula_syntax.proofs.BoundNames.{names-here, names-there}
@@ -180,8 +180,8 @@ listed-free p x =
     let f : Found p [] x = free-walked p [] x in
     let e : is_among x (free_in_order p) ≡ is_among x (occurrences p) =
     among-once (occurrences p) x in (
-      λ h. subst (FreeIn x) (walked-nameless p) (f.0 (sym e ∙ h)),
-      λ h. e ∙ f.1 (subst (FreeIn x) (sym (walked-nameless p)) h),
+      λ h. f.0 (sym e ∙ h),
+      λ h. e ∙ f.1 h,
     )
 
 -- a filter keeps the variables apart

@@ -3,8 +3,8 @@
 use Rattle.std.proofs.Common.{◌≡◌, refl, sym, ap, ◌∙◌, Bool, true, false, not, cond, List, [], ◌∷◌, ◌++◌, append_assoc, append-nil, ◌||◌}
 use Rattle.std.specs.List.{filter}
 use Rattle.std.proofs.lemmas.List.Folds.{list_any-append}
-use Rattle.model_terms.specs.Variables.{Var, same_var}
-use Rattle.model_terms.specs.VariableTests.{same_var-is}
+use Rattle.model_terms.specs.Variables.{Var}
+use Rattle.model_terms.specs.VariableTests.{same_var-is, same_var}
 use Rattle.formula_syntax.specs.FreeVariables.{is_among, without, each_once}
 use Rattle.formula_syntax.specs.Gathering.{with_each}
 

@@ -3,8 +3,9 @@ use Rattle.std.proofs.Common.{◌≡◌, refl, sym, ap, ◌∙◌, Bool, true, f
 use Rattle.std.specs.List.{list_any}
 use Rattle.std.proofs.lemmas.List.{map-append}
 use Rattle.std.proofs.lemmas.List.Elements.{filter-append}
-use Rattle.model_terms.specs.Variables.{Var, same_var}
-use Rattle.model_terms.specs.VariableTests.{false≢true}
+use Rattle.model_terms.specs.VariableTests.{same_var}
+use Rattle.model_terms.specs.Variables.{Var}
+use Rattle.model_shapes.proofs.Truth.{false≢true}
 use Rattle.formula_syntax.specs.declared.variables.AnyVar.{AnyVar}
 use Rattle.formula_syntax.specs.Formulas.{any_var_of}
 use Rattle.formula_syntax.specs.FreeVariables.{is_among, without}

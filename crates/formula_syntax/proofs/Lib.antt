@@ -5,3 +5,4 @@ pub mod Gathering
 pub mod FreeVariables
 pub mod FreeOccurrences
 pub mod RenamedBinders
+pub mod Places

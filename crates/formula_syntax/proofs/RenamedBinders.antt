@@ -3,13 +3,13 @@ use Rattle.std.proofs.Common.{◌≡◌, ℕ, ◌<◌, ◌≤◌, max, refl, sym
 use Rattle.std.specs.List.{list_any}
 use Rattle.std.proofs.lemmas.List.Folds.{list_any-append}
 use Rattle.model_shapes.specs.Sorts.{ValueSort}
-use Rattle.model_terms.specs.Variables.{Var, prog, logic, bound, same_var, var_sort}
-use Rattle.model_terms.specs.VariableTests.{false≢true, same_var-is, same_var-refl}
+use Rattle.model_terms.specs.Variables.{Var, prog, logic, bound, var_sort}
+use Rattle.model_shapes.proofs.Truth.{false≢true}
+use Rattle.model_terms.specs.VariableTests.{same_var-is, same_var-refl, same_var}
 use Rattle.model_terms.specs.Terms.{Term, literal, variable, sum, difference, appended, raised, raised_var, under_binder, Substitution, term_with}
 use Rattle.model_formulas.specs.Formulas.{Named}
 use Rattle.model_formulas.specs.Substitution.{formula_with}
 use Rattle.model_formulas.specs.Nameless.{names, naming, walked, nameless}
-use Rattle.model_formulas.proofs.Nameless.{walked-nameless}
 use Rattle.dom_terms.specs.declared.terms.Term.TheVariants as t
 use Rattle.dom_terms.specs.declared.terms.Term as program
 use Rattle.dom_terms.specs.Terms.{term_of, var_of, logic_var_of}
@@ -380,8 +380,7 @@ prog-free (s.Renamed' y z p outer) x u = prog-free outer x u
 -- from the walked forms to the nameless ones
 pub substituted-nameless : (p q : Named) (f : Substitution)
     → formula_with f (walked [] p) ≡ walked [] q → formula_with f (nameless p) ≡ nameless q
-substituted-nameless p q f e =
-    sym (ap (formula_with f) (walked-nameless p)) ∙ e ∙ walked-nameless q
+substituted-nameless p q f e = e
 
 pub ruleset put_rules = (put-seen)
 

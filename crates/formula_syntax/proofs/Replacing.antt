@@ -1,15 +1,16 @@
 -- A variable below binders is bound by one of them, or its replacement stands there as it is.
 use Rattle.std.proofs.Common.{◌≡◌, ℕ, List, [], ◌∷◌, ◌<◌, suc, zero, refl, sym, ap, ◌∙◌, subst, true, false, length, arith, Decides}
 use Rattle.model_shapes.specs.Sorts.{ValueSort, Sort}
-use Rattle.model_terms.specs.Variables.{Var, bound, logic, prog, same_var}
-use Rattle.model_terms.specs.Terms.{Term, literal, variable, sum, difference, appended, raised, term_with, var_eq, Substitution}
+use Rattle.model_terms.specs.Variables.{Var, bound, logic, prog}
+use Rattle.model_terms.specs.Terms.{Term, literal, variable, sum, difference, appended, raised, term_with, Substitution}
 use Rattle.model_formulas.specs.Formulas.{Named, Formula}
 use Rattle.model_formulas.specs.Substitution.{formula_with, replacing_at}
 use Rattle.model_formulas.specs.Nameless.{names, naming, nameless, walked}
 use Rattle.model_formulas.specs.SameFormulas.{same_formula}
-use Rattle.model_terms.specs.VariableTests.{false≢true, same_var-is, same_var-refl}
-use Rattle.model_formulas.proofs.Nameless.{walked-nameless, formula-variable}
-use Rattle.model_formulas.proofs.SameFormulas.{same_formula-is, same_formula-refl}
+use Rattle.model_shapes.proofs.Truth.{false≢true}
+use Rattle.model_terms.specs.VariableTests.{same_var-is, same_var-refl, var_eq, same_var}
+use Rattle.model_formulas.proofs.Nameless.{formula-variable}
+use Rattle.model_formulas.proofs.SameFormulas.{same_formula-both}
 use Rattle.dom_terms.specs.declared.terms.Term.TheVariants as t
 use Rattle.dom_terms.specs.declared.terms.Term as program
 use Rattle.dom_terms.specs.Terms.{term_of}
@@ -120,13 +121,7 @@ prog-names ys x y s u = prog-logic b.Empty ys x y s u
 pub replaced-Decides : (p q : Named) (f : Substitution)
     → Decides (same_formula (formula_with f (walked [] p)) (walked [] q))
     (formula_with f (nameless p) ≡ nameless q)
-replaced-Decides p q f = (
-  (λ e. sym (ap (formula_with f) (walked-nameless p))
-      ∙ same_formula-is (formula_with f (walked [] p)) (walked [] q) e ∙ walked-nameless q),
-  (λ e. subst (λ z. same_formula (formula_with f (walked [] p)) z ≡ true)
-      (ap (formula_with f) (walked-nameless p) ∙ e ∙ sym (walked-nameless q))
-      (same_formula-refl (formula_with f (walked [] p)))),
-)
+replaced-Decides p q f = same_formula-both (formula_with f (nameless p)) (nameless q)
 
 -- no pairs replace nothing
 pub none-replaced : (p : Formula) → formula_with (replacing_each []) p ≡ p

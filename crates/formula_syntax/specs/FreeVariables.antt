@@ -2,7 +2,8 @@
 -- quantifier binds, each once. A law says that they are the free ones of the nameless formula.
 use Rattle.std.specs.Prelude.{Bool, not, List, [], ◌∷◌, ◌++◌}
 use Rattle.std.specs.List.{filter, list_any}
-use Rattle.model_terms.specs.Variables.{Var, same_var}
+use Rattle.model_terms.specs.VariableTests.{same_var}
+use Rattle.model_terms.specs.Variables.{Var}
 use Rattle.model_terms.specs.Terms.{Term, literal, variable, sum, difference, appended}
 use Rattle.model_formulas.specs.Formulas.{Named, truth, falsity, conjunction, disjunction, implication, negation, existential, universal, equality, at_most, empty, bare_hole, node_formula, one_tree, one_root, concatenation, grove_sum, grove_sum_hole, application, hole_adjoint, context_adjoint, same_as, length_is, value_meets}
 

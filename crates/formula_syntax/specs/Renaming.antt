@@ -2,7 +2,8 @@
 -- Nothing here is to be believed: the substitution itself is stated without it.
 use Rattle.std.specs.Prelude.{◌≡◌, ℕ, ◌<◌, ◌≤◌, max, length, Bool, false, cond, List, [], ◌∷◌, Option, Some, None}
 use Rattle.std.specs.List.{list_any}
-use Rattle.model_terms.specs.Variables.{Var, prog, logic, bound, var_sort, same_var}
+use Rattle.model_terms.specs.VariableTests.{same_var}
+use Rattle.model_terms.specs.Variables.{Var, prog, logic, bound, var_sort}
 use Rattle.model_terms.specs.Terms.{Term, literal, variable, sum, difference, appended}
 use Rattle.model_formulas.specs.Formulas.{Named, truth, falsity, conjunction, disjunction, implication, negation, existential, universal, equality, at_most, empty, bare_hole, node_formula, one_tree, one_root, concatenation, grove_sum, grove_sum_hole, application, hole_adjoint, context_adjoint, same_as, length_is, value_meets}
 use Rattle.dom_terms.specs.Terms.{logic_var_of}

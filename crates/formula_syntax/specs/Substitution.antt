@@ -2,7 +2,8 @@
 -- formulas of the definitions, where nothing can be captured; and what it is below binders.
 use Rattle.std.specs.Prelude.{◌≡◌, List, [], ◌∷◌, map}
 use Rattle.model_terms.specs.Variables.{Var}
-use Rattle.model_terms.specs.Terms.{Term, variable, Substitution, under_binder, var_eq}
+use Rattle.model_terms.specs.VariableTests.{var_eq}
+use Rattle.model_terms.specs.Terms.{Term, variable, Substitution, under_binder}
 use Rattle.dom_terms.specs.Terms.{var_of, logic_var_of, term_of}
 use Rattle.model_formulas.specs.Substitution.{replacing}
 use Rattle.formula_syntax.specs.Formulas.{pair_of}

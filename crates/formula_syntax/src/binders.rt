@@ -1,5 +1,6 @@
 ghost use Rattle.std.specs.Prelude.{◌≡◌, ◌+◌, ◌<◌, ◌^◌, MatchOption, length};
-ghost use Rattle.model_terms.specs.Variables.{bound, same_var};
+ghost use Rattle.model_terms.specs.VariableTests.{same_var};
+ghost use Rattle.model_terms.specs.Variables.{bound};
 ghost use Rattle.model_terms.specs.Terms.{term_with};
 ghost use Rattle.model_formulas.specs.Nameless.{names, naming};
 ghost use Rattle.model_formulas.specs.SameFormulas as tests;

@@ -1,6 +1,7 @@
 ghost use Rattle.std.specs.Prelude.{◌≡◌, ◌↔◌, IsTrue, IfOk, [], ◌∷◌, ◌++◌, map};
 ghost use Rattle.std.specs.List.{list_any, IsDistinct};
-ghost use Rattle.model_terms.specs.Variables.{Var, same_var};
+ghost use Rattle.model_terms.specs.VariableTests.{same_var};
+ghost use Rattle.model_terms.specs.Variables.{Var};
 ghost use Rattle.model_formulas.specs.Formulas.{Named};
 ghost use Rattle.model_formulas.specs.Substitution.{FreeIn};
 ghost use Rattle.model_formulas.specs.Nameless.{nameless};

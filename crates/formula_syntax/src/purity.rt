@@ -10,13 +10,13 @@ pub fn is_pure(formula: &Formula) -> bool
 {
     match formula {
         Formula::True | Formula::False | Formula::Eq(_, _) | Formula::Le(_, _) => true,
+        Formula::Is(_, _) => true,
         Formula::And(left, right) | Formula::Or(left, right) | Formula::Imp(left, right) => {
             is_pure(left) && is_pure(right)
         }
-        Formula::Not(inner)
-        | Formula::Exists(_, inner)
-        | Formula::Forall(_, inner)
-        | Formula::Is(_, inner) => is_pure(inner),
+        Formula::Not(inner) | Formula::Exists(_, inner) | Formula::Forall(_, inner) => {
+            is_pure(inner)
+        }
         _ => false,
     }
 }

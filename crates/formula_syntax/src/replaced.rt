@@ -1,5 +1,5 @@
 ghost use Rattle.std.specs.Prelude.{◌≡◌, ◌<◌, ◌^◌, MatchOption, MatchBool, length, map};
-ghost use Rattle.model_terms.specs.Variables.{same_var};
+ghost use Rattle.model_terms.specs.VariableTests.{same_var};
 ghost use Rattle.model_terms.specs.Terms.{term_with, variable, Substitution};
 ghost use Rattle.model_formulas.specs.Nameless.{names, naming};
 ghost use Rattle.model_formulas.specs.SameFormulas as tests;

@@ -2,7 +2,7 @@ ghost use Rattle.std.specs.Prelude.{◌≡◌, ◌+◌, ◌<◌, ◌^◌, ◌&&�
 ghost use Rattle.model_formulas.specs.Nameless.{SameFormula, nameless, walked};
 ghost use Rattle.model_formulas.specs.SameFormulas as tests;
 ghost use Rattle.model_formulas.specs.Substitution.{formula_with, replacing};
-ghost use Rattle.model_formulas.specs.WellSorted.{parts};
+ghost use Rattle.model_formulas.specs.Parts.{parts};
 ghost use Rattle.dom_terms.specs.Terms.{term_of, var_of};
 ghost use Rattle.formula_syntax.specs.Formulas.{formula_of, pair_of, side_of};
 ghost use Rattle.formula_syntax.specs.Binders.{bound_by};

@@ -1,5 +1,6 @@
 ghost use Rattle.std.specs.Prelude.{◌≡◌};
 ghost use Rattle.model_shapes.specs.Sorts as model;
+ghost use Rattle.model_formulas.specs.Formulas as formulas;
 ghost use Rattle.model_formulas.specs.WellSorted as tests;
 ghost use Rattle.dom_terms.specs.Sorts.{value_sort_of, data_sort_of, sort_of};
 ghost use Rattle.dom_terms.specs.Terms.{term_of};
@@ -61,7 +62,7 @@ pub(crate) fn inner(sort: Sort) -> DataSort
 
 // the same sort but for the data sort that it gives
 pub(crate) fn giving(whole: DataSort, sort: Sort) -> Sort
-    ensures { sort_of result ≡ model.giving (data_sort_of whole) (sort_of sort) }
+    ensures { sort_of result ≡ model.with_outer (data_sort_of whole) (sort_of sort) }
 {
     match sort {
         Sort::Value(_) => sort,
@@ -72,7 +73,7 @@ pub(crate) fn giving(whole: DataSort, sort: Sort) -> Sort
 
 // whether a formula may be judged at the sort, and the sort gives the data sort
 pub(crate) fn gives(sort: Sort, whole: DataSort) -> bool
-    ensures { result ≡ tests.gives (sort_of sort) (data_sort_of whole) }
+    ensures { result ≡ tests.has_outer (sort_of sort) (data_sort_of whole) }
 {
     is_form(sort) && same_data_sort(outer(sort), whole)
 }
@@ -89,21 +90,21 @@ pub(crate) fn side_fits(side: Side, sort: Sort) -> bool
 
 // the sort of the left part of a concatenation of the sort
 pub(crate) fn left_at(side: Side, sort: Sort) -> Sort
-    ensures { sort_of result ≡ tests.left_at (side_of side) (sort_of sort) }
+    ensures { sort_of result ≡ formulas.left_sort (side_of side) (sort_of sort) }
 {
     match side {
         Side::Whole | Side::HoleLeft => sort,
-        Side::HoleRight => Sort::Shape(DataSort::Forest),
+        Side::HoleRight => Sort::Shape(outer(sort)),
     }
 }
 
 // the sort of the right part of a concatenation of the sort
 pub(crate) fn right_at(side: Side, sort: Sort) -> Sort
-    ensures { sort_of result ≡ tests.right_at (side_of side) (sort_of sort) }
+    ensures { sort_of result ≡ formulas.right_sort (side_of side) (sort_of sort) }
 {
     match side {
         Side::Whole | Side::HoleRight => sort,
-        Side::HoleLeft => Sort::Shape(DataSort::Forest),
+        Side::HoleLeft => Sort::Shape(outer(sort)),
     }
 }
 
@@ -141,7 +142,7 @@ pub fn both_have(sort: ValueSort, left: &Term, right: &Term) -> bool
 
 // whether the terms are logic variables of one data or context sort
 fn alike(left: &Term, right: &Term) -> bool
-    ensures { result ≡ tests.alike (term_of left.now) (term_of right.now) }
+    ensures { result ≡ tests.both_logic_of_one_sort (term_of left.now) (term_of right.now) }
 {
     match (left, right) {
         (Term::Logic(left), Term::Logic(right)) => {

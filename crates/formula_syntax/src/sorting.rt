@@ -1,6 +1,7 @@
-ghost use Rattle.std.specs.Prelude.{◌≡◌, ◌+◌, ◌<◌, ◌^◌, MatchResult, None, Some};
-ghost use Rattle.model_formulas.specs.WellSorted.{first_fault, parts};
-ghost use Rattle.model_terms.specs.TermLimits.{or_else};
+ghost use Rattle.std.specs.Prelude.{◌≡◌, ◌+◌, ◌<◌, ◌^◌, ◌++◌, not, MatchResult, None, Some};
+ghost use Rattle.std.specs.List.{position_from};
+ghost use Rattle.model_formulas.specs.Parts.{parts};
+ghost use Rattle.model_formulas.specs.WellSorted.{flags, first_fault};
 ghost use Rattle.dom_terms.specs.Sorts.{sort_of};
 ghost use Rattle.formula_syntax.specs.Formulas.{formula_of};
 ghost use Rattle.formula_syntax.specs.Sorting as own;
@@ -23,8 +24,8 @@ pub struct IllSorted {
 pub fn sorted_as(formula: &Formula, sort: Sort) -> Result<(), IllSorted>
     requires { parts (formula_of formula.now) < 4294967295 }
     ensures { MatchResult result
-        (λ _. first_fault (formula_of formula.now) (sort_of sort) 0 ≡ None)
-        (λ fault. first_fault (formula_of formula.now) (sort_of sort) 0 ≡ Some fault.place) }
+        (λ _. first_fault (formula_of formula.now) (sort_of sort) ≡ None)
+        (λ fault. first_fault (formula_of formula.now) (sort_of sort) ≡ Some fault.place) }
 {
     fault_in(formula, sort, 0)?;
     Ok(())
@@ -35,9 +36,10 @@ pub fn sorted_as(formula: &Formula, sort: Sort) -> Result<(), IllSorted>
 fn fault_in(formula: &Formula, sort: Sort, place: u32) -> Result<u32, IllSorted>
     requires { place + parts (formula_of formula.now) < 2 ^ 32 }
     ensures { MatchResult result
-        (λ next. (first_fault (formula_of formula.now) (sort_of sort) place ≡ None)
+        (λ next. (position_from not place (flags (formula_of formula.now) (sort_of sort)) ≡ None)
         × (next ≡ place + parts (formula_of formula.now)))
-        (λ fault. first_fault (formula_of formula.now) (sort_of sort) place ≡ Some fault.place) }
+        (λ fault. position_from not place (flags (formula_of formula.now) (sort_of sort))
+        ≡ Some fault.place) }
 {
     if !fits(formula, sort) {
         return Err(IllSorted { place });
@@ -78,6 +80,7 @@ fn fault_in(formula: &Formula, sort: Sort, place: u32) -> Result<u32, IllSorted>
 
 // the same for two formulas, one behind the other
 #[cycle(fault_in)]
+#[tactic(auto, using(crate::proofs::Places::place_rules))]
 fn fault_in_two(
     left: &Formula,
     left_sort: Sort,
@@ -87,13 +90,11 @@ fn fault_in_two(
 ) -> Result<u32, IllSorted>
     requires { place + (parts (formula_of left.now) + parts (formula_of right.now)) < 2 ^ 32 }
     ensures { MatchResult result
-        (λ next. (or_else (first_fault (formula_of left.now) (sort_of left_sort) place)
-        (first_fault (formula_of right.now) (sort_of right_sort)
-        (place + parts (formula_of left.now))) ≡ None)
+        (λ next. (position_from not place (flags (formula_of left.now) (sort_of left_sort)
+        ++ flags (formula_of right.now) (sort_of right_sort)) ≡ None)
         × (next ≡ place + (parts (formula_of left.now) + parts (formula_of right.now))))
-        (λ fault. or_else (first_fault (formula_of left.now) (sort_of left_sort) place)
-        (first_fault (formula_of right.now) (sort_of right_sort)
-        (place + parts (formula_of left.now))) ≡ Some fault.place) }
+        (λ fault. position_from not place (flags (formula_of left.now) (sort_of left_sort)
+        ++ flags (formula_of right.now) (sort_of right_sort)) ≡ Some fault.place) }
 {
     let next = fault_in(left, left_sort, place)?;
     fault_in(right, right_sort, next)

@@ -2,7 +2,7 @@ ghost use Rattle.std.specs.Prelude.{◌≡◌, ◌≤◌, IfOk, None, true, ◌�
 ghost use Rattle.model_terms.specs.Terms as terms;
 ghost use Rattle.model_formulas.specs.Nameless.{nameless, walked};
 ghost use Rattle.model_formulas.specs.Substitution.{formula_with};
-ghost use Rattle.model_formulas.specs.WellSorted.{parts};
+ghost use Rattle.model_formulas.specs.Parts.{parts};
 ghost use Rattle.dom_terms.specs.Sorts.{sort_of};
 ghost use Rattle.dom_terms.specs.Terms.{logic_var_of, term_of};
 ghost use Rattle.formula_syntax.specs.Formulas.{formula_of, pair_of};

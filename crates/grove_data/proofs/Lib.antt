@@ -3,3 +3,4 @@ pub mod FirstFound
 pub mod Counts
 pub mod Parents
 pub mod Sorted
+pub mod Bare

@@ -2,7 +2,7 @@
 use Rattle.std.proofs.Common.{◌≡◌, ◌≢◌, ℕ, ◌≤◌, ◌+◌, Bool, true, false, cond, ◌||◌, Some, None, List, refl, sym, ap, ◌∙◌, arith}
 use Rattle.std.proofs.Math.Decide.{ℕ_discrete}
 use Rattle.model_shapes.specs.Values.{null, node_number}
-use Rattle.model_shapes.specs.Trees.{Trees, none, node, hole, beside, width, node_uses, tally, WellFormed}
+use Rattle.model_shapes.specs.Trees.{Trees, none, node, hole, beside, width, node_uses, one_if, WellFormed}
 use Rattle.model_shapes.proofs.Basics.{width-beside}
 use Rattle.model_groves.specs.Groves.{is_yes}
 use Rattle.model_groves.specs.Groves.{nodes_where, has_root, numbered, parental, first_number}
@@ -26,7 +26,7 @@ unused id (node s i k l r) e = go (ℕ_discrete id i) e (unused id k) (unused id
         (beside (nodes_where (numbered id) k) (nodes_where (numbered id) r))) ≡ 0
         → (width (nodes_where (numbered id) k) ≡ 0 → node_uses id k ≡ 0)
         → (width (nodes_where (numbered id) r) ≡ 0 → node_uses id r ≡ 0)
-        → tally d + (node_uses id k + node_uses id r) ≡ 0
+        → one_if d + (node_uses id k + node_uses id r) ≡ 0
     go (yes f) w inside behind = absurd (omega arith)
     go (no f) w inside behind =
         let both = width-beside (nodes_where (numbered id) k) (nodes_where (numbered id) r) in
@@ -45,7 +45,7 @@ nowhere id (node s i k l r) h e =
         (beside (nodes_where (parental id) k) (nodes_where (parental id) r))) ≡ 0
         → (has_root id k ≡ false → width (nodes_where (parental id) k) ≡ 0 → node_uses id k ≡ 0)
         → (has_root id r ≡ false → width (nodes_where (parental id) r) ≡ 0 → node_uses id r ≡ 0)
-        → tally d + (node_uses id k + node_uses id r) ≡ 0
+        → one_if d + (node_uses id k + node_uses id r) ≡ 0
     go (yes f) b x y w inside behind = absurd cc
     go (no f) true x y w inside behind = absurd (omega arith)
     go (no f) false x y w inside behind =

@@ -15,6 +15,3 @@ pub use finding::{find, find_list, parent_of};
 pub use roots::{same_sorted, sort_roots};
 pub use trees::{Forest, Grove, IdKind, Tree};
 pub use unique::{UniqueFault, check_unique};
-
-#[cfg(test)]
-mod tests;

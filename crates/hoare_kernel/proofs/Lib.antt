@@ -1,3 +1,3 @@
 pub mod Decisions
 pub mod Acceptance
-pub mod Last
+pub mod Steps

@@ -1,2 +1,3 @@
+pub mod Citable
 pub mod Sizes
 pub mod Tests

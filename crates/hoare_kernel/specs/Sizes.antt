@@ -1,7 +1,7 @@
 -- The sizes that the calls ask for: no formula of a theory has as many parts as a number can count.
-use Rattle.std.specs.Prelude.{ℕ, ◌<◌, List, [], ◌∷◌}
+use Rattle.std.specs.Prelude.{◌<◌, List, [], ◌∷◌}
 use Rattle.model_formulas.specs.Formulas.{Named}
-use Rattle.model_formulas.specs.WellSorted.{parts}
+use Rattle.model_formulas.specs.Parts.{parts}
 use Rattle.model_commands.specs.Theories.{JudgementOf, entails, triple, StepOf, ProcedureOf, Theory}
 
 -- a formula has fewer than 4,294,967,295 parts

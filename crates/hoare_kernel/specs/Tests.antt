@@ -1,9 +1,11 @@
 -- Acceptance as a test that computes. Nothing here is to be believed: the proofs tie it to the
 -- definition of accepted theories.
-use Rattle.std.specs.Prelude.{ℕ, Bool, true, false, ◌&&◌, ◌||◌, ◌==◌, cond, List, [], ◌∷◌, ◌++◌, Option, Some, None, bytes_eq, codes}
-use Rattle.model_shapes.specs.Sorts.{DataSort, same_data_sort}
+use Rattle.std.specs.Prelude.{ℕ, ◌+◌, Bool, true, false, ◌&&◌, ◌==◌, cond, List, [], ◌∷◌, ◌++◌, Option, Some, None, bytes_eq, codes}
+use Rattle.model_shapes.specs.Tests.{same_data_sort}
+use Rattle.model_shapes.specs.Sorts.{DataSort}
 use Rattle.model_terms.specs.Terms.{Term}
-use Rattle.model_formulas.specs.Formulas.{Named, formula_eq}
+use Rattle.model_formulas.specs.SameFormulas.{formula_eq}
+use Rattle.model_formulas.specs.Formulas.{Named}
 use Rattle.model_formulas.specs.Nameless.{nameless}
 use Rattle.model_formulas.specs.Substitution.{formula_with, replacing}
 use Rattle.model_terms.specs.Stores.{ProgVar, as_var, sort_of}
@@ -12,6 +14,7 @@ use Rattle.model_commands.specs.Commands.{Command, skip, assign, block, Block, s
 use Rattle.model_commands.specs.Theories.{JudgementOf, entails, triple, Reason, auto, by_rule, StepOf, ProcedureOf}
 use Rattle.model_files.specs.FileFaults.{evaluates, has_command}
 use Rattle.dom_syntax.specs.SameCommands.{same_command}
+use Rattle.dom_syntax.specs.declared.steps.Step.{Step}
 
 -- the formulas are the same
 abbrev pub same_test : Named → Named → Bool
@@ -19,7 +22,8 @@ same_test p q = is_yes (formula_eq (nameless p) (nameless q))
 
 -- the second formula is the first with the term for the variable
 abbrev pub replaced_test : ProgVar → Term → Named → Named → Bool
-replaced_test x t q p = is_yes (formula_eq (formula_with (replacing (as_var x) t) (nameless q)) (nameless p))
+replaced_test x t q p =
+    is_yes (formula_eq (formula_with (replacing (as_var x) t) (nameless q)) (nameless p))
 
 abbrev pub is_skip : Command → Bool
 is_skip skip = true
@@ -37,6 +41,11 @@ skip_test c p q = is_skip c && same_test p q
 abbrev pub assign_test : Named → Command → Named → Bool
 assign_test p (assign x t) q = evaluates (sort_of x) t && replaced_test x t q p
 assign_test p c q = false
+
+-- the steps are numbered from this number on
+abbrev pub are_numbered : ℕ → List Step → Bool
+are_numbered n [] = true
+are_numbered n (step ∷ steps) = (step.number == n) && are_numbered (n + 1) steps
 
 -- what the first step of the number says
 abbrev pub cited : ℕ → List (StepOf Named) → Option (JudgementOf Named)
@@ -71,7 +80,8 @@ seq_test earlier ns p (block b) q d = has_command b && ends (reached earlier ns 
 seq_test earlier ns p c q d = false
 
 -- a triple is an instance of the rule of this name
-abbrev pub triple_test : List (StepOf Named) → List ℕ → List ℕ → Named → Command → Named → DataSort → Bool
+abbrev pub triple_test : List (StepOf Named) → List ℕ → List ℕ → Named → Command → Named → DataSort
+    → Bool
 triple_test earlier name ns p c q d =
     cond (bytes_eq name (codes "seq")) (seq_test earlier ns p c q d)
     (no_items ns && cond (bytes_eq name (codes "skip")) (skip_test c p q)
@@ -83,7 +93,8 @@ judged_test earlier name ns (triple p c q d) = triple_test earlier name ns p c q
 
 abbrev pub rule_test : List (StepOf Named) → Reason → JudgementOf Named → Bool
 rule_test earlier auto j = false
-rule_test earlier (by_rule name ns arguments) j = no_items arguments && judged_test earlier name ns j
+rule_test earlier (by_rule name ns arguments) j =
+    no_items arguments && judged_test earlier name ns j
 
 -- a step is an instance of its rule over earlier steps
 abbrev pub instance_test : List (StepOf Named) → StepOf Named → Bool

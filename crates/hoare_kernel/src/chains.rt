@@ -1,35 +1,19 @@
-// Which triples are those of the commands of a block, one after another.
+// The triples that a block's rule cites: one for each command, each from where the last one ends.
 ghost use Rattle.std.specs.Prelude.{◌≡◌, IfOk, MatchOption, Some, None, map};
 ghost use Rattle.dom_terms.specs.Sorts.{data_sort_of};
 ghost use Rattle.formula_syntax.specs.Formulas.{formula_of};
 ghost use Rattle.dom_syntax.specs.Commands.{block_of, command_of};
 ghost use Rattle.dom_syntax.specs.Judgements.{judgement_of, step_of, triple_of};
-ghost use Rattle.hoare_kernel.specs.Sizes.{IsSmall, JudgementIsSmall, StepsAreSmall};
+ghost use Rattle.hoare_kernel.specs.Citable.{AreCitable};
+ghost use Rattle.hoare_kernel.specs.Sizes.{IsSmall, JudgementIsSmall};
 ghost use Rattle.hoare_kernel.specs.Tests as test;
 
+use crate::citations::cited;
 use crate::same::{are_equal, same};
 use dom_syntax::{Command, Judgement, Step, Triple};
 use dom_terms::{DataSort, OutOfMemory, same_data_sort};
 use formula_syntax::Formula;
 use std::alloc::Global;
-
-// What the first step of the number says.
-fn cited(number: u32, earlier: &[Step]) -> Option<&Judgement>
-    requires { StepsAreSmall (map step_of earlier.now) }
-    ensures { MatchOption result
-        (test.cited number (map step_of earlier.now) ≡ None)
-        (λ j. (test.cited number (map step_of earlier.now) ≡ Some (judgement_of j.now))
-        × JudgementIsSmall (judgement_of j.now)) }
-{
-    let mut rest = earlier;
-    'steps: while let [first, others @ ..] = rest {
-        if first.number == number {
-            return Some(&first.judgement);
-        }
-        rest = others;
-    }
-    None
-}
 
 // The formula after the command, where the judgement is its triple from the formula before.
 fn after<'a>(
@@ -66,11 +50,12 @@ fn after<'a>(
 pub fn is_chain(
     alloc: Global,
     earlier: &[Step],
+    numbered: bool,
     citations: &[u32],
     triple: &Triple,
     block: &[Command],
 ) -> Result<bool, OutOfMemory>
-    requires earlier { StepsAreSmall (map step_of earlier.now) }
+    requires earlier { AreCitable numbered earlier.now }
     requires triple { JudgementIsSmall (triple_of triple.now) }
     ensures { IfOk result (λ b. b ≡ test.ends
         (test.reached (map step_of earlier.now) citations.now (formula_of triple.now.pre)
@@ -82,7 +67,7 @@ pub fn is_chain(
         let [command, others @ ..] = commands else {
             return Ok(false);
         };
-        let Some(judgement) = cited(*number, earlier) else {
+        let Some(judgement) = cited(*number, earlier, numbered) else {
             return Ok(false);
         };
         let Some(reached) = after(alloc, judgement, at, command, triple.sort)? else {

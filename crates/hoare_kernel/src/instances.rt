@@ -4,10 +4,12 @@ ghost use Rattle.dom_terms.specs.Sorts.{data_sort_of};
 ghost use Rattle.formula_syntax.specs.Formulas.{formula_of};
 ghost use Rattle.dom_syntax.specs.Commands.{command_of};
 ghost use Rattle.dom_syntax.specs.Judgements.{judgement_of, step_of, triple_of};
+ghost use Rattle.hoare_kernel.specs.Citable.{AreCitable};
 ghost use Rattle.hoare_kernel.specs.Sizes.{JudgementIsSmall, StepsAreSmall};
 ghost use Rattle.hoare_kernel.specs.Tests as test;
 
 use crate::chains::is_chain;
+use crate::citations::are_numbered;
 use crate::same::{is_replaced, same};
 use crate::terms::evaluates;
 use dom_syntax::{Command, Judgement, Reason, Step, Triple};
@@ -64,10 +66,11 @@ fn is_assign_triple(alloc: Global, triple: &Triple) -> Result<bool, OutOfMemory>
 fn is_seq_triple(
     alloc: Global,
     earlier: &[Step],
+    numbered: bool,
     citations: &[u32],
     triple: &Triple,
 ) -> Result<bool, OutOfMemory>
-    requires earlier { StepsAreSmall (map step_of earlier.now) }
+    requires earlier { AreCitable numbered earlier.now }
     requires triple { JudgementIsSmall (triple_of triple.now) }
     ensures { IfOk result (λ b. b ≡ test.seq_test (map step_of earlier.now) citations.now
         (formula_of triple.now.pre) (command_of triple.now.command) (formula_of triple.now.post)
@@ -78,7 +81,14 @@ fn is_seq_triple(
             if is_nothing(block) {
                 Ok(false)
             } else {
-                is_chain(alloc, earlier, citations, triple, block.as_slice())
+                is_chain(
+                    alloc,
+                    earlier,
+                    numbered,
+                    citations,
+                    triple,
+                    block.as_slice(),
+                )
             }
         }
         _ => Ok(false),
@@ -89,18 +99,19 @@ fn is_seq_triple(
 fn is_triple_by(
     alloc: Global,
     earlier: &[Step],
+    numbered: bool,
     name: &Text,
     citations: &Numbers,
     triple: &Triple,
 ) -> Result<bool, OutOfMemory>
-    requires earlier { StepsAreSmall (map step_of earlier.now) }
+    requires earlier { AreCitable numbered earlier.now }
     requires triple { JudgementIsSmall (triple_of triple.now) }
-    ensures { IfOk result (λ b. b ≡ test.triple_test (map step_of earlier.now) name.now citations.now
-        (formula_of triple.now.pre) (command_of triple.now.command) (formula_of triple.now.post)
-        (data_sort_of triple.now.sort)) }
+    ensures { IfOk result (λ b. b ≡ test.triple_test (map step_of earlier.now) name.now
+        citations.now (formula_of triple.now.pre) (command_of triple.now.command)
+        (formula_of triple.now.post) (data_sort_of triple.now.sort)) }
 {
     if name.as_str() == "seq" {
-        is_seq_triple(alloc, earlier, citations.as_slice(), triple)
+        is_seq_triple(alloc, earlier, numbered, citations.as_slice(), triple)
     } else if !is_nothing(citations) {
         Ok(false)
     } else if name.as_str() == "skip" {
@@ -112,10 +123,17 @@ fn is_triple_by(
     }
 }
 
-fn is_instance(alloc: Global, earlier: &[Step], step: &Step) -> Result<bool, OutOfMemory>
-    requires earlier { StepsAreSmall (map step_of earlier.now) }
+// Whether the step is an instance of the rule that it names, over the steps before it.
+fn is_instance(
+    alloc: Global,
+    earlier: &[Step],
+    numbered: bool,
+    step: &Step,
+) -> Result<bool, OutOfMemory>
+    requires earlier { AreCitable numbered earlier.now }
     requires step { JudgementIsSmall (judgement_of step.now.judgement) }
-    ensures { IfOk result (λ b. b ≡ test.instance_test (map step_of earlier.now) (step_of step.now)) }
+    ensures { IfOk result
+        (λ b. b ≡ test.instance_test (map step_of earlier.now) (step_of step.now)) }
 {
     match (&step.reason, &step.judgement) {
         (
@@ -127,7 +145,7 @@ fn is_instance(alloc: Global, earlier: &[Step], step: &Step) -> Result<bool, Out
             Judgement::Triple(triple),
         ) => {
             if is_nothing(arguments) {
-                is_triple_by(alloc, earlier, name, premises, triple)
+                is_triple_by(alloc, earlier, numbered, name, premises, triple)
             } else {
                 Ok(false)
             }
@@ -141,8 +159,9 @@ pub fn are_instances(alloc: Global, steps: &[Step]) -> Result<bool, OutOfMemory>
     requires { StepsAreSmall (map step_of steps.now) }
     ensures { IfOk result (λ b. b ≡ test.instances_test [] (map step_of steps.now)) }
 {
+    let numbered = are_numbered(steps);
     for place in 0..steps.len() {
-        if !is_instance(alloc, &steps[..place], &steps[place])? {
+        if !is_instance(alloc, &steps[..place], numbered, &steps[place])? {
             return Ok(false);
         }
     }

@@ -1,4 +1,4 @@
-// Which theories are accepted.
+// Which procedures are proved, and so which theories are accepted.
 ghost use Rattle.std.specs.Prelude.{◌≡◌, ◌↔◌, ◌&&◌, IfOk, IsTrue, map};
 ghost use Rattle.model_rules.specs.Accepted.{IsAccepted};
 ghost use Rattle.formula_syntax.specs.Formulas.{formula_of};
@@ -21,7 +21,8 @@ fn has_own_formulas(
 ) -> Result<bool, OutOfMemory>
     requires procedure { ProcedureIsSmall (procedure_of procedure.now) }
     requires triple { JudgementIsSmall (triple_of triple.now) }
-    ensures { IfOk result (λ b. b ≡ (test.same_test (formula_of triple.now.pre) (formula_of procedure.now.pre)
+    ensures { IfOk result (λ b. b
+        ≡ (test.same_test (formula_of triple.now.pre) (formula_of procedure.now.pre)
         && test.same_test (formula_of triple.now.post) (formula_of procedure.now.post))) }
 {
     if same(alloc, &triple.pre, &procedure.pre)? {
@@ -39,7 +40,8 @@ fn is_own_triple(
 ) -> Result<bool, OutOfMemory>
     requires procedure { ProcedureIsSmall (procedure_of procedure.now) }
     requires judgement { JudgementIsSmall (judgement_of judgement.now) }
-    ensures { IfOk result (λ b. b ≡ test.own_test (procedure_of procedure.now) (judgement_of judgement.now)) }
+    ensures { IfOk result
+        (λ b. b ≡ test.own_test (procedure_of procedure.now) (judgement_of judgement.now)) }
 {
     match judgement {
         Judgement::Entails(_) => Ok(false),
@@ -63,7 +65,8 @@ fn ends_in_own_triple(
 ) -> Result<bool, OutOfMemory>
     requires procedure { ProcedureIsSmall (procedure_of procedure.now) }
     requires steps { StepsAreSmall (map step_of steps.now) }
-    ensures { IfOk result (λ b. b ≡ test.own_last (procedure_of procedure.now) (test.last_step (map step_of steps.now))) }
+    ensures { IfOk result (λ b. b
+        ≡ test.own_last (procedure_of procedure.now) (test.last_step (map step_of steps.now))) }
 {
     match steps {
         [.., last] => is_own_triple(alloc, procedure, &last.judgement),
@@ -71,6 +74,7 @@ fn ends_in_own_triple(
     }
 }
 
+// Whether the procedure's proof is one.
 fn is_proved(alloc: Global, procedure: &Procedure) -> Result<bool, OutOfMemory>
     requires { ProcedureIsSmall (procedure_of procedure.now) }
     ensures { IfOk result (λ b. b ≡ test.proved_test (procedure_of procedure.now)) }
@@ -83,23 +87,22 @@ fn is_proved(alloc: Global, procedure: &Procedure) -> Result<bool, OutOfMemory>
     }
 }
 
+// Whether each procedure is proved.
 fn are_proved(alloc: Global, procedures: &[Procedure]) -> Result<bool, OutOfMemory>
     requires { ProceduresAreSmall (map procedure_of procedures.now) }
     ensures { IfOk result (λ b. b ≡ test.accepted_test (map procedure_of procedures.now)) }
 {
-    let mut rest = procedures;
-    'procedures: while let [first, others @ ..] = rest {
-        if !is_proved(alloc, first)? {
+    for procedure in procedures {
+        if !is_proved(alloc, procedure)? {
             return Ok(false);
         }
-        rest = others;
     }
     Ok(true)
 }
 
-/// Whether the theory is accepted: each step is an instance of the rule that it names over the steps
-/// before it, and each proof ends in its procedure's own triple. Formulas are compared up to the names
-/// of bound variables.
+/// Whether the theory is accepted: each step is an instance of the rule that it names over the
+/// steps before it, and each proof ends in its procedure's own triple. Formulas are compared up to
+/// the names of bound variables.
 pub fn is_accepted(alloc: Global, theory: &Theory) -> Result<bool, OutOfMemory>
     requires { TheoryIsSmall (theory_of theory.now) }
     ensures { IfOk result (λ b. IsTrue b ↔ IsAccepted (theory_of theory.now)) }

@@ -7,8 +7,6 @@
 mod ranges;
 mod raw_groves;
 mod reading;
-#[cfg(test)]
-mod tests;
 mod writing;
 
 pub use ranges::{RangeFault, to_grove};

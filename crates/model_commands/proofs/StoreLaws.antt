@@ -7,29 +7,29 @@ use Rattle.model_shapes.specs.Things.{val}
 use Rattle.model_shapes.specs.Trees.{Trees}
 use Rattle.model_terms.specs.Variables.{prog, logic, bound}
 use Rattle.model_terms.specs.Terms.{Term, literal, variable, sum, difference, appended}
-use Rattle.model_terms.specs.ValueTests.{same_value}
-use Rattle.model_terms.proofs.ValueTests.{same_value-is, same_value-refl}
+use Rattle.model_shapes.specs.Tests.{same_value}
+use Rattle.model_shapes.proofs.Tests.{same_value-refl, same_value-is}
 use Rattle.model_formulas.specs.Satisfaction.{Environment, Meets, meaning_of, number_of, text_of, Proper}
-use Rattle.model_formulas.specs.Satisfaction.{joint}
+use Rattle.model_formulas.specs.Satisfaction.{with_store}
 use Rattle.model_terms.specs.Stores.{ProgVar, named, as_var, sort_of, Store, value_in, lookup, ProperStore, int_in, text_in, value_of, Computes}
 use Rattle.model_terms.specs.Conditions.{Cond, cond_true, cond_false, cond_variable, cond_equal, cond_at_most, cond_not, cond_and, cond_or, truth_in, truth_of, Tests}
 use Rattle.model_commands.specs.ConditionFormulas.{formula_of}
 
 -- a proper store and a proper environment are one together
 pub joint-proper : (st : Store) (e : Environment) → ProperStore st → Proper e
-    → Proper (joint (lookup st) e)
+    → Proper (with_store (lookup st) e)
 joint-proper st e p pr = record { programs = λ x s. p.fits (named x s); logics = pr.logics }
 
 -- and the store of one together is proper
-pub proper-store : (st : Store) (e : Environment) → Proper (joint (lookup st) e) → ProperStore st
+pub proper-store : (st : Store) (e : Environment) → Proper (with_store (lookup st) e) → ProperStore st
 proper-store st e pr = record { fits = λ y. go y }
   where
     go : (y : ProgVar) → FitsValue (sort_of y) (value_in st y)
     go (named x s) = pr.programs x s
 
 -- one proper store may stand for another
-pub other-store : (st st' : Store) (e : Environment) → Proper (joint (lookup st) e)
-    → ProperStore st' → Proper (joint (lookup st') e)
+pub other-store : (st st' : Store) (e : Environment) → Proper (with_store (lookup st) e)
+    → ProperStore st' → Proper (with_store (lookup st') e)
 other-store st st' e pr p = record { programs = λ x s. p.fits (named x s); logics = pr.logics }
 
 number-val : (v : Value) → number_of (val v) ≡ int_in v
@@ -52,7 +52,7 @@ text-val (boolean b) = refl
 
 -- a term stands for its value
 pub meaning-value : (s : ValueSort) (t : Term) (st : Store) (e : Environment) → Computes s t
-    → meaning_of (joint (lookup st) e) t ≡ val (value_of st t)
+    → meaning_of (with_store (lookup st) e) t ≡ val (value_of st t)
 meaning-value s (literal v) st e c = refl
 meaning-value s (variable (prog x u)) st e c = refl
 meaning-value s (variable (logic x u)) st e c = absurd c
@@ -71,7 +71,7 @@ meaning-value s (appended a b) st e c =
     (ap text_of (meaning-value str_sort b st e c.2) ∙ text-val (value_of st b)) i))
 
 number-value : (t : Term) (st : Store) (e : Environment) → Computes int_sort t
-    → number_of (meaning_of (joint (lookup st) e) t) ≡ int_in (value_of st t)
+    → number_of (meaning_of (with_store (lookup st) e) t) ≡ int_in (value_of st t)
 number-value t st e c = ap number_of (meaning-value int_sort t st e c) ∙ number-val (value_of st t)
 
 -- conditions
@@ -124,13 +124,13 @@ different v w h e = let z : same_value v w ≡ true =
 
 -- a variable stands for its value
 pub set-meaning : (x : ProgVar) (st : Store) (e : Environment)
-    → meaning_of (joint (lookup st) e) (variable (as_var x)) ≡ val (value_in st x)
+    → meaning_of (with_store (lookup st) e) (variable (as_var x)) ≡ val (value_in st x)
 set-meaning (named x s) st e = refl
 
 module _ (st : Store) (e : Environment) (p : ProperStore st) (s : Sort) (r : Trees) where
   mutual
     pub true-meets : (c : Cond) → Tests c → truth_of st c ≡ true
-        → Meets (formula_of c) (joint (lookup st) e) s r
+        → Meets (formula_of c) (with_store (lookup st) e) s r
     true-meets cond_true t h = tt
     true-meets cond_false t h = absurd (cc)
     true-meets (cond_variable x) t h =
@@ -141,7 +141,7 @@ module _ (st : Store) (e : Environment) (p : ProperStore st) (s : Sort) (r : Tre
         meaning-value t.0 a st e t.1 ∙ ap val (same_value-is (value_of st a) (value_of st b) h)
         ∙ sym (meaning-value t.0 b st e t.2)
     true-meets (cond_at_most a b) t h =
-        subst (λ z. IsTrue (int_le z (number_of (meaning_of (joint (lookup st) e) b))))
+        subst (λ z. IsTrue (int_le z (number_of (meaning_of (with_store (lookup st) e) b))))
         (sym (number-value a st e t.0))
         (subst (λ z. IsTrue (int_le (int_in (value_of st a)) z)) (sym (number-value b st e t.1)) h)
     true-meets (cond_not c) t h = λ m. false-fails c t (not-true (truth_of st c) h) m
@@ -155,7 +155,7 @@ module _ (st : Store) (e : Environment) (p : ProperStore st) (s : Sort) (r : Tre
 
     -- a condition that is false
     pub false-fails : (c : Cond) → Tests c → truth_of st c ≡ false
-        → Meets (formula_of c) (joint (lookup st) e) s r → ⊥
+        → Meets (formula_of c) (with_store (lookup st) e) s r → ⊥
     false-fails cond_true t h m = cc
     false-fails cond_false t h m = m
     false-fails (cond_variable x) t h m =
@@ -168,7 +168,7 @@ module _ (st : Store) (e : Environment) (p : ProperStore st) (s : Sort) (r : Tre
     false-fails (cond_at_most a b) t h m =
         wrong (int_le (int_in (value_of st a)) (int_in (value_of st b))) h
         (subst (λ z. IsTrue (int_le (int_in (value_of st a)) z)) (number-value b st e t.1)
-        (subst (λ z. IsTrue (int_le z (number_of (meaning_of (joint (lookup st) e) b))))
+        (subst (λ z. IsTrue (int_le z (number_of (meaning_of (with_store (lookup st) e) b))))
         (number-value a st e t.0) m))
     false-fails (cond_not c) t h m = m (true-meets c t (not-false (truth_of st c) h))
     false-fails (cond_and c d) t h m =
@@ -181,11 +181,11 @@ module _ (st : Store) (e : Environment) (p : ProperStore st) (s : Sort) (r : Tre
 
   -- true exactly where the formula is met
   pub condition-both : (c : Cond) → Tests c
-      → (truth_of st c ≡ true → Meets (formula_of c) (joint (lookup st) e) s r)
-      × (Meets (formula_of c) (joint (lookup st) e) s r → truth_of st c ≡ true)
+      → (truth_of st c ≡ true → Meets (formula_of c) (with_store (lookup st) e) s r)
+      × (Meets (formula_of c) (with_store (lookup st) e) s r → truth_of st c ≡ true)
   condition-both c t = (true-meets c t, back (truth_of st c) refl)
     where
       back : (b : Bool) → truth_of st c ≡ b
-          → Meets (formula_of c) (joint (lookup st) e) s r → truth_of st c ≡ true
+          → Meets (formula_of c) (with_store (lookup st) e) s r → truth_of st c ≡ true
       back true q m = q
       back false q m = absurd (false-fails c t q m)

@@ -1,10 +1,9 @@
--- Commands whose parts have the right sorts and number, as the laws about runs need them.
--- A law says that the bodies of a well-formed theory are such commands.
-use Rattle.std.specs.Prelude.{◌≡◌, ◌⊎◌, List, [], ◌∷◌, Option, Some, None, ℕ}
+-- Commands whose parts have the right sorts and number: what the conditions of a run's beginning and
+-- of a step ask. A law says that the bodies of a well-formed theory are such commands.
+use Rattle.std.specs.Prelude.{◌≡◌, List, [], ◌∷◌, Option, Some, None, ℕ}
 use Rattle.model_shapes.specs.Sorts.{node_sort, list_sort, int_sort, str_sort}
-use Rattle.model_terms.specs.Variables.{Var}
-use Rattle.model_terms.specs.Terms.{Term, InTerm}
-use Rattle.model_terms.specs.Stores.{ProgVar, Computes, sort_of, as_var}
+use Rattle.model_terms.specs.Terms.{Term}
+use Rattle.model_terms.specs.Stores.{ProgVar, Computes, sort_of}
 use Rattle.model_terms.specs.Conditions.{Tests}
 use Rattle.model_commands.specs.Commands.{Command, skip, block, assign, create_node, node_name, child_nodes, parent_node, list_item, append_child, remove_child, if_else, while_do, local, call, Block, stop, ◌then◌, Among}
 use Rattle.model_commands.specs.Theories.{Procedure, Procedures, procedure_named}
@@ -31,13 +30,7 @@ abbrev pub Distinct : List ProgVar → Type 0
 Distinct [] = Unit
 Distinct (x ∷ xs) = (Among xs x → ⊥) × Distinct xs
 
--- the variable stands in one of the terms
-abbrev pub InTerms : Var → List Term → Type 0
-InTerms x [] = ⊥
-InTerms x (t ∷ ts) = InTerm x t ⊎ InTerms x ts
-
--- The parts of a command have the right sorts and number; the results of a call don't repeat and
--- stand in none of its arguments.
+-- The parts of a command have the right sorts and number, and the results of a call don't repeat.
 module _ (procedures : Procedures) where
   abbrev mutual
     pub Sorted : Command → Type 0
@@ -57,7 +50,6 @@ module _ (procedures : Procedures) where
     Sorted (local x b) = BlockSorted b
     Sorted (call results name arguments) =
         CallFits (procedure_named name procedures) results arguments × Distinct results
-        × ((x : ProgVar) → Among results x → InTerms (as_var x) arguments → ⊥)
 
     pub BlockSorted : Block → Type 0
     BlockSorted stop = Unit

@@ -9,7 +9,7 @@ ghost use Rattle.model_shapes.specs.Values.{Value};
 ghost use Rattle.model_shapes.specs.Trees.{Trees};
 ghost use Rattle.model_shapes.specs.Things.{val};
 ghost use Rattle.model_terms.specs.Terms.{Term};
-ghost use Rattle.model_formulas.specs.Satisfaction.{Environment, Meets, joint, meaning_of};
+ghost use Rattle.model_formulas.specs.Satisfaction.{Environment, Meets, with_store, meaning_of};
 ghost use Rattle.model_terms.specs.Stores.{ProgVar, sort_of, Store, unset, set, default, value_in, value_of, lookup, ProperStore, Computes};
 ghost use Rattle.model_terms.specs.Conditions.{Cond, Tests, truth_of};
 ghost use Rattle.model_commands.specs.ConditionFormulas.{formula_of};
@@ -17,12 +17,12 @@ ghost use Rattle.model_commands.specs.ConditionFormulas.{formula_of};
 /// The value of a term of a command is what formulas take the term to stand for.
 pub fn terms_mean_their_values()
     ensures { (s : ValueSort) (t : Term) (store : Store) (e : Environment) → Computes s t
-        → meaning_of (joint (lookup store) e) t ≡ val (value_of store t) }
+        → meaning_of (with_store (lookup store) e) t ≡ val (value_of store t) }
 {}
 
 /// A condition is true exactly where its formula is met, whatever shape it is judged at.
 pub fn conditions_are_their_formulas()
     ensures { (c : Cond) (store : Store) (e : Environment) (s : Sort) (r : Trees) → Tests c
         → ProperStore store
-        → ((truth_of store c ≡ true) ↔ Meets (formula_of c) (joint (lookup store) e) s r) }
+        → ((truth_of store c ≡ true) ↔ Meets (formula_of c) (with_store (lookup store) e) s r) }
 {}

@@ -1,3 +1,4 @@
 pub mod SortedRoots
+pub mod Counting
 pub mod UniqueNumbers
 pub mod WorkedDocuments

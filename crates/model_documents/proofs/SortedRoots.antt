@@ -3,10 +3,10 @@
 use Rattle.std.proofs.Common.{◌≡◌, ℕ, ◌≤◌, ◌+◌, Bool, true, false, cond, List, nat_le, refl, sym, ap, ◌∙◌, arith}
 use Rattle.std.proofs.lemmas.Bool.Decides.{nat_tests}
 use Rattle.std.proofs.Math.Decide.{ℕ_discrete}
-use Rattle.model_shapes.specs.Trees.{Trees, none, node, hole, beside, root_uses, node_uses, list_uses, tally, trees_eq, WellFormed}
+use Rattle.model_shapes.specs.Trees.{Trees, none, node, hole, beside, root_uses, node_uses, list_uses, one_if, trees_eq, WellFormed}
 use Rattle.model_shapes.specs.Shapes.{root_holes}
 use Rattle.model_shapes.proofs.Basics.{root_uses-beside, root_holes-beside, node_uses-beside, list_uses-beside}
-use Rattle.model_shapes.proofs.Sameness.{SameGrove, tally_self, same-count}
+use Rattle.model_shapes.proofs.Sameness.{SameGrove, one_if_self, same-count}
 use Rattle.model_documents.specs.Roots.{root_put, sorted_roots, FromNumber, Rising}
 
 -- a root that is put among others is one root more
@@ -97,14 +97,14 @@ from-root n s i k l (node s' i' k' l' r) f h =
     go (trees_eq (node s i k l none) (node s' i' k' l' none)) h (from-root n s i k l r f.1)
   where
     go : (d : Dec (node s i k l none ≡ node s' i' k' l' none))
-        → 1 ≤ tally d + root_uses (node s i k l none) r
+        → 1 ≤ one_if d + root_uses (node s i k l none) r
         → (1 ≤ root_uses (node s i k l none) r → n ≤ i) → n ≤ i
     go (yes e) w rec = let same : i ≡ i' = cc in omega (arith, f.0)
     go (no e) w rec = rec (omega arith)
 from-root n s i k l (hole r) f h =
     go (trees_eq (node s i k l none) (hole none)) h (from-root n s i k l r f)
   where
-    go : (d : Dec (node s i k l none ≡ hole none)) → 1 ≤ tally d + root_uses (node s i k l none) r
+    go : (d : Dec (node s i k l none ≡ hole none)) → 1 ≤ one_if d + root_uses (node s i k l none) r
         → (1 ≤ root_uses (node s i k l none) r → n ≤ i) → n ≤ i
     go (yes e) w rec = absurd cc
     go (no e) w rec = rec (omega arith)
@@ -118,7 +118,7 @@ root-used s i k l (node s' i' k' l' r) =
   where
     go : (d : Dec (node s i k l none ≡ node s' i' k' l' none)) (n : Dec (i ≡ i'))
         → root_uses (node s i k l none) r ≤ node_uses i r
-        → tally d + root_uses (node s i k l none) r ≤ tally n + (node_uses i k' + node_uses i r)
+        → one_if d + root_uses (node s i k l none) r ≤ one_if n + (node_uses i k' + node_uses i r)
     go (yes e) (yes f) h = omega arith
     go (no e) (yes f) h = omega arith
     go (yes e) (no f) h = absurd (f cc)
@@ -126,15 +126,15 @@ root-used s i k l (node s' i' k' l' r) =
 root-used s i k l (hole r) = go (trees_eq (node s i k l none) (hole none)) (root-used s i k l r)
   where
     go : (d : Dec (node s i k l none ≡ hole none)) → root_uses (node s i k l none) r ≤ node_uses i r
-        → tally d + root_uses (node s i k l none) r ≤ node_uses i r
+        → one_if d + root_uses (node s i k l none) r ≤ node_uses i r
     go (yes e) h = absurd cc
     go (no e) h = omega arith
 
 -- the first roots of two sorted groves that are the same
-tally-yes : (m n : ℕ) → m ≡ n → tally (ℕ_discrete m n) ≡ 1
-tally-yes m n e = go (ℕ_discrete m n)
+counts-itself : (m n : ℕ) → m ≡ n → one_if (ℕ_discrete m n) ≡ 1
+counts-itself m n e = go (ℕ_discrete m n)
   where
-    go : (d : Dec (m ≡ n)) → tally d ≡ 1
+    go : (d : Dec (m ≡ n)) → one_if d ≡ 1
     go (yes f) = refl
     go (no f) = absurd (f e)
 
@@ -142,7 +142,7 @@ first-number : (s : List ℕ) (i : ℕ) (k : Trees) (l : ℕ) (r : Trees) (s' : 
     (l' : ℕ) (q : Trees) → FromNumber i' q → SameGrove (node s i k l r) (node s' i' k' l' q) → i' ≤ i
 first-number s i k l r s' i' k' l' q y same =
     from-root i' s i k l (node s' i' k' l' q) (omega arith, y)
-    (omega (arith, same (node s i k l none), tally_self (node s i k l none)))
+    (omega (arith, same (node s i k l none), one_if_self (node s i k l none)))
 
 first-equal : (s : List ℕ) (i : ℕ) (k : Trees) (l : ℕ) (r : Trees) (s' : List ℕ) (i' : ℕ) (k' : Trees)
     (l' : ℕ) → node_uses i' (node s i k l r) ≤ 1 → i' ≡ i
@@ -151,9 +151,9 @@ first-equal s i k l r s' i' k' l' once e =
     go (trees_eq (node s' i' k' l' none) (node s i k l none))
   where
     go : (d : Dec (node s' i' k' l' none ≡ node s i k l none))
-        → 1 ≤ tally d + root_uses (node s' i' k' l' none) r → node s' i' k' l' none ≡ node s i k l none
+        → 1 ≤ one_if d + root_uses (node s' i' k' l' none) r → node s' i' k' l' none ≡ node s i k l none
     go (yes f) w = f
-    go (no f) w = absurd (omega (arith, root-used s' i' k' l' r, tally-yes i' i e))
+    go (no f) w = absurd (omega (arith, root-used s' i' k' l' r, counts-itself i' i e))
 
 -- what stands behind equal roots is the same
 rest-same : (t t' r q : Trees) → t' ≡ t → SameGrove (beside t r) (beside t' q) → SameGrove r q
@@ -175,12 +175,12 @@ pub rising-equal : (a b : Trees) → ((n : ℕ) → node_uses n a ≤ 1) → roo
     → SameGrove a b → a ≡ b
 rising-equal none none once h x y same = refl
 rising-equal none (node s i k l r) once h x y same =
-    absurd (omega (arith, same (node s i k l none), tally_self (node s i k l none)))
+    absurd (omega (arith, same (node s i k l none), one_if_self (node s i k l none)))
 rising-equal none (hole r) once h x y same =
-    absurd (omega (arith, same (hole none), tally_self (hole none)))
+    absurd (omega (arith, same (hole none), one_if_self (hole none)))
 rising-equal (hole r) b once h x y same = absurd (omega arith)
 rising-equal (node s i k l r) none once h x y same =
-    absurd (omega (arith, same (node s i k l none), tally_self (node s i k l none)))
+    absurd (omega (arith, same (node s i k l none), one_if_self (node s i k l none)))
 rising-equal (node s i k l r) (hole q) once h x y same =
     absurd (omega (arith, h, same-count root_holes root_holes-beside (node s i k l r) (hole q) same))
 rising-equal (node s i k l r) (node s' i' k' l' q) once h x y same =
@@ -191,7 +191,7 @@ rising-equal (node s i k l r) (node s' i' k' l' q) once h x y same =
     ) in
     let first : node s' i' k' l' none ≡ node s i k l none =
     first-equal s i k l r s' i' k' l' (once i') equal_number
-    (omega (arith, same (node s' i' k' l' none), tally_self (node s' i' k' l' none))) in
+    (omega (arith, same (node s' i' k' l' none), one_if_self (node s' i' k' l' none))) in
     join s i k l r s' i' k' l' q first
     (rising-equal r q (λ n. omega (arith, once n)) h x.1 y.1
     (rest-same (node s i k l none) (node s' i' k' l' none) r q first same))

@@ -1,66 +1,16 @@
 -- The numbers of a document are unique where none repeats.
-use Rattle.std.proofs.Common.{◌≡◌, ℕ, ◌≤◌, ◌+◌, Bool, true, false, not, ◌||◌, ◌==◌, cond, List, [], ◌∷◌, ◌++◌, Some, None, refl, sym, ap, ◌∙◌, subst, arith}
+use Rattle.std.proofs.Common.{◌≡◌, ℕ, ◌≤◌, ◌+◌, Bool, true, false, not, ◌||◌, cond, List, [], ◌∷◌, Some, None, refl, sym, ap, ◌∙◌, subst, arith}
 use Rattle.std.specs.List.{list_any, find}
-use Rattle.std.proofs.lemmas.Bool.Decides.{nat_tests}
-use Rattle.std.proofs.Math.Decide.{ℕ_discrete}
-use Rattle.model_shapes.specs.Trees.{Trees, none, node, hole, node_uses, list_uses, tally, WellFormed}
+use Rattle.model_shapes.specs.Trees.{Trees, none, node, hole, WellFormed}
+use Rattle.model_documents.proofs.Counting.{bit, count, count-append, uses, bit-decided, counted, same-itself, same-is}
 use Rattle.model_documents.specs.Numbers.{Numbered, node_numbered, list_numbered, same_numbered, numbers_written, is_in_range, first_out_of_range, numbers_in, first_repeat_behind, first_repeat}
-
--- one where the answer is yes
-abbrev bit : Bool → ℕ
-bit true = 1
-bit false = 0
-
--- how often a number stands in a list
-abbrev count : Numbered → List Numbered → ℕ
-count q [] = 0
-count q (n ∷ ns) = bit (same_numbered q n) + count q ns
-
-count-append : (q : Numbered) (a b : List Numbered) → count q (a ++ b) ≡ count q a + count q b
-count-append q [] b = omega arith
-count-append q (n ∷ a) b = omega (arith, count-append q a b)
-
--- how often it stands in a document
-abbrev uses : Numbered → Trees → ℕ
-uses (node_numbered n) = node_uses n
-uses (list_numbered n) = list_uses n
-
-bit-tally : (m n : ℕ) → bit (m == n) ≡ tally (ℕ_discrete m n)
-bit-tally m n = go (m == n) (ℕ_discrete m n) refl
-  where
-    go : (b : Bool) (d : Dec (m ≡ n)) → (m == n) ≡ b → bit b ≡ tally d
-    go true (yes e) f = refl
-    go true (no e) f = absurd (e (grind (arith, nat_tests)))
-    go false (yes e) f = absurd (grind (arith, nat_tests))
-    go false (no e) f = refl
-
--- in document order each number is counted
-counted : (q : Numbered) (g : Trees) → count q (numbers_in g) ≡ uses q g
-counted (node_numbered n) none = refl
-counted (node_numbered n) (node s i k l r) = omega (
-  arith,
-  bit-tally n i,
-  count-append (node_numbered n) (numbers_in k) (numbers_in r),
-  counted (node_numbered n) k,
-  counted (node_numbered n) r,
-)
-counted (node_numbered n) (hole r) = counted (node_numbered n) r
-counted (list_numbered n) none = refl
-counted (list_numbered n) (node s i k l r) = omega (
-  arith,
-  bit-tally n l,
-  count-append (list_numbered n) (numbers_in k) (numbers_in r),
-  counted (list_numbered n) k,
-  counted (list_numbered n) r,
-)
-counted (list_numbered n) (hole r) = counted (list_numbered n) r
 
 -- and so it is in the order of the text
 counted-written : (q : Numbered) (g : Trees) → count q (numbers_written g) ≡ uses q g
 counted-written (node_numbered n) none = refl
 counted-written (node_numbered n) (node s i k l r) = omega (
   arith,
-  bit-tally n i,
+  bit-decided n i,
   count-append (node_numbered n) (numbers_written k) (list_numbered l ∷ numbers_written r),
   counted-written (node_numbered n) k,
   counted-written (node_numbered n) r,
@@ -69,23 +19,12 @@ counted-written (node_numbered n) (hole r) = counted-written (node_numbered n) r
 counted-written (list_numbered n) none = refl
 counted-written (list_numbered n) (node s i k l r) = omega (
   arith,
-  bit-tally n l,
+  bit-decided n l,
   count-append (list_numbered n) (numbers_written k) (list_numbered l ∷ numbers_written r),
   counted-written (list_numbered n) k,
   counted-written (list_numbered n) r,
 )
 counted-written (list_numbered n) (hole r) = counted-written (list_numbered n) r
-
--- a number is the same as itself, and as no other
-same-itself : (q : Numbered) → same_numbered q q ≡ true
-same-itself (node_numbered n) = grind (arith, nat_tests)
-same-itself (list_numbered n) = grind (arith, nat_tests)
-
-same-is : (p q : Numbered) → same_numbered p q ≡ true → p ≡ q
-same-is (node_numbered m) (node_numbered n) e = let f : m ≡ n = grind (arith, nat_tests) in ap node_numbered f
-same-is (list_numbered m) (list_numbered n) e = let f : m ≡ n = grind (arith, nat_tests) in ap list_numbered f
-same-is (node_numbered m) (list_numbered n) e = absurd cc
-same-is (list_numbered m) (node_numbered n) e = absurd cc
 
 -- each number stands at most once, and not if it stood before
 abbrev Fresh : List Numbered → List Numbered → Type 0
@@ -147,10 +86,16 @@ in-range q (n ∷ ns) out e =
     go true false x y f rec = omega (arith, rec f)
     go false b x y f rec = absurd cc
 
-pub unique-WellFormed : (g : Trees) → first_out_of_range g ≡ None → first_repeat g ≡ None → WellFormed g
-unique-WellFormed g range repeat = let fresh = repeat-fresh [] (numbers_in g) repeat in record {
-  nodes_once = λ n. omega (arith, counted (node_numbered n) g, (fresh (node_numbered n)).0);
-  lists_once = λ n. omega (arith, counted (list_numbered n) g, (fresh (list_numbered n)).0);
+-- where no number repeats, each stands once
+pub unrepeated-once : (g : Trees) → first_repeat g ≡ None → (q : Numbered) → uses q g ≤ 1
+unrepeated-once g e q = omega (arith, counted q g, (repeat-fresh [] (numbers_in g) e q).0)
+
+-- so a document with no number out of range and none repeated is well formed
+pub unique-WellFormed : (g : Trees) → first_out_of_range g ≡ None → first_repeat g ≡ None
+    → WellFormed g
+unique-WellFormed g range repeat = record {
+  nodes_once = λ n. unrepeated-once g repeat (node_numbered n);
+  lists_once = λ n. unrepeated-once g repeat (list_numbered n);
   no_node_zero = sym (counted-written (node_numbered 0) g)
       ∙ in-range (node_numbered 0) (numbers_written g) refl range;
   no_list_zero = sym (counted-written (list_numbered 0) g)

@@ -1,20 +1,21 @@
 -- What the tests of file faults say of terms, conditions, calls and commands.
 use Rattle.std.proofs.Common.{◌≡◌, ◌⊎◌, List, [], ◌∷◌, ◌++◌, Bool, true, false, not, ◌&&◌, ◌||◌, sym, refl, subst, inl, inr, Option, Some, None}
 use Rattle.std.specs.List.{list_all, list_any, flat_map}
-use Rattle.model_shapes.specs.Sorts.{ValueSort, node_sort, list_sort, int_sort, str_sort, bool_sort, same_value_sort}
+use Rattle.model_shapes.specs.Tests.{same_value_sort}
+use Rattle.model_shapes.specs.Sorts.{ValueSort, node_sort, list_sort, int_sort, str_sort, bool_sort}
 use Rattle.model_shapes.specs.Values.{FitsValue, value_sort}
 use Rattle.model_shapes.proofs.Truth.{false≢true, both_true}
 use Rattle.model_terms.specs.Variables.{Var, prog, logic, bound}
-use Rattle.model_terms.specs.VariableTests.{same_value_sort-is}
-use Rattle.model_terms.specs.Terms.{Term, literal, variable, sum, difference, appended, InTerm}
-use Rattle.model_formulas.specs.WellSorted.{has_sort, both_have, one_sort, alike, is_literal}
+use Rattle.model_shapes.proofs.Tests.{same_value_sort-is}
+use Rattle.model_terms.specs.Terms.{Term, literal, variable, sum, difference, appended}
+use Rattle.model_formulas.specs.WellSorted.{has_sort, both_have, one_sort, both_logic_of_one_sort, is_literal}
 use Rattle.model_formulas.proofs.SortedTerms.{literal-fits}
-use Rattle.model_terms.specs.Stores.{ProgVar, named, as_var, sort_of, same_name, Computes}
+use Rattle.model_terms.specs.Stores.{ProgVar, named, sort_of, same_name, Computes}
 use Rattle.model_terms.specs.Conditions.{Cond, cond_true, cond_false, cond_variable, cond_equal, cond_at_most, cond_not, cond_and, cond_or, Tests}
 use Rattle.model_commands.specs.Commands.{Command, skip, block, assign, create_node, node_name, child_nodes, parent_node, list_item, append_child, remove_child, if_else, while_do, local, call, Block, stop, ◌then◌, Among}
 use Rattle.model_commands.specs.CommandParts.{commands_in, commands_of, variables_of_term}
 use Rattle.model_commands.specs.Theories.{Procedure, Procedures, procedure_named}
-use Rattle.model_commands.specs.Sorting.{Feed, Receive, CallFits, Distinct, InTerms, Sorted, BlockSorted}
+use Rattle.model_commands.specs.Sorting.{Feed, Receive, CallFits, Distinct, Sorted, BlockSorted}
 use Rattle.model_files.specs.FileFaults.{is_program, is_plain, evaluates, condition_sorted, feeds, receives, call_fits, parts_fit, has_command, callee_known, is_among, distinct_by, stands_in, results_apart}
 use Rattle.model_terms.proofs.StoreLaws.{same_name-refl}
 use Rattle.model_commands.proofs.StoreLaws.{either-true}
@@ -94,51 +95,43 @@ both-compute s a b h p q =
     (s, computes a s g.0 p, computes b s g.1 q)
 
 -- two variables of a data or context sort are no program variables
-alike-none : (a b : Term) → alike a b ≡ true → is_plain a ≡ true → ⊥
-alike-none (variable (prog x u)) (variable y) e p = false≢true e
-alike-none (variable (logic x u)) (variable y) e p = false≢true p
-alike-none (variable (bound i u)) (variable y) e p = false≢true p
-alike-none (variable x) (literal v) e p = false≢true e
-alike-none (variable x) (sum c d) e p = false≢true e
-alike-none (variable x) (difference c d) e p = false≢true e
-alike-none (variable x) (appended c d) e p = false≢true e
-alike-none (literal v) b e p = false≢true e
-alike-none (sum c d) b e p = false≢true e
-alike-none (difference c d) b e p = false≢true e
-alike-none (appended c d) b e p = false≢true e
+alike-none : (a b : Term) → both_logic_of_one_sort a b ≡ true → is_plain a ≡ true → ⊥
+alike-none (variable (logic x u)) b e p = false≢true p
+alike-none (variable (bound i u)) b e p = false≢true p
+alike-none a b e p = false≢true e
 
 one-sort-computes : (a b : Term) → one_sort a b ≡ true → is_plain a ≡ true → is_plain b ≡ true
     → (s : ValueSort) × Computes s a × Computes s b
 one-sort-computes a b e p q = node-first (either-true (both_have node_sort a b) _ e)
   where
-    bool-first : (both_have bool_sort a b ≡ true) ⊎ (alike a b ≡ true)
+    bool-first : (both_have bool_sort a b ≡ true) ⊎ (both_logic_of_one_sort a b ≡ true)
         → (s : ValueSort) × Computes s a × Computes s b
     bool-first (inl h) = both-compute bool_sort a b h p q
     bool-first (inr h) = absurd (alike-none a b h p)
 
     str-first : (both_have str_sort a b ≡ true)
-        ⊎ ((both_have bool_sort a b || alike a b) ≡ true)
+        ⊎ ((both_have bool_sort a b || both_logic_of_one_sort a b) ≡ true)
         → (s : ValueSort) × Computes s a × Computes s b
     str-first (inl h) = both-compute str_sort a b h p q
-    str-first (inr h) = bool-first (either-true (both_have bool_sort a b) (alike a b) h)
+    str-first (inr h) = bool-first (either-true (both_have bool_sort a b) (both_logic_of_one_sort a b) h)
 
     int-first : (both_have int_sort a b ≡ true)
-        ⊎ ((both_have str_sort a b || (both_have bool_sort a b || alike a b)) ≡ true)
+        ⊎ ((both_have str_sort a b || (both_have bool_sort a b || both_logic_of_one_sort a b)) ≡ true)
         → (s : ValueSort) × Computes s a × Computes s b
     int-first (inl h) = both-compute int_sort a b h p q
     int-first (inr h) =
-        str-first (either-true (both_have str_sort a b) (both_have bool_sort a b || alike a b) h)
+        str-first (either-true (both_have str_sort a b) (both_have bool_sort a b || both_logic_of_one_sort a b) h)
 
     list-first : (both_have list_sort a b ≡ true)
         ⊎ ((both_have int_sort a b
-        || (both_have str_sort a b || (both_have bool_sort a b || alike a b))) ≡ true)
+        || (both_have str_sort a b || (both_have bool_sort a b || both_logic_of_one_sort a b))) ≡ true)
         → (s : ValueSort) × Computes s a × Computes s b
     list-first (inl h) = both-compute list_sort a b h p q
     list-first (inr h) = int-first (either-true (both_have int_sort a b) _ h)
 
     node-first : (both_have node_sort a b ≡ true)
         ⊎ ((both_have list_sort a b || (both_have int_sort a b
-        || (both_have str_sort a b || (both_have bool_sort a b || alike a b)))) ≡ true)
+        || (both_have str_sort a b || (both_have bool_sort a b || both_logic_of_one_sort a b)))) ≡ true)
         → (s : ValueSort) × Computes s a × Computes s b
     node-first (inl h) = both-compute node_sort a b h p q
     node-first (inr h) = list-first (either-true (both_have list_sort a b) _ h)
@@ -225,38 +218,6 @@ stands-right (prog n s ∷ xs) ys x e =
     right-true (same_name x (named n s)) (stands_in (xs ++ ys) x) (stands-right xs ys x e)
 stands-right (logic n s ∷ xs) ys x e = stands-right xs ys x e
 stands-right (bound i s ∷ xs) ys x e = stands-right xs ys x e
-
--- the variable itself
-stands-itself : (y : Var) (x : ProgVar) → as_var x ≡ y → stands_in (y ∷ []) x ≡ true
-stands-itself y (named n s) e =
-    subst (λ z. stands_in (z ∷ []) (named n s) ≡ true) e
-    (left-true (same_name (named n s) (named n s)) false (same_name-refl (named n s)))
-
--- a variable that stands in a term
-pub stands-term : (t : Term) (x : ProgVar) → InTerm (as_var x) t
-    → stands_in (variables_of_term t) x ≡ true
-stands-term (literal v) x m = absurd m
-stands-term (variable y) x m = stands-itself y x m
-stands-term (sum a b) x (inl m) =
-    stands-left (variables_of_term a) (variables_of_term b) x (stands-term a x m)
-stands-term (sum a b) x (inr m) =
-    stands-right (variables_of_term a) (variables_of_term b) x (stands-term b x m)
-stands-term (difference a b) x (inl m) =
-    stands-left (variables_of_term a) (variables_of_term b) x (stands-term a x m)
-stands-term (difference a b) x (inr m) =
-    stands-right (variables_of_term a) (variables_of_term b) x (stands-term b x m)
-stands-term (appended a b) x (inl m) =
-    stands-left (variables_of_term a) (variables_of_term b) x (stands-term a x m)
-stands-term (appended a b) x (inr m) =
-    stands-right (variables_of_term a) (variables_of_term b) x (stands-term b x m)
-
-stands-terms : (ts : List Term) (x : ProgVar) → InTerms (as_var x) ts
-    → stands_in (flat_map variables_of_term ts) x ≡ true
-stands-terms [] x m = absurd m
-stands-terms (t ∷ ts) x (inl m) =
-    stands-left (variables_of_term t) (flat_map variables_of_term ts) x (stands-term t x m)
-stands-terms (t ∷ ts) x (inr m) =
-    stands-right (variables_of_term t) (flat_map variables_of_term ts) x (stands-terms ts x m)
 
 -- what a test of each says of one
 pub each-among : (p : ProgVar → Bool) (xs : List ProgVar) → list_all p xs ≡ true → (x : ProgVar)
@@ -377,17 +338,10 @@ module _ (th : Procedures) where
     sorted-command (call results name arguments) k =
         let c : Passes (call results name arguments) =
         first-checked (call results name arguments) [] k in
-        let h : (distinct_by same_name results ≡ true) × (list_all
-        (λ x. not (stands_in (flat_map variables_of_term arguments) x)) results ≡ true) =
-        both_true (distinct_by same_name results) (list_all
-        (λ x. not (stands_in (flat_map variables_of_term arguments) x)) results) c.apart in (
+        (
           call-fits (procedure_named name th) results arguments c.known c.fitting,
-          apart-distinct results h.0,
-          λ x m i.
-              not-both (stands_in (flat_map variables_of_term arguments) x)
-              (each-among
-              (λ y. not (stands_in (flat_map variables_of_term arguments) y)) results h.1 x m)
-              (stands-terms arguments x i),
+          apart-distinct results (both_true (distinct_by same_name results) (list_all
+              (λ x. not (stands_in (flat_map variables_of_term arguments) x)) results) c.apart).0,
         )
 
     sorted-block : (b : Block) → Checked (commands_of b) → BlockSorted th b

@@ -5,13 +5,12 @@ use Rattle.std.specs.List.{list_all, list_any}
 use Rattle.model_shapes.specs.Sorts.{ValueSort}
 use Rattle.model_shapes.proofs.Truth.{false≢true, both_true}
 use Rattle.model_terms.specs.Variables.{Var, prog, logic, bound}
-use Rattle.model_terms.specs.VariableTests.{bytes-refl}
-use Rattle.model_terms.specs.Terms.{Term, literal, variable, sum, difference, appended, InTerm, raised_var, term_with, var_eq}
+use Rattle.model_shapes.proofs.Tests.{bytes-refl}
+use Rattle.model_terms.specs.VariableTests.{var_eq}
+use Rattle.model_terms.specs.Terms.{Term, literal, variable, sum, difference, appended, InTerm, raised_var, term_with}
 use Rattle.model_formulas.specs.Formulas.{Named, truth, falsity, conjunction, disjunction, implication, negation, existential, universal, equality, at_most, empty, bare_hole, node_formula, one_tree, one_root, concatenation, grove_sum, grove_sum_hole, application, hole_adjoint, context_adjoint, same_as, length_is, value_meets}
 use Rattle.model_formulas.specs.Substitution.{FreeIn}
-use Rattle.model_formulas.specs.Nameless.{nameless}
-use Rattle.model_formulas.specs.Walked.{name_or, names, naming, walked}
-use Rattle.model_formulas.proofs.Nameless.{walked-nameless}
+use Rattle.model_formulas.specs.Nameless.{nameless, walked, naming, names, name_or}
 use Rattle.model_terms.specs.Stores.{ProgVar, named, as_var, same_name}
 use Rattle.model_commands.specs.Commands.{Command, skip, block, assign, create_node, node_name, child_nodes, parent_node, list_item, append_child, remove_child, if_else, while_do, local, call, Block, stop, ◌then◌, Among, Modifies, BlockModifies}
 use Rattle.model_commands.specs.CommandParts.{commands_in, commands_of, targets, variables_of_term}
@@ -276,8 +275,7 @@ pub only-free : (allowed : List ProgVar) (p : Named) → only_among allowed (var
     → (x : ProgVar) → FreeIn (as_var x) (nameless p) → is_among allowed x ≡ true
 only-free allowed p e (named n s) free =
     only-stands allowed (variables_of p) (named n s) e
-    (free-stands p [] n s
-    (subst (λ z. FreeIn (prog n s) z) (sym (walked-nameless p)) free))
+    (free-stands p [] n s free)
 
 -- what the test says is among them
 pub test-among : (xs : List ProgVar) (x : ProgVar) → is_among xs x ≡ true → Among xs x

@@ -2,7 +2,8 @@
 -- places are the version with the logic declarations, then each procedure's header and its steps.
 use Rattle.std.specs.Prelude.{◌≡◌, ℕ, ◌+◌, List, [], ◌∷◌, ◌++◌, map, Bool, true, false, cond, not, ◌&&◌, ◌||◌, ◌==◌, Option, Some, None, is_some, is_none, bytes_eq}
 use Rattle.std.specs.List.{list_all, list_any, flat_map}
-use Rattle.model_shapes.specs.Sorts.{Sort, shape, ValueSort, node_sort, list_sort, int_sort, str_sort, bool_sort, is_sort, same_value_sort, same_sort}
+use Rattle.model_shapes.specs.Tests.{same_sort, same_value_sort}
+use Rattle.model_shapes.specs.Sorts.{Sort, shape, ValueSort, node_sort, list_sort, int_sort, str_sort, bool_sort, is_sort}
 use Rattle.model_terms.specs.Variables.{Var, prog, logic, bound}
 use Rattle.model_terms.specs.Terms.{Term, variable}
 use Rattle.model_formulas.specs.Formulas.{Named, conjunction, disjunction, implication, negation, existential, universal, equality, at_most, node_formula, one_tree, one_root, concatenation, grove_sum, grove_sum_hole, application, hole_adjoint, context_adjoint, same_as, length_is, value_meets}
@@ -197,7 +198,7 @@ parts_fit procedures (call results name arguments) =
 
 -- a formula may be judged at the sort
 abbrev pub is_judged_at : Sort → Named → Bool
-is_judged_at s formula = is_none (first_fault formula s 0)
+is_judged_at s formula = is_none (first_fault formula s)
 
 -- an argument of a step: a term of a value sort, or one logic variable of a sort that is one
 abbrev pub is_logic_variable : Term → Bool

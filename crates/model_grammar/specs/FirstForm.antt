@@ -4,7 +4,8 @@
 -- and joined texts.
 use Rattle.std.specs.Prelude.{Bool, true, false, ◌&&◌, List, [], ◌∷◌, bytes_eq, codes}
 use Rattle.std.specs.List.{list_all, list_any}
-use Rattle.model_shapes.specs.Sorts.{grove, same_data_sort}
+use Rattle.model_shapes.specs.Tests.{same_data_sort}
+use Rattle.model_shapes.specs.Sorts.{grove}
 use Rattle.model_terms.specs.Variables.{Var}
 use Rattle.model_formulas.specs.Formulas.{Named, truth, conjunction, equality, empty}
 use Rattle.model_commands.specs.Commands.{Command, skip, block, assign, create_node, node_name}

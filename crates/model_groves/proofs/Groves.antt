@@ -1,7 +1,7 @@
 -- What is found in a grove, taken out of it and put into it.
 use Rattle.std.proofs.Common.{◌≡◌, ℕ, zero, suc, ◌≤◌, ◌+◌, ◌*◌, sym, refl, ap, arith, ◌∙◌, subst, Bool, true, false, cond, ◌||◌, List}
 use Rattle.std.proofs.Math.Decide.{ℕ_discrete}
-use Rattle.model_shapes.specs.Trees.{Trees, none, node, hole, beside, width, root_uses, node_uses, list_uses, tally}
+use Rattle.model_shapes.specs.Trees.{Trees, none, node, hole, beside, width, root_uses, node_uses, list_uses, one_if}
 use Rattle.model_shapes.specs.Shapes.{holes, SameAt}
 use Rattle.model_shapes.specs.Sorts.{grove}
 use Rattle.model_shapes.proofs.Basics.{beside_assoc, holes-beside, width-beside, node_uses-beside, list_uses-beside, root_uses-beside}
@@ -14,16 +14,16 @@ use Rattle.model_groves.specs.Groves.{nodes_where, has_root, numbered, listed, p
 pub those-beside : (t : ℕ → Trees → ℕ → Bool) (a b : Trees)
     → nodes_where t (beside a b) ≡ beside (nodes_where t a) (nodes_where t b)
 those-beside t none b = refl
-those-beside t (node s i k l r) b = go (t i k l) (those-beside t r b)
+those-beside t (node s i k l r) b = by_test (t i k l) (those-beside t r b)
   where
-    go : (c : Bool) → nodes_where t (beside r b) ≡ beside (nodes_where t r) (nodes_where t b)
+    by_test : (c : Bool) → nodes_where t (beside r b) ≡ beside (nodes_where t r) (nodes_where t b)
         → cond c (node s i k l (nodes_where t (beside r b)))
         (beside (nodes_where t k) (nodes_where t (beside r b)))
         ≡ beside
         (cond c (node s i k l (nodes_where t r)) (beside (nodes_where t k) (nodes_where t r)))
         (nodes_where t b)
-    go true e = ap (node s i k l) e
-    go false e = ap (beside (nodes_where t k)) e
+    by_test true e = ap (node s i k l) e
+    by_test false e = ap (beside (nodes_where t k)) e
         ∙ sym (beside_assoc (nodes_where t k) (nodes_where t r) (nodes_where t b))
 those-beside t (hole r) b = those-beside t r b
 
@@ -31,13 +31,13 @@ those-beside t (hole r) b = those-beside t r b
 pub without-beside : (n : ℕ) (a b : Trees)
     → without n (beside a b) ≡ beside (without n a) (without n b)
 without-beside n none b = refl
-without-beside n (node s i k l r) b = go (is_yes (ℕ_discrete n i)) (without-beside n r b)
+without-beside n (node s i k l r) b = by_test (is_yes (ℕ_discrete n i)) (without-beside n r b)
   where
-    go : (c : Bool) → without n (beside r b) ≡ beside (without n r) (without n b)
+    by_test : (c : Bool) → without n (beside r b) ≡ beside (without n r) (without n b)
         → cond c (without n (beside r b)) (node s i (without n k) l (without n (beside r b)))
         ≡ beside (cond c (without n r) (node s i (without n k) l (without n r))) (without n b)
-    go true e = e
-    go false e = ap (node s i (without n k) l) e
+    by_test true e = e
+    by_test false e = ap (node s i (without n k) l) e
 without-beside n (hole r) b = ap hole (without-beside n r b)
 
 -- and put into them one by one
@@ -59,30 +59,31 @@ same-after T adds g g' h =
 -- how many are found
 pub width-numbered : (n : ℕ) (g : Trees) → width (nodes_where (numbered n) g) ≤ node_uses n g
 width-numbered n none = omega arith
-width-numbered n (node s i k l r) = go (ℕ_discrete n i) (width-numbered n k) (width-numbered n r)
+width-numbered n (node s i k l r) =
+    by_test (ℕ_discrete n i) (width-numbered n k) (width-numbered n r)
   where
-    go : (d : Dec (n ≡ i)) → width (nodes_where (numbered n) k) ≤ node_uses n k
+    by_test : (d : Dec (n ≡ i)) → width (nodes_where (numbered n) k) ≤ node_uses n k
         → width (nodes_where (numbered n) r) ≤ node_uses n r
         → width (cond (is_yes d) (node s i k l (nodes_where (numbered n) r))
-        (beside (nodes_where (numbered n) k) (nodes_where (numbered n) r))) ≤ tally d +
+        (beside (nodes_where (numbered n) k) (nodes_where (numbered n) r))) ≤ one_if d +
         (node_uses n k + node_uses n r)
-    go (yes e) a b = omega arith
-    go (no m) a b =
+    by_test (yes e) a b = omega arith
+    by_test (no m) a b =
         omega (arith, width-beside (nodes_where (numbered n) k) (nodes_where (numbered n) r))
 width-numbered n (hole r) = width-numbered n r
 
 -- at most one list has a number
 pub width-listed : (n : ℕ) (g : Trees) → width (nodes_where (listed n) g) ≤ list_uses n g
 width-listed n none = omega arith
-width-listed n (node s i k l r) = go (ℕ_discrete n l) (width-listed n k) (width-listed n r)
+width-listed n (node s i k l r) = by_test (ℕ_discrete n l) (width-listed n k) (width-listed n r)
   where
-    go : (d : Dec (n ≡ l)) → width (nodes_where (listed n) k) ≤ list_uses n k
+    by_test : (d : Dec (n ≡ l)) → width (nodes_where (listed n) k) ≤ list_uses n k
         → width (nodes_where (listed n) r) ≤ list_uses n r
         → width (cond (is_yes d) (node s i k l (nodes_where (listed n) r))
-        (beside (nodes_where (listed n) k) (nodes_where (listed n) r))) ≤ tally d +
+        (beside (nodes_where (listed n) k) (nodes_where (listed n) r))) ≤ one_if d +
         (list_uses n k + list_uses n r)
-    go (yes e) a b = omega arith
-    go (no m) a b =
+    by_test (yes e) a b = omega arith
+    by_test (no m) a b =
         omega (arith, width-beside (nodes_where (listed n) k) (nodes_where (listed n) r))
 width-listed n (hole r) = width-listed n r
 
@@ -96,19 +97,19 @@ pub width-parental : (n : ℕ) (g : Trees)
     → width (nodes_where (parental n) g) + bit (has_root n g) ≤ node_uses n g
 width-parental n none = omega arith
 width-parental n (node s i k l r) =
-    go (ℕ_discrete n i) (has_root n k) (has_root n r) (width-parental n k) (width-parental n r)
+    by_test (ℕ_discrete n i) (has_root n k) (has_root n r) (width-parental n k) (width-parental n r)
   where
-    go : (d : Dec (n ≡ i)) (x y : Bool)
+    by_test : (d : Dec (n ≡ i)) (x y : Bool)
         → width (nodes_where (parental n) k) + bit x ≤ node_uses n k
         → width (nodes_where (parental n) r) + bit y ≤ node_uses n r
         → width (cond x (node s i k l (nodes_where (parental n) r))
         (beside (nodes_where (parental n) k) (nodes_where (parental n) r))) + bit
-        (is_yes d || y) ≤ tally d + (node_uses n k + node_uses n r)
-    go (yes e) true y a b = omega arith
-    go (yes e) false y a b =
+        (is_yes d || y) ≤ one_if d + (node_uses n k + node_uses n r)
+    by_test (yes e) true y a b = omega arith
+    by_test (yes e) false y a b =
         omega (arith, width-beside (nodes_where (parental n) k) (nodes_where (parental n) r))
-    go (no m) true y a b = omega arith
-    go (no m) false y a b =
+    by_test (no m) true y a b = omega arith
+    by_test (no m) false y a b =
         omega (arith, width-beside (nodes_where (parental n) k) (nodes_where (parental n) r))
 width-parental n (hole r) = width-parental n r
 
@@ -127,13 +128,13 @@ Roots-beside t (hole r) b x y = x
 -- of all that is found
 pub those-pass : (t : ℕ → Trees → ℕ → Bool) (g : Trees) → Roots t (nodes_where t g)
 those-pass t none = tt
-those-pass t (node s i k l r) = go (t i k l) refl (those-pass t k) (those-pass t r)
+those-pass t (node s i k l r) = by_test (t i k l) refl (those-pass t k) (those-pass t r)
   where
-    go : (c : Bool) → t i k l ≡ c → Roots t (nodes_where t k) → Roots t (nodes_where t r)
+    by_test : (c : Bool) → t i k l ≡ c → Roots t (nodes_where t k) → Roots t (nodes_where t r)
         → Roots t
         (cond c (node s i k l (nodes_where t r)) (beside (nodes_where t k) (nodes_where t r)))
-    go true e x y = (e, y)
-    go false e x y = Roots-beside t (nodes_where t k) (nodes_where t r) x y
+    by_test true e x y = (e, y)
+    by_test false e x y = Roots-beside t (nodes_where t k) (nodes_where t r) x y
 those-pass t (hole r) = those-pass t r
 
 -- what is found by its number has it
@@ -153,16 +154,17 @@ module _ (f : Trees → ℕ) (c : ℕ → ℕ → ℕ) (d : ℕ)
     -- what is taken out and what is left make the whole
     pub taken-out : (n : ℕ) (g : Trees) → f (without n g) + f (nodes_where (numbered n) g) ≡ f g
     taken-out n none = omega (arith, at_none)
-    taken-out n (node s i k l r) = go (is_yes (ℕ_discrete n i)) (taken-out n k) (taken-out n r)
+    taken-out n (node s i k l r) = by_test (is_yes (ℕ_discrete n i)) (taken-out n k) (taken-out n r)
       where
-        go : (b : Bool) → f (without n k) + f (nodes_where (numbered n) k) ≡ f k
+        by_test : (b : Bool) → f (without n k) + f (nodes_where (numbered n) k) ≡ f k
             → f (without n r) + f (nodes_where (numbered n) r) ≡ f r
             → f (cond b (without n r) (node s i (without n k) l (without n r))) + f
             (cond b (node s i k l (nodes_where (numbered n) r))
             (beside (nodes_where (numbered n) k) (nodes_where (numbered n) r)))
             ≡ f (node s i k l r)
-        go true x y = omega (arith, at_node s i k l (nodes_where (numbered n) r), at_node s i k l r)
-        go false x y =
+        by_test true x y =
+            omega (arith, at_node s i k l (nodes_where (numbered n) r), at_node s i k l r)
+        by_test false x y =
             omega (
               arith,
               at_node s i (without n k) l (without n r),
@@ -174,62 +176,63 @@ module _ (f : Trees → ℕ) (c : ℕ → ℕ → ℕ) (d : ℕ)
     -- what is put in is added once for each node of the number
     pub put-in : (n : ℕ) (t g : Trees) → f (adding n t g) ≡ f g + node_uses n g * f t
     put-in n t none = omega (arith, at_none)
-    put-in n t (node s i k l r) = go (ℕ_discrete n i) (put-in n t k) (put-in n t r)
+    put-in n t (node s i k l r) = by_test (ℕ_discrete n i) (put-in n t k) (put-in n t r)
       where
-        go : (b : Dec (n ≡ i)) → f (adding n t k) ≡ f k + node_uses n k * f t
+        by_test : (b : Dec (n ≡ i)) → f (adding n t k) ≡ f k + node_uses n k * f t
             → f (adding n t r) ≡ f r + node_uses n r * f t
             → f (node s i (cond (is_yes b) (beside (adding n t k) t) (adding n t k)) l
             (adding n t r))
-            ≡ f (node s i k l r) + (tally b + (node_uses n k + node_uses n r)) * f t
-        go (yes e) x y =
+            ≡ f (node s i k l r) + (one_if b + (node_uses n k + node_uses n r)) * f t
+        by_test (yes e) x y =
             omega (
               arith,
               at_node s i (beside (adding n t k) t) l (adding n t r),
               adds (adding n t k) t,
               at_node s i k l r,
             )
-        go (no m) x y =
+        by_test (no m) x y =
             omega (arith, at_node s i (adding n t k) l (adding n t r), at_node s i k l r)
     put-in n t (hole r) = omega (arith, put-in n t r, at_hole (adding n t r), at_hole r)
 
     -- what is found counts no more than the whole
     pub those-le : (t : ℕ → Trees → ℕ → Bool) (g : Trees) → f (nodes_where t g) ≤ f g
     those-le t none = omega arith
-    those-le t (node s i k l r) = go (t i k l) (those-le t k) (those-le t r)
+    those-le t (node s i k l r) = by_test (t i k l) (those-le t k) (those-le t r)
       where
-        go : (b : Bool) → f (nodes_where t k) ≤ f k → f (nodes_where t r) ≤ f r
+        by_test : (b : Bool) → f (nodes_where t k) ≤ f k → f (nodes_where t r) ≤ f r
             → f (cond b (node s i k l (nodes_where t r))
             (beside (nodes_where t k) (nodes_where t r))) ≤ f (node s i k l r)
-        go true x y = omega (arith, at_node s i k l (nodes_where t r), at_node s i k l r)
-        go false x y = omega (arith, adds (nodes_where t k) (nodes_where t r), at_node s i k l r)
+        by_test true x y = omega (arith, at_node s i k l (nodes_where t r), at_node s i k l r)
+        by_test false x y =
+            omega (arith, adds (nodes_where t k) (nodes_where t r), at_node s i k l r)
     those-le t (hole r) = omega (arith, those-le t r, at_hole r)
 
     -- a tree that is moved counts no more than before
     pub moved-le : (i j : ℕ) (t g : Trees) → nodes_where (numbered j) g ≡ t
         → node_uses i (without j g) ≤ 1 → f (adding i t (without j g)) ≤ f g
     moved-le i j t g e u =
-        go (node_uses i (without j g)) u (put-in i t (without j g)) (ap f e) (taken-out j g)
+        by_uses (node_uses i (without j g)) u (put-in i t (without j g)) (ap f e) (taken-out j g)
       where
-        go : (m : ℕ) → m ≤ 1 → f (adding i t (without j g)) ≡ f (without j g) + m * f t
+        by_uses : (m : ℕ) → m ≤ 1 → f (adding i t (without j g)) ≡ f (without j g) + m * f t
             → f (nodes_where (numbered j) g) ≡ f t
             → f (without j g) + f (nodes_where (numbered j) g) ≡ f g
             → f (adding i t (without j g)) ≤ f g
-        go zero le a b c' = omega arith
-        go (suc zero) le a b c' = omega arith
-        go (suc (suc m)) le a b c' = absurd (omega arith)
+        by_uses zero le a b c' = omega arith
+        by_uses (suc zero) le a b c' = omega arith
+        by_uses (suc (suc m)) le a b c' = absurd (omega arith)
 
 -- the three counts
 pub node-taken-out : (m n : ℕ) (g : Trees)
     → node_uses m (without n g) + node_uses m (nodes_where (numbered n) g) ≡ node_uses m g
 node-taken-out m =
-    taken-out (node_uses m) (λ i l. tally (ℕ_discrete m i)) 0 refl (λ s i k l r. refl)
+    taken-out (node_uses m) (λ i l. one_if (ℕ_discrete m i)) 0 refl (λ s i k l r. refl)
     (λ r. omega arith) (node_uses-beside m)
 
 -- of list numbers
 pub list-taken-out : (m n : ℕ) (g : Trees)
     → list_uses m (without n g) + list_uses m (nodes_where (numbered n) g) ≡ list_uses m g
 list-taken-out m =
-    taken-out (list_uses m) (λ i l. tally (ℕ_discrete m l)) 0 refl (λ s i k l r. refl)
+    taken-out (list_uses m) (λ i l. one_if (ℕ_discrete m l)) 0 refl (λ s i k l r. refl)
     (λ r. omega arith) (list_uses-beside m)
 
 -- of holes
@@ -242,14 +245,14 @@ holes-taken-out =
 pub node-moved-le : (m i j : ℕ) (t g : Trees) → nodes_where (numbered j) g ≡ t
     → node_uses i (without j g) ≤ 1 → node_uses m (adding i t (without j g)) ≤ node_uses m g
 node-moved-le m =
-    moved-le (node_uses m) (λ i l. tally (ℕ_discrete m i)) 0 refl (λ s i k l r. refl)
+    moved-le (node_uses m) (λ i l. one_if (ℕ_discrete m i)) 0 refl (λ s i k l r. refl)
     (λ r. omega arith) (node_uses-beside m)
 
 -- of list numbers
 pub list-moved-le : (m i j : ℕ) (t g : Trees) → nodes_where (numbered j) g ≡ t
     → node_uses i (without j g) ≤ 1 → list_uses m (adding i t (without j g)) ≤ list_uses m g
 list-moved-le m =
-    moved-le (list_uses m) (λ i l. tally (ℕ_discrete m l)) 0 refl (λ s i k l r. refl)
+    moved-le (list_uses m) (λ i l. one_if (ℕ_discrete m l)) 0 refl (λ s i k l r. refl)
     (λ r. omega arith) (list_uses-beside m)
 
 -- of holes
@@ -262,12 +265,12 @@ holes-moved-le =
 pub node-those-le : (m : ℕ) (t : ℕ → Trees → ℕ → Bool) (g : Trees)
     → node_uses m (nodes_where t g) ≤ node_uses m g
 node-those-le m =
-    those-le (node_uses m) (λ i l. tally (ℕ_discrete m i)) 0 refl (λ s i k l r. refl)
+    those-le (node_uses m) (λ i l. one_if (ℕ_discrete m i)) 0 refl (λ s i k l r. refl)
     (λ r. omega arith) (node_uses-beside m)
 
 -- of list numbers
 pub list-those-le : (m : ℕ) (t : ℕ → Trees → ℕ → Bool) (g : Trees)
     → list_uses m (nodes_where t g) ≤ list_uses m g
 list-those-le m =
-    those-le (list_uses m) (λ i l. tally (ℕ_discrete m l)) 0 refl (λ s i k l r. refl)
+    those-le (list_uses m) (λ i l. one_if (ℕ_discrete m l)) 0 refl (λ s i k l r. refl)
     (λ r. omega arith) (list_uses-beside m)

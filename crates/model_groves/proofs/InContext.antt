@@ -1,7 +1,7 @@
 -- What is found and changed in a grove that is data in a context.
 use Rattle.std.proofs.Common.{◌≡◌, ℕ, zero, suc, ◌≤◌, ◌+◌, ◌*◌, List, refl, ap, arith, ◌∙◌, Bool, true, false, cond, ◌||◌}
 use Rattle.std.proofs.Math.Decide.{ℕ_discrete}
-use Rattle.model_shapes.specs.Trees.{Trees, none, node, hole, beside, fill, node_uses, list_uses, tally, WellFormed}
+use Rattle.model_shapes.specs.Trees.{Trees, none, node, hole, beside, fill, node_uses, list_uses, one_if, WellFormed}
 use Rattle.model_shapes.specs.Shapes.{holes}
 use Rattle.model_shapes.proofs.Basics.{beside-none, beside_assoc, node_uses-fill, list_uses-fill}
 use Rattle.model_groves.specs.Groves.{is_yes}
@@ -47,12 +47,12 @@ pub copies-one : (n : ℕ) (a : Trees) → n ≡ 1 → copies n a ≡ a
 copies-one n a e = ap (λ z. copies z a) e ∙ beside-none a
 
 -- a number that a node doesn't have
-pub not-here : (n i : ℕ) → tally (ℕ_discrete n i) ≡ 0 → is_yes (ℕ_discrete n i) ≡ false
-not-here n i = go (ℕ_discrete n i)
+pub not-here : (n i : ℕ) → one_if (ℕ_discrete n i) ≡ 0 → is_yes (ℕ_discrete n i) ≡ false
+not-here n i = by_test (ℕ_discrete n i)
   where
-    go : {A : Type 0} (d : Dec A) → tally d ≡ 0 → is_yes d ≡ false
-    go (yes a) e = absurd (omega arith)
-    go (no m) e = refl
+    by_test : {A : Type 0} (d : Dec A) → one_if d ≡ 0 → is_yes d ≡ false
+    by_test (yes a) e = absurd (omega arith)
+    by_test (no m) e = refl
 
 module _ (n : ℕ) (d : Trees) where
   -- a node by its number
@@ -74,13 +74,13 @@ module _ (n : ℕ) (d : Trees) where
   has_root-beside none b x y = y
   has_root-beside (hole r) b x y = has_root-beside r b x y
   has_root-beside (node s i k l r) b x y =
-      go (is_yes (ℕ_discrete n i)) x (λ z. has_root-beside r b z y)
+      by_test (is_yes (ℕ_discrete n i)) x (λ z. has_root-beside r b z y)
     where
-      go : (q : Bool) → (q || has_root n r) ≡ false
+      by_test : (q : Bool) → (q || has_root n r) ≡ false
           → (has_root n r ≡ false → has_root n (beside r b) ≡ false)
           → (q || has_root n (beside r b)) ≡ false
-      go true e rec = e
-      go false e rec = rec e
+      by_test true e rec = e
+      by_test false e rec = rec e
 
   has_root-fill : has_root n d ≡ false → (c : Trees) → node_uses n c ≡ 0
       → has_root n (fill c d) ≡ false

@@ -1,13 +1,13 @@
 -- The next pick of a grove is free.
 use Rattle.std.proofs.Common.{◌≡◌, ℕ, suc, ◌<◌, ◌+◌, true, not, ◌&&◌, refl, arith}
 use Rattle.std.proofs.Math.Decide.{ℕ_discrete}
-use Rattle.model_shapes.specs.Trees.{Trees, none, node, hole, node_uses, list_uses, tally}
+use Rattle.model_shapes.specs.Trees.{Trees, none, node, hole, node_uses, list_uses, one_if}
 use Rattle.model_groves.specs.Groves.{positive}
 use Rattle.model_groves.specs.Sizes.{greatest_node, greatest_list}
 use Rattle.model_groves.specs.Picks.{is_free, next_pick}
 
 -- a number above the greatest isn't counted, where the first is another
-uncounted : (n m a b : ℕ) (d : Dec (n ≡ m)) → m < n → a ≡ 0 → b ≡ 0 → tally d + (a + b) ≡ 0
+uncounted : (n m a b : ℕ) (d : Dec (n ≡ m)) → m < n → a ≡ 0 → b ≡ 0 → one_if d + (a + b) ≡ 0
 uncounted n m a b (yes e) above x y = absurd (omega arith)
 uncounted n m a b (no other) above x y = omega arith
 

@@ -1,7 +1,7 @@
 -- Runs keep stores proper and groves well formed.
 use Rattle.std.proofs.Common.{◌≡◌, ℕ, zero, suc, ◌≤◌, ◌<◌, ◌+◌, List, [], ◌∷◌, ◌++◌, pos, negsuc, Bool, true, false, cond, not, ◌&&◌, sym, refl, ap, ◌∙◌, subst, arith, Option, Some, None}
 use Rattle.std.proofs.Math.Decide.{ℕ_discrete}
-use Rattle.model_shapes.specs.Trees.{Trees, none, node, hole, beside, width, node_uses, list_uses, tally, WellFormed}
+use Rattle.model_shapes.specs.Trees.{Trees, none, node, hole, beside, width, node_uses, list_uses, one_if, WellFormed}
 use Rattle.model_shapes.specs.Shapes.{holes, Shaped}
 use Rattle.model_shapes.specs.Sorts.{shape, grove, node_sort}
 use Rattle.model_shapes.specs.Values.{Value, null, nolist, node_number, list_number, int, str, boolean, FitsValue}
@@ -15,10 +15,10 @@ use Rattle.model_commands.specs.Commands.{skip, block, assign, create_node, node
 use Rattle.model_commands.specs.Theories.{Procedure, Procedures, procedure_named}
 use Rattle.model_commands.specs.Sorting.{Feed, Receive, CallFits, BlockSorted}
 use Rattle.model_groves.specs.Groves.{nodes_where, has_root, numbered, listed, parental, node_at, list_at, first_number, number_at, item_of, without, adding, positive}
-use Rattle.model_machine.specs.Machine.{FaultKind, no_node, no_list, Piece, run, restore, return, Move, becomes, faults, bad_pick, pieces_of, reading, appending, removing, creating, entering, returning, calling, move, RunOutcome, running, ended, fault, picked_badly, going_on, runs}
+use Rattle.model_machine.specs.Machine.{FaultKind, no_node, no_list, cycle, not_child, Piece, run, restore, return, Move, becomes, faults, bad_pick, pieces_of, reading, appending, removing, creating, entering, returning, calling, move, Config, configuration, StepOut, next, done, at_fault, at_bad_pick, stepped, step, is_done, running, ended, after_step, runs}
 use Rattle.model_groves.specs.Picks.{Pick, is_free}
-use Rattle.model_machine.specs.LocalTriples.{Ends}
-use Rattle.model_machine.specs.Fitting.{FitsPiece, FitPieces, Fine}
+use Rattle.model_machine.specs.ClassicalTriples.{Ends}
+use Rattle.model_machine.specs.Fitting.{FitsPiece, FitPieces, Fine, FitsConfig}
 use Rattle.model_commands.specs.Sorting.{BodiesSorted}
 use Rattle.model_terms.proofs.StoreLaws.{unset-proper, set-proper, default-fits, value-fits}
 use Rattle.model_commands.proofs.StoreLaws.{not-true}
@@ -35,13 +35,13 @@ less-WellFormed a b x y w = record {
 }
 
 -- a number that isn't 0
-pub not-zero : (l : ℕ) → tally (ℕ_discrete 0 l) ≡ 0 → 0 < l
-not-zero l e = go l (ℕ_discrete 0 l) e
+pub not-zero : (l : ℕ) → one_if (ℕ_discrete 0 l) ≡ 0 → 0 < l
+not-zero l e = by_test l (ℕ_discrete 0 l) e
   where
-    go : (l : ℕ) (d : Dec (0 ≡ l)) → tally d ≡ 0 → 0 < l
-    go zero (yes q) e = absurd (omega arith)
-    go zero (no n) e = absurd (n refl)
-    go (suc l) d e = omega arith
+    by_test : (l : ℕ) (d : Dec (0 ≡ l)) → one_if d ≡ 0 → 0 < l
+    by_test zero (yes q) e = absurd (omega arith)
+    by_test zero (no n) e = absurd (n refl)
+    by_test (suc l) d e = omega arith
 
 -- a node that is found
 pub record FoundNode (v : Value) (g : Trees) (s : List ℕ) (i : ℕ) (k : Trees) (l : ℕ)
@@ -80,7 +80,7 @@ appended-shaped i j t g e w = record {
       less-WellFormed (adding i t (without j g)) g (λ m. node-moved-le m i j t g e once)
       (λ m. list-moved-le m i j t g e once) w.well_formed;
   width_fits = tt;
-  holed = omega (arith, holes-moved-le i j t g e once, w.holed);
+  holes_fit = omega (arith, holes-moved-le i j t g e once, w.holes_fit);
 }
   where
     once : node_uses i (without j g) ≤ 1
@@ -104,7 +104,7 @@ removed-shaped j t g e w = record {
         ap (list_uses m) e,
       )) w.well_formed;
   width_fits = tt;
-  holed = omega (arith, holes-beside (without j g) t, holes-taken-out j g, ap holes e, w.holed);
+  holes_fit = omega (arith, holes-beside (without j g) t, holes-taken-out j g, ap holes e, w.holes_fit);
 }
 
 -- the test says no at 0 alone
@@ -118,19 +118,19 @@ is-positive zero e = absurd (cc)
 is-positive (suc n) e = omega arith
 
 created-once : (f : ℕ → Trees → ℕ) (i : ℕ) (g : Trees) → f i g ≡ 0 → ((n : ℕ) → f n g ≤ 1)
-    → (n : ℕ) → f n g + tally (ℕ_discrete n i) ≤ 1
-created-once f i g z o n = go (ℕ_discrete n i)
+    → (n : ℕ) → f n g + one_if (ℕ_discrete n i) ≤ 1
+created-once f i g z o n = by_test (ℕ_discrete n i)
   where
-    go : (d : Dec (n ≡ i)) → f n g + tally d ≤ 1
-    go (yes e) = omega (arith, ap (λ m. f m g) e)
-    go (no m) = omega (arith, o n)
+    by_test : (d : Dec (n ≡ i)) → f n g + one_if d ≤ 1
+    by_test (yes e) = omega (arith, ap (λ m. f m g) e)
+    by_test (no m) = omega (arith, o n)
 
-tally-not : (i : ℕ) → 0 < i → tally (ℕ_discrete 0 i) ≡ 0
-tally-not i h = go (ℕ_discrete 0 i)
+unused_zero : (i : ℕ) → 0 < i → one_if (ℕ_discrete 0 i) ≡ 0
+unused_zero i h = by_test (ℕ_discrete 0 i)
   where
-    go : (d : Dec (0 ≡ i)) → tally d ≡ 0
-    go (yes e) = absurd (omega arith)
-    go (no m) = refl
+    by_test : (d : Dec (0 ≡ i)) → one_if d ≡ 0
+    by_test (yes e) = absurd (omega arith)
+    by_test (no m) = refl
 
 -- after createNode the grove is well formed
 pub created-shaped : (p : Pick) (s : List ℕ) (g : Trees) → is_free p g ≡ true
@@ -166,18 +166,18 @@ created-shaped p s g e w =
               arith,
               node_uses-beside 0 g (node s p.node none p.list none),
               w.well_formed.no_node_zero,
-              tally-not p.node pn,
+              unused_zero p.node pn,
             );
         no_list_zero =
             omega (
               arith,
               list_uses-beside 0 g (node s p.node none p.list none),
               w.well_formed.no_list_zero,
-              tally-not p.list pl,
+              unused_zero p.list pl,
             );
       };
       width_fits = tt;
-      holed = omega (arith, holes-beside g (node s p.node none p.list none), w.holed);
+      holes_fit = omega (arith, holes-beside g (node s p.node none p.list none), w.holes_fit);
     }
 
 nodes-below : (m : ℕ) (s : List ℕ) (i : ℕ) (k : Trees) (l : ℕ) (r : Trees)
@@ -275,14 +275,14 @@ module _ (th : Procedures) where
   appending-fine : (v v' : Value) (a b : Trees) (st : Store) (g : Trees) → node_at v g ≡ a
       → node_at v' g ≡ b → Fine st g → FineMove (appending a b st g)
   appending-fine v v' (node s i k l r) (node s' j k' l' r') st g e e' fine =
-      go (positive (node_uses i (node s' j k' l' none)))
+      by_test (positive (node_uses i (node s' j k' l' none)))
     where
-      go : (c : Bool)
+      by_test : (c : Bool)
           → FineMove
-          (cond c (faults Rattle.model_machine.specs.Machine.cycle)
+          (cond c (faults cycle)
           (becomes [] st (adding i (node s' j k' l' none) (without j g))))
-      go true = tt
-      go false = (
+      by_test true = tt
+      by_test false = (
         tt,
         record {
           proper = fine.proper;
@@ -297,13 +297,13 @@ module _ (th : Procedures) where
 
   removing-fine : (v v' : Value) (a b : Trees) (st : Store) (g : Trees) → node_at v g ≡ a
       → node_at v' g ≡ b → Fine st g → FineMove (removing a b st g)
-  removing-fine v v' (node s i k l r) (node s' j k' l' r') st g e e' fine = go (has_root j k)
+  removing-fine v v' (node s i k l r) (node s' j k' l' r') st g e e' fine = by_test (has_root j k)
     where
-      go : (c : Bool)
+      by_test : (c : Bool)
           → FineMove (cond c (becomes [] st (beside (without j g) (node s' j k' l' none)))
-          (faults Rattle.model_machine.specs.Machine.not_child))
-      go false = tt
-      go true = (
+          (faults not_child))
+      by_test false = tt
+      by_test true = (
         tt,
         record {
           proper = fine.proper;
@@ -318,14 +318,14 @@ module _ (th : Procedures) where
 
   creating-fine : (p : Pick) (x : ProgVar) (s : List ℕ) (st : Store) (g : Trees)
       → sort_of x ≡ node_sort → Fine st g → FineMove (creating p x s st g)
-  creating-fine p x s st g so fine = go (is_free p g) refl
+  creating-fine p x s st g so fine = by_test (is_free p g) refl
     where
-      go : (c : Bool) → is_free p g ≡ c
+      by_test : (c : Bool) → is_free p g ≡ c
           → FineMove
           (cond c (becomes [] (set x (node_number p.node) st)
           (beside g (node s p.node none p.list none))) bad_pick)
-      go false e = tt
-      go true e = (
+      by_test false e = tt
+      by_test true e = (
         tt,
         record {
           proper =
@@ -378,16 +378,16 @@ module _ (th : Procedures) where
     move-fine p (run (block b)) st g s fine = (pieces-fine b s, fine)
     move-fine p (run (assign x e)) st g s fine =
         (tt, set-fine x (value_of st e) st g (value-fits (sort_of x) e st s fine.proper) fine)
-    move-fine p (run (if_else c a b)) st g s fine = ((go (truth_of st c), tt), fine)
+    move-fine p (run (if_else c a b)) st g s fine = ((by_test (truth_of st c), tt), fine)
       where
-        go : (t : Bool) → BlockSorted th (cond t a b)
-        go true = s.1
-        go false = s.2
-    move-fine p (run (while_do c b)) st g s fine = (go (truth_of st c), fine)
+        by_test : (t : Bool) → BlockSorted th (cond t a b)
+        by_test true = s.1
+        by_test false = s.2
+    move-fine p (run (while_do c b)) st g s fine = (by_test (truth_of st c), fine)
       where
-        go : (t : Bool) → FitPieces th (cond t (run (block b) ∷ run (while_do c b) ∷ []) [])
-        go true = (s.1, (s, tt))
-        go false = tt
+        by_test : (t : Bool) → FitPieces th (cond t (run (block b) ∷ run (while_do c b) ∷ []) [])
+        by_test true = (s.1, (s, tt))
+        by_test false = tt
     move-fine p (run (local x b)) st g s fine = (
       (s, (fine.proper.fits x, tt)),
       set-fine x (default (sort_of x)) st g (default-fits (sort_of x)) fine,
@@ -410,7 +410,7 @@ module _ (th : Procedures) where
         (not-zero l (zero-of n i k l r q))) fine
       where
         zero-of : (n : List ℕ) (i : ℕ) (k : Trees) (l : ℕ) (r : Trees)
-            → node_at (value_of st e) g ≡ node n i k l r → tally (ℕ_discrete 0 l) ≡ 0
+            → node_at (value_of st e) g ≡ node n i k l r → one_if (ℕ_discrete 0 l) ≡ 0
         zero-of n i k l r q = let z : list_uses 0 (node n i k l r) ≡ 0 =
             subst (λ a. list_uses 0 a ≡ 0) q
             (node-no-zero (value_of st e) g fine.whole.well_formed).lists in omega arith
@@ -439,18 +439,51 @@ module _ (th : Procedures) where
         removing-fine (value_of st e) (value_of st f) (node_at (value_of st e) g)
         (node_at (value_of st f) g) st g refl refl fine
 
-    -- RUNS KEEP STORES PROPER AND GROVES WELL FORMED
-    pub runs-fine : (ps : List Pick) (k : List Piece) (st : Store) (g : Trees) → FitPieces th k
-        → Fine st g → Ends Unit Fine (runs th ps k st g)
-    runs-fine [] [] st g a fine = fine
-    runs-fine [] (x ∷ k) st g a fine = tt
-    runs-fine (p ∷ ps) [] st g a fine = fine
-    runs-fine (p ∷ ps) (x ∷ k) st g a fine =
-        go (move th p x st g) (move-fine p x st g a.0 fine) (λ k' st' g'. runs-fine ps k' st' g')
+    -- what a step makes fits
+    abbrev FineStep : StepOut → Type 0
+    FineStep (next c) = FitsConfig th c
+    FineStep otherwise = Unit
+
+    stepped-fine : (rest : List Piece) (m : Move) → FineMove m → FitPieces th rest
+        → FineStep (stepped rest m)
+    stepped-fine rest (becomes ys st g) f r =
+        record { pieces = all-fine ys rest f.0 r; fine = f.1 }
+    stepped-fine rest (faults k) f r = tt
+    stepped-fine rest bad_pick f r = tt
+
+    step-fine : (p : Pick) (c : Config) → FitsConfig th c → FineStep (step th c p)
+    step-fine p c f = by_pending c.pending f.pieces
       where
-        go : (m : Move) → FineMove m
-            → ((k' : List Piece) (st' : Store) (g' : Trees) → FitPieces th k' → Fine st' g'
-            → Ends Unit Fine (runs th ps k' st' g')) → Ends Unit Fine (going_on (runs th ps) k m)
-        go (becomes ys st' g') h rec = rec (ys ++ k) st' g' (all-fine ys k h.0 a.1) h.1
-        go (faults f) h rec = tt
-        go bad_pick h rec = tt
+        by_pending : (k : List Piece) → FitPieces th k
+            → FineStep (step th (configuration k c.store c.grove) p)
+        by_pending [] a = tt
+        by_pending (x ∷ k) a =
+            stepped-fine k (move th p x c.store c.grove)
+            (move-fine p x c.store c.grove a.0 f.fine) a.1
+
+    -- one step keeps what fits
+    pub step-fits : (p : Pick) (c d : Config) → FitsConfig th c → step th c p ≡ next d
+        → FitsConfig th d
+    step-fits p c d f e = subst FineStep e (step-fine p c f)
+
+    -- RUNS KEEP STORES PROPER AND GROVES WELL FORMED
+    pub runs-fine : (ps : List Pick) (c : Config) → FitsConfig th c → Ends Unit Fine (runs th ps c)
+    runs-fine [] c f = at_rest (is_done c)
+      where
+        at_rest : (b : Bool) → Ends Unit Fine (cond b (ended c.store c.grove) running)
+        at_rest true = f.fine
+        at_rest false = tt
+    runs-fine (p ∷ ps) c f = after (step th c p) (step-fine p c f) (λ d. runs-fine ps d)
+      where
+        after : (o : StepOut) → FineStep o
+            → ((d : Config) → FitsConfig th d → Ends Unit Fine (runs th ps d))
+            → Ends Unit Fine (after_step (runs th ps) c o)
+        after (next d) h rec = rec d h
+        after done h rec = f.fine
+        after (at_fault k) h rec = tt
+        after at_bad_pick h rec = tt
+
+    -- so where they end, both are
+    pub ends-fine : (ps : List Pick) (c : Config) (st : Store) (g : Trees) → FitsConfig th c
+        → runs th ps c ≡ ended st g → Fine st g
+    ends-fine ps c st g f e = subst (Ends Unit Fine) e (runs-fine ps c f)

@@ -3,7 +3,6 @@ pub mod Fine
 pub mod SameRuns
 pub mod Unmodified
 pub mod Blocks
-pub mod BySteps
 pub mod NextMoves
 pub mod Picks
 pub mod WorkedRuns

@@ -1,21 +1,22 @@
 -- The next pick is free, so no step of a run that takes next picks meets a bad one.
-use Rattle.std.proofs.Common.{◌≡◌, ℕ, zero, suc, List, [], ◌∷◌, ◌++◌, Bool, true, false, cond, refl, subst, Option, Some, None}
+use Rattle.std.proofs.Common.{◌≡◌, ℕ, zero, suc, List, [], ◌∷◌, Bool, true, false, cond, refl, subst, Option, Some, None}
 use Rattle.model_shapes.specs.Trees.{Trees, none, node, hole, beside, node_uses}
 use Rattle.model_shapes.specs.Values.{Value, node_number}
 use Rattle.model_terms.specs.Terms.{Term}
 use Rattle.model_terms.specs.Stores.{ProgVar, Store, set, value_of, text_in}
 use Rattle.model_commands.specs.Commands.{skip, block, assign, create_node, node_name, child_nodes, parent_node, list_item, append_child, remove_child, if_else, while_do, local, call}
 use Rattle.model_commands.specs.Theories.{Procedures, Procedure, procedure_named}
-use Rattle.model_machine.specs.Machine.{Piece, run, restore, return, Move, becomes, faults, bad_pick, move, reading, appending, removing, calling, no_node, no_list, cycle, not_child, FaultKind}
+use Rattle.model_machine.specs.Machine.{Piece, run, restore, return, Move, becomes, faults, bad_pick, move, reading, appending, removing, calling, no_node, no_list, cycle, not_child, FaultKind, Config, configuration, is_done, StepOut, next, done, at_fault, at_bad_pick, stepped, step}
 use Rattle.model_groves.specs.Groves.{positive, has_root, without, adding, node_at, list_at}
 use Rattle.model_groves.proofs.NextPicks.{next-free}
 use Rattle.model_groves.specs.Picks.{next_pick}
 use Rattle.model_limits.specs.Limits.{Limits, LimitKind}
-use Rattle.model_machine.specs.Outcomes.{outcome, on_move, within, limit_of, no_pick}
+use Rattle.model_machine.specs.Outcomes.{Outcome, spends, no_pick, ends_at, limit_ahead, pick_limit, within, on_step, outcome}
+use Rattle.model_terms.specs.TermLimits.{or_else}
 
 -- only a new node has a pick, and the next pick is free
 reading-picks : (a : Trees) (f : FaultKind) (v : List ℕ → ℕ → Trees → ℕ
-    → Rattle.model_shapes.specs.Values.Value) (x : ProgVar) (st : Store) (g : Trees)
+    → Value) (x : ProgVar) (st : Store) (g : Trees)
     → reading a f v x st g ≡ bad_pick → ⊥
 reading-picks none f v x st g e = cc
 reading-picks (hole r) f v x st g e = cc
@@ -85,21 +86,52 @@ next-moves th (run (append_child t u)) st g e =
 next-moves th (run (remove_child t u)) st g e =
     removing-picks (node_at (value_of st t) g) (node_at (value_of st u) g) st g e
 
--- and no outcome is that of a bad pick
-pub outcome-picks : (limits : Limits) (th : Procedures) (rs : List ProgVar) (fuel taken : ℕ)
-    (k : List Piece) (st : Store) (g : Trees) → outcome limits th rs fuel taken k st g ≡ no_pick → ⊥
-outcome-picks limits th rs zero taken [] st g e = cc
-outcome-picks limits th rs zero taken (x ∷ k) st g e = cc
-outcome-picks limits th rs (suc fuel) taken [] st g e = cc
-outcome-picks limits th rs (suc fuel) taken (x ∷ k) st g e =
-    go (limit_of limits x k st g) (move th (next_pick g) x st g) (next-moves th x st g)
-    (λ k' st' g'. outcome-picks limits th rs fuel (suc taken) k' st' g') e
+-- nor does a step
+pub next-steps : (th : Procedures) (c : Config) → step th c (next_pick c.grove) ≡ at_bad_pick → ⊥
+next-steps th c e = by_pending c.pending e
   where
-    go : (l : Option LimitKind) (m : Move) → (m ≡ bad_pick → ⊥)
-        → ((k' : List Piece) (st' : Store) (g' : Trees)
-        → outcome limits th rs fuel (suc taken) k' st' g' ≡ no_pick → ⊥)
-        → within l (on_move (outcome limits th rs fuel (suc taken)) taken x k m) ≡ no_pick → ⊥
-    go (Some l) m n rec e = cc
-    go None (becomes ys st' g') n rec e = rec (ys ++ k) st' g' e
-    go None (faults f) n rec e = cc
-    go None bad_pick n rec e = n refl
+    moved : (k : List Piece) (m : Move) → (m ≡ bad_pick → ⊥) → stepped k m ≡ at_bad_pick → ⊥
+    moved k (becomes ys st g) n q = cc
+    moved k (faults f) n q = cc
+    moved k bad_pick n q = n refl
+
+    by_pending : (k : List Piece)
+        → step th (configuration k c.store c.grove) (next_pick c.grove) ≡ at_bad_pick → ⊥
+    by_pending [] q = cc
+    by_pending (x ∷ k) q =
+        moved k (move th (next_pick c.grove) x c.store c.grove) (next-moves th x c.store c.grove) q
+
+-- and no outcome is that of a bad pick
+module _ (limits : Limits) (th : Procedures) (rs : List ProgVar) where
+  limited : (l : Option LimitKind) (o : Outcome) → (o ≡ no_pick → ⊥) → within l o ≡ no_pick → ⊥
+  limited (Some l) o n e = cc
+  limited None o n e = n e
+
+  either : (b : Bool) (o o' : Outcome) → (o ≡ no_pick → ⊥) → (o' ≡ no_pick → ⊥)
+      → cond b o o' ≡ no_pick → ⊥
+  either true o o' n m e = n e
+  either false o o' n m e = m e
+
+  pub outcome-picks : (fuel taken : ℕ) (c : Config)
+      → outcome limits th rs fuel taken c ≡ no_pick → ⊥
+  outcome-picks zero taken c =
+      either (is_done c) (ends_at rs taken c) (spends taken c) (λ e. cc) (λ e. cc)
+  outcome-picks (suc fuel) taken c =
+      either (is_done c) (ends_at rs taken c) (within limit (after (step th c (next_pick c.grove))))
+      (λ e. cc)
+      (limited limit (after (step th c (next_pick c.grove)))
+      (stays (step th c (next_pick c.grove)) (next-steps th c) (outcome-picks fuel (suc taken))))
+    where
+      limit : Option LimitKind
+      limit = or_else (limit_ahead limits c) (pick_limit limits c)
+
+      after : StepOut → Outcome
+      after = on_step (outcome limits th rs fuel (suc taken)) rs taken c
+
+      stays : (o : StepOut) → (o ≡ at_bad_pick → ⊥)
+          → ((d : Config) → outcome limits th rs fuel (suc taken) d ≡ no_pick → ⊥)
+          → after o ≡ no_pick → ⊥
+      stays (next d) n rec e = rec d e
+      stays done n rec e = cc
+      stays (at_fault f) n rec e = cc
+      stays at_bad_pick n rec e = n refl

@@ -11,12 +11,13 @@ use Rattle.model_terms.specs.Stores.{ProgVar, Store, set, value_of, text_in}
 use Rattle.model_commands.specs.Commands.{skip, block, assign, create_node, node_name, child_nodes, parent_node, list_item, append_child, remove_child, if_else, while_do, local, call}
 use Rattle.model_commands.specs.Theories.{Procedure, Procedures, procedure_named}
 use Rattle.model_groves.specs.Groves.{nodes_where, has_root, numbered, listed, parental, node_at, list_at, first_number, item_of, without, adding, positive}
-use Rattle.model_machine.specs.Machine.{FaultKind, no_node, no_list, cycle, not_child, Piece, run, restore, return, Move, becomes, faults, bad_pick, reading, appending, removing, creating, calling, move, going_on, runs}
+use Rattle.model_machine.specs.Machine.{FaultKind, no_node, no_list, cycle, not_child, Piece, run, restore, return, Move, becomes, faults, bad_pick, reading, appending, removing, creating, calling, move, Config, configuration, runs}
 use Rattle.model_groves.specs.Picks.{Pick, is_free}
 use Rattle.model_machine.specs.SameMoves.{SameMove, SameOutcome}
 use Rattle.model_groves.proofs.Groves.{those-beside, without-beside, adding-beside, same-after, width-numbered, width-listed, width-parental}
 use Rattle.model_machine.proofs.Fine.{FineMove, move-fine, all-fine}
-use Rattle.model_machine.specs.Fitting.{Fine, FitPieces}
+use Rattle.model_machine.specs.Fitting.{Fine, FitPieces, FitsConfig}
+use Rattle.model_machine.proofs.Runs.{moved_on}
 use Rattle.model_commands.specs.Sorting.{BodiesSorted}
 
 module _ (g g' : Trees) (same : SameAt grove g g') (w : WellFormed g) where
@@ -71,38 +72,38 @@ module _ (g g' : Trees) (same : SameAt grove g g') (w : WellFormed g) where
   same-appending (node s i k l r) none st = refl
   same-appending (node s i k l r) (hole r') st = refl
   same-appending (node s i k l r) (node s' j k' l' r') st =
-      go (positive (node_uses i (node s' j k' l' none)))
+      by_test (positive (node_uses i (node s' j k' l' none)))
     where
       moved : SameAt grove (adding i (node s' j k' l' none) (without j g))
           (adding i (node s' j k' l' none) (without j g'))
       moved = same-after (adding i (node s' j k' l' none)) (adding-beside i (node s' j k' l' none))
           (without j g) (without j g') (same-after (without j) (without-beside j) g g' same)
 
-      go : (c : Bool)
+      by_test : (c : Bool)
           → SameMove
           (cond c (faults cycle) (becomes [] st (adding i (node s' j k' l' none) (without j g))))
           (cond c (faults cycle) (becomes [] st (adding i (node s' j k' l' none) (without j g'))))
-      go true = refl
-      go false = (refl, refl, moved)
+      by_test true = refl
+      by_test false = (refl, refl, moved)
 
   same-removing : (a b : Trees) (st : Store) → SameMove (removing a b st g) (removing a b st g')
   same-removing none b st = refl
   same-removing (hole r) b st = refl
   same-removing (node s i k l r) none st = refl
   same-removing (node s i k l r) (hole r') st = refl
-  same-removing (node s i k l r) (node s' j k' l' r') st = go (has_root j k)
+  same-removing (node s i k l r) (node s' j k' l' r') st = by_test (has_root j k)
     where
       moved : SameAt grove (beside (without j g) (node s' j k' l' none))
           (beside (without j g') (node s' j k' l' none))
       moved = SameAt-beside grove (without j g) (node s' j k' l' none) (without j g')
           (node s' j k' l' none) (same-after (without j) (without-beside j) g g' same) (λ t. refl)
 
-      go : (c : Bool)
+      by_test : (c : Bool)
           → SameMove (cond c (becomes [] st (beside (without j g) (node s' j k' l' none)))
           (faults not_child))
           (cond c (becomes [] st (beside (without j g') (node s' j k' l' none))) (faults not_child))
-      go true = (refl, refl, moved)
-      go false = refl
+      by_test true = (refl, refl, moved)
+      by_test false = refl
 
   same-creating : (p : Pick) (x : ProgVar) (s : List ℕ) (st : Store)
       → SameMove (creating p x s st g) (creating p x s st g')
@@ -110,21 +111,21 @@ module _ (g g' : Trees) (same : SameAt grove g g') (w : WellFormed g) where
       subst (λ c.
       SameMove (creating p x s st g)
       (cond c (becomes [] (set x (node_number p.node) st)
-      (beside g' (node s p.node none p.list none))) bad_pick)) (same-free p) (go (is_free p g))
+      (beside g' (node s p.node none p.list none))) bad_pick)) (same-free p) (by_test (is_free p g))
     where
-      go : (c : Bool)
+      by_test : (c : Bool)
           → SameMove
           (cond c (becomes [] (set x (node_number p.node) st)
           (beside g (node s p.node none p.list none))) bad_pick)
           (cond c (becomes [] (set x (node_number p.node) st)
           (beside g' (node s p.node none p.list none))) bad_pick)
-      go true = (
+      by_test true = (
         refl,
         refl,
         SameAt-beside grove g (node s p.node none p.list none) g'
             (node s p.node none p.list none) same (λ t. refl),
       )
-      go false = tt
+      by_test false = tt
 
   same-calling : (o : Option Procedure) (xs : List ProgVar) (es : List Term) (st : Store)
       → SameMove (calling o xs es st g) (calling o xs es st g')
@@ -190,28 +191,31 @@ module _ (g g' : Trees) (same : SameAt grove g g') (w : WellFormed g) where
 module _ (th : Procedures) (bodies : BodiesSorted th) where
   -- THE SAME OUTCOME
   pub same-runs : (ps : List Pick) (k : List Piece) (st : Store) (g g' : Trees) → FitPieces th k
-      → Fine st g → SameAt grove g g' → SameOutcome (runs th ps k st g) (runs th ps k st g')
+      → Fine st g → SameAt grove g g'
+      → SameOutcome (runs th ps (configuration k st g)) (runs th ps (configuration k st g'))
   same-runs [] [] st g g' a fine same = (refl, same)
   same-runs [] (x ∷ k) st g g' a fine same = tt
   same-runs (p ∷ ps) [] st g g' a fine same = (refl, same)
   same-runs (p ∷ ps) (x ∷ k) st g g' a fine same =
-      go (move th p x st g) (move th p x st g')
+      both_move (move th p x st g) (move th p x st g')
       (same-move g g' same fine.whole.well_formed th p x st)
       (move-fine th bodies p x st g a.0 fine) (λ k' st' h h'. same-runs ps k' st' h h')
     where
-      go : (m m' : Move) → SameMove m m' → FineMove th m
+      both_move : (m m' : Move) → SameMove m m' → FineMove th m
           → ((k' : List Piece) (st' : Store) (h h' : Trees) → FitPieces th k' → Fine st' h
-          → SameAt grove h h' → SameOutcome (runs th ps k' st' h) (runs th ps k' st' h'))
-          → SameOutcome (going_on (runs th ps) k m) (going_on (runs th ps) k m')
-      go (becomes ys st1 g1) (becomes ys' st2 g2) e f rec =
-          subst (λ z. SameOutcome (runs th ps (ys ++ k) st1 g1) (runs th ps (z ++ k) st2 g2)) e.0
-          (subst (λ z. SameOutcome (runs th ps (ys ++ k) st1 g1) (runs th ps (ys ++ k) z g2)) e.1
+          → SameAt grove h h'
+          → SameOutcome (runs th ps (configuration k' st' h))
+          (runs th ps (configuration k' st' h')))
+          → SameOutcome (moved_on th ps x k st g m) (moved_on th ps x k st g' m')
+      both_move (becomes ys st1 g1) (becomes ys' st2 g2) e f rec =
+          let first = runs th ps (configuration (ys ++ k) st1 g1) in
+          subst (λ z. SameOutcome first (runs th ps (configuration (z ++ k) st2 g2))) e.0
+          (subst (λ z. SameOutcome first (runs th ps (configuration (ys ++ k) z g2))) e.1
           (rec (ys ++ k) st1 g1 g2 (all-fine th ys k f.0 a.1) f.1 e.2))
-      go (faults x) (faults y) e f rec = e
-      go bad_pick bad_pick e f rec = tt
-      go (becomes ys st1 g1) (faults y) e f rec = absurd e
-      go (becomes ys st1 g1) bad_pick e f rec = absurd e
-      go (faults x) (becomes ys st1 g1) e f rec = absurd e
-      go (faults x) bad_pick e f rec = absurd e
-      go bad_pick (becomes ys st1 g1) e f rec = absurd e
-      go bad_pick (faults y) e f rec = absurd e
+      both_move (faults x) (faults y) e f rec = e
+      both_move bad_pick bad_pick e f rec = tt
+      both_move m m' e f rec = absurd e
+
+  pub same-config-runs : (ps : List Pick) (c : Config) (g : Trees) → FitsConfig th c
+      → SameAt grove c.grove g → SameOutcome (runs th ps c) (runs th ps (record c { grove = g }))
+  same-config-runs ps c g f same = same-runs ps c.pending c.store c.grove g f.pieces f.fine same

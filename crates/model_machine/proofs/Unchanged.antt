@@ -1,5 +1,5 @@
 -- A step that makes no change leaves the grove as it was.
-use Rattle.std.proofs.Common.{◌≡◌, ℕ, List, refl, subst, Option, Some, None}
+use Rattle.std.proofs.Common.{◌≡◌, ℕ, List, [], ◌∷◌, ◌++◌, refl, sym, ap, ◌∙◌, Option, Some, None}
 use Rattle.model_shapes.specs.Trees.{Trees, none, node, hole}
 use Rattle.model_shapes.specs.Values.{Value}
 use Rattle.model_terms.specs.Terms.{Term}
@@ -8,7 +8,7 @@ use Rattle.model_commands.specs.Commands.{skip, block, assign, create_node, node
 use Rattle.model_commands.specs.Theories.{Procedure, Procedures, procedure_named}
 use Rattle.model_groves.specs.Groves.{node_at, list_at}
 use Rattle.model_groves.specs.Picks.{Pick}
-use Rattle.model_machine.specs.Machine.{Piece, run, restore, return, Move, becomes, faults, bad_pick, move, reading, calling, FaultKind, no_node, no_list}
+use Rattle.model_machine.specs.Machine.{Piece, run, restore, return, Move, becomes, faults, bad_pick, move, reading, calling, FaultKind, no_node, no_list, Config, configuration, next, stepped, step}
 use Rattle.model_machine.specs.Changes.{change_of}
 
 -- where the move goes on, it is with this grove
@@ -29,31 +29,44 @@ calling-leaves : (o : Option Procedure) (xs : List ProgVar) (es : List Term) (st
 calling-leaves None xs es st g = refl
 calling-leaves (Some f) xs es st g = refl
 
-move-leaves : (th : Procedures) (p : Pick) (x : Piece) (st : Store) (g : Trees) (n : ℕ)
-    → change_of n p x st g ≡ None → Leaves g (move th p x st g)
-move-leaves th p (run skip) st g n e = refl
-move-leaves th p (run (block b)) st g n e = refl
-move-leaves th p (run (assign x t)) st g n e = refl
-move-leaves th p (run (if_else c a b)) st g n e = refl
-move-leaves th p (run (while_do c b)) st g n e = refl
-move-leaves th p (run (local x b)) st g n e = refl
-move-leaves th p (restore x v) st g n e = refl
-move-leaves th p (return st' rs xs) st g n e = refl
-move-leaves th p (run (call xs f es)) st g n e = calling-leaves (procedure_named f th) xs es st g
-move-leaves th p (run (node_name x t)) st g n e =
+move-leaves : (th : Procedures) (p : Pick) (x : Piece) (k : List Piece) (st : Store) (g : Trees)
+    (n : ℕ) → change_of n p (configuration (x ∷ k) st g) ≡ None → Leaves g (move th p x st g)
+move-leaves th p (run skip) k st g n e = refl
+move-leaves th p (run (block b)) k st g n e = refl
+move-leaves th p (run (assign x t)) k st g n e = refl
+move-leaves th p (run (if_else c a b)) k st g n e = refl
+move-leaves th p (run (while_do c b)) k st g n e = refl
+move-leaves th p (run (local x b)) k st g n e = refl
+move-leaves th p (restore x v) k st g n e = refl
+move-leaves th p (return st' rs xs) k st g n e = refl
+move-leaves th p (run (call xs f es)) k st g n e = calling-leaves (procedure_named f th) xs es st g
+move-leaves th p (run (node_name x t)) k st g n e =
     reading-leaves (node_at (value_of st t) g) no_node _ x st g
-move-leaves th p (run (child_nodes x t)) st g n e =
+move-leaves th p (run (child_nodes x t)) k st g n e =
     reading-leaves (node_at (value_of st t) g) no_node _ x st g
-move-leaves th p (run (parent_node x t)) st g n e =
+move-leaves th p (run (parent_node x t)) k st g n e =
     reading-leaves (node_at (value_of st t) g) no_node _ x st g
-move-leaves th p (run (list_item x t u)) st g n e =
+move-leaves th p (run (list_item x t u)) k st g n e =
     reading-leaves (list_at (value_of st t) g) no_list _ x st g
-move-leaves th p (run (create_node x t)) st g n e = absurd (cc)
-move-leaves th p (run (append_child t u)) st g n e = absurd (cc)
-move-leaves th p (run (remove_child t u)) st g n e = absurd (cc)
+move-leaves th p (run (create_node x t)) k st g n e = absurd (cc)
+move-leaves th p (run (append_child t u)) k st g n e = absurd (cc)
+move-leaves th p (run (remove_child t u)) k st g n e = absurd (cc)
 
 -- without a change, the grove stays
-pub unchanged : (th : Procedures) (p : Pick) (x : Piece) (st : Store) (g : Trees) (n : ℕ)
-    (ys : List Piece) (st' : Store) (g' : Trees) → move th p x st g ≡ becomes ys st' g'
-    → change_of n p x st g ≡ None → g' ≡ g
-unchanged th p x st g n ys st' g' e none' = subst (Leaves g) e (move-leaves th p x st g n none')
+pub unchanged : (th : Procedures) (p : Pick) (c d : Config) (n : ℕ) → step th c p ≡ next d
+    → change_of n p c ≡ None → d.grove ≡ c.grove
+unchanged th p c d n e none' = by_pending c.pending none' e
+  where
+    stays : (k : List Piece) (m : Move) → Leaves c.grove m → stepped k m ≡ next d
+        → d.grove ≡ c.grove
+    stays k (becomes ys st g) h q =
+        let same : configuration (ys ++ k) st g ≡ d = cc in
+        sym (ap (λ (z : Config). z.grove) same) ∙ h
+    stays k (faults f) h q = absurd cc
+    stays k bad_pick h q = absurd cc
+
+    by_pending : (k : List Piece) → change_of n p (configuration k c.store c.grove) ≡ None
+        → step th (configuration k c.store c.grove) p ≡ next d → d.grove ≡ c.grove
+    by_pending [] h q = absurd cc
+    by_pending (x ∷ k) h q =
+        stays k (move th p x c.store c.grove) (move-leaves th p x k c.store c.grove n h) q

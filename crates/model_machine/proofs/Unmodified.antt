@@ -1,5 +1,5 @@
 -- Runs keep the values of the variables that a command doesn't change.
-use Rattle.std.proofs.Common.{◌≡◌, ◌≢◌, ◌⊎◌, ℕ, zero, suc, ◌≤◌, ◌+◌, List, [], ◌∷◌, ◌++◌, Bool, true, false, cond, sym, refl, ap, ◌∙◌, subst, arith, Option, Some, None, append-nil, inl, inr}
+use Rattle.std.proofs.Common.{◌≡◌, ◌≢◌, ℕ, zero, suc, List, [], ◌∷◌, ◌++◌, length, Bool, true, false, cond, sym, refl, ◌∙◌, subst, arith, Option, Some, None, append-nil, inl, inr}
 use Rattle.model_shapes.specs.Trees.{Trees, none, node, hole, beside, node_uses}
 use Rattle.model_shapes.specs.Values.{Value, node_number, list_number, str}
 use Rattle.model_terms.specs.Terms.{Term}
@@ -8,9 +8,9 @@ use Rattle.model_terms.specs.Conditions.{truth_of}
 use Rattle.model_commands.specs.Commands.{Command, skip, block, assign, create_node, node_name, child_nodes, parent_node, list_item, append_child, remove_child, if_else, while_do, local, call, Block, stop, ◌then◌, Modifies, BlockModifies, Among}
 use Rattle.model_commands.specs.Theories.{Procedure, Procedures, procedure_named}
 use Rattle.model_groves.specs.Groves.{nodes_where, has_root, parental, node_at, list_at, first_number, item_of, without, adding, positive}
-use Rattle.model_machine.specs.Machine.{FaultKind, no_node, no_list, cycle, not_child, Piece, run, restore, return, becomes, faults, bad_pick, pieces_of, reading, appending, removing, creating, entering, returning, calling, move, RunOutcome, running, ended, fault, picked_badly, runs}
+use Rattle.model_machine.specs.Machine.{FaultKind, no_node, no_list, cycle, not_child, Piece, run, restore, return, becomes, faults, bad_pick, pieces_of, reading, appending, removing, creating, entering, returning, calling, move, configuration, beginning, RunOutcome, running, ended, fault, picked_badly, runs}
 use Rattle.model_groves.specs.Picks.{Pick, is_free}
-use Rattle.model_machine.specs.LocalTriples.{Ends}
+use Rattle.model_machine.specs.ClassicalTriples.{Ends}
 use Rattle.model_terms.proofs.StoreLaws.{set-same, set-other, same_name-is, same_name-refl}
 use Rattle.model_machine.proofs.Runs.{Well, WellOn, at_end, at_step, at_zero, followed}
 
@@ -33,13 +33,13 @@ returning-other (r ∷ rs) (x ∷ xs) callee st y n =
 
 module _ (th : Procedures) where
   any-well : (n : ℕ) (k : List Piece) (st : Store) (g : Trees) → Well th Unit n Any k st g
-  any-well n k st g ps l = go (runs th ps k st g)
+  any-well n k st g ps l = of_any (runs th ps (configuration k st g))
     where
-      go : (o : RunOutcome) → Ends Unit Any o
-      go running = tt
-      go picked_badly = tt
-      go (fault f) = tt
-      go (ended st g) = tt
+      of_any : (o : RunOutcome) → Ends Unit Any o
+      of_any running = tt
+      of_any picked_badly = tt
+      of_any (fault f) = tt
+      of_any (ended st g) = tt
 
   module _ (x : ProgVar) (v : Value) where
     abbrev Keeps : ℕ → Type 0
@@ -72,13 +72,14 @@ module _ (th : Procedures) where
     keeps-appending n (node s i k l r) none st g h = tt
     keeps-appending n (node s i k l r) (hole r') st g h = tt
     keeps-appending n (node s i k l r) (node s' j k' l' r') st g h =
-        go (positive (node_uses i (node s' j k' l' none)))
+        by_test (positive (node_uses i (node s' j k' l' none)))
       where
-        go : (c : Bool)
+        by_test : (c : Bool)
             → WellOn th Unit n (Has x v) []
             (cond c (faults cycle) (becomes [] st (adding i (node s' j k' l' none) (without j g))))
-        go true = tt
-        go false = at_end th Unit n (Has x v) st (adding i (node s' j k' l' none) (without j g)) h
+        by_test true = tt
+        by_test false =
+            at_end th Unit n (Has x v) st (adding i (node s' j k' l' none) (without j g)) h
 
     keeps-removing : (n : ℕ) (a b : Trees) (st : Store) (g : Trees) → value_in st x ≡ v
         → WellOn th Unit n (Has x v) [] (removing a b st g)
@@ -86,25 +87,25 @@ module _ (th : Procedures) where
     keeps-removing n (hole r) b st g h = tt
     keeps-removing n (node s i k l r) none st g h = tt
     keeps-removing n (node s i k l r) (hole r') st g h = tt
-    keeps-removing n (node s i k l r) (node s' j k' l' r') st g h = go (has_root j k)
+    keeps-removing n (node s i k l r) (node s' j k' l' r') st g h = by_test (has_root j k)
       where
-        go : (c : Bool)
+        by_test : (c : Bool)
             → WellOn th Unit n (Has x v) []
             (cond c (becomes [] st (beside (without j g) (node s' j k' l' none)))
             (faults not_child))
-        go false = tt
-        go true = at_end th Unit n (Has x v) st (beside (without j g) (node s' j k' l' none)) h
+        by_test false = tt
+        by_test true = at_end th Unit n (Has x v) st (beside (without j g) (node s' j k' l' none)) h
 
     keeps-creating : (n : ℕ) (p : Pick) (y : ProgVar) (s : List ℕ) (st : Store) (g : Trees)
         → (x ≡ y → ⊥) → value_in st x ≡ v → WellOn th Unit n (Has x v) [] (creating p y s st g)
-    keeps-creating n p y s st g m h = go (is_free p g)
+    keeps-creating n p y s st g m h = by_test (is_free p g)
       where
-        go : (c : Bool)
+        by_test : (c : Bool)
             → WellOn th Unit n (Has x v) []
             (cond c (becomes [] (set y (node_number p.node) st)
             (beside g (node s p.node none p.list none))) bad_pick)
-        go false = tt
-        go true =
+        by_test false = tt
+        by_test true =
             keeps-set n y (node_number p.node) st (beside g (node s p.node none p.list none)) m h
 
     -- one more piece that sets the store
@@ -177,20 +178,20 @@ module _ (th : Procedures) where
         keeps-appending n (node_at (value_of st e) g) (node_at (value_of st f) g) st g h
     keeps-on n k (remove_child e f) m st g h p =
         keeps-removing n (node_at (value_of st e) g) (node_at (value_of st f) g) st g h
-    keeps-on n k (if_else c a b) m st g h p = go (truth_of st c)
+    keeps-on n k (if_else c a b) m st g h p = by_test (truth_of st c)
       where
-        go : (t : Bool) → Well th Unit n (Has x v) (run (block (cond t a b)) ∷ []) st g
-        go true = k (block a) (λ z. m (inl z)) st g h
-        go false = k (block b) (λ z. m (inr z)) st g h
-    keeps-on n k (while_do c b) m st g h p = go (truth_of st c)
+        by_test : (t : Bool) → Well th Unit n (Has x v) (run (block (cond t a b)) ∷ []) st g
+        by_test true = k (block a) (λ z. m (inl z)) st g h
+        by_test false = k (block b) (λ z. m (inr z)) st g h
+    keeps-on n k (while_do c b) m st g h p = by_test (truth_of st c)
       where
-        go : (t : Bool)
+        by_test : (t : Bool)
             → Well th Unit n (Has x v)
             (cond t (run (block b) ∷ run (while_do c b) ∷ []) [] ++ []) st g
-        go true =
+        by_test true =
             followed th Unit n (Has x v) (Has x v) (run (block b) ∷ []) (run (while_do c b) ∷ [])
             (λ st' g' h'. k (while_do c b) m st' g' h') st g (k (block b) m st g h)
-        go false = at_end th Unit n (Has x v) st g h
+        by_test false = at_end th Unit n (Has x v) st g h
     keeps-on n k (local y b) m st g h p = keeps-local n k y b m st g h (same_name x y) refl
     keeps-on n k (call xs f es) m st g h p = keeps-calling n (procedure_named f th) xs es st g m h
 
@@ -203,7 +204,7 @@ module _ (th : Procedures) where
   -- UNMODIFIED VARIABLES KEEP THEIR VALUES
   pub unmodified : (x : ProgVar) (c : Command) → (Modifies c x → ⊥)
       → (ps : List Pick) (st st' : Store) (g g' : Trees)
-      → runs th ps (run c ∷ []) st g ≡ ended st' g' → value_in st' x ≡ value_in st x
+      → runs th ps (beginning c st g) ≡ ended st' g' → value_in st' x ≡ value_in st x
   unmodified x c m ps st st' g g' e =
       subst (Ends Unit (Has x (value_in st x))) e
-      (keeps x (value_in st x) (Rattle.std.proofs.Common.length ps) c m st g refl ps (omega arith))
+      (keeps x (value_in st x) (length ps) c m st g refl ps (omega arith))

@@ -11,7 +11,7 @@ use Rattle.model_terms.specs.Stores.{ProgVar, named}
 use Rattle.model_terms.specs.Conditions.{cond_equal, cond_at_most, cond_not}
 use Rattle.model_commands.specs.Commands.{Command, block, assign, create_node, node_name, child_nodes, parent_node, list_item, append_child, remove_child, if_else, while_do, local, call, stop, ◌then◌}
 use Rattle.model_commands.specs.Theories.{Procedure, Procedures}
-use Rattle.model_machine.specs.Machine.{run, no_node, cycle, not_child, holding_values}
+use Rattle.model_machine.specs.Machine.{no_node, cycle, not_child, start}
 use Rattle.model_limits.specs.Limits.{Limits, standard_limits, identifier_limit, depth_limit, number_limit, nodes_limit}
 use Rattle.model_machine.specs.Outcomes.{Outcome, outcome, ends, spends, passes_limit, has_fault}
 use Rattle.model_machine.specs.Changes.{created, moved, removed, changes}
@@ -102,7 +102,8 @@ up = procedure (codes "up") (k ∷ []) (r ∷ []) (assign r (sum (of k) (number 
 abbrev grow : Procedure
 grow = procedure (codes "grow") (k ∷ []) (n ∷ [])
     (local r (local c (create_node n (literal (str (codes "r"))) then (assign r (number 1) then
-    (while_do (cond_not (cond_at_most (of k) (of r))) (create_node c (literal (str (codes "c"))) then
+    (while_do (cond_not (cond_at_most (of k) (of r)))
+    (create_node c (literal (str (codes "c"))) then
     (append_child (of n) (of c) then (assign r (sum (of r) (number 1)) then stop))) then stop)))
     then stop))
 
@@ -112,7 +113,7 @@ file = app ∷ rem ∷ kid ∷ add ∷ depth ∷ down ∷ up ∷ grow ∷ []
 -- a run with this fuel
 abbrev with_fuel : ℕ → Limits → Procedure → List Value → Trees → Outcome
 with_fuel fuel limits f values roots =
-    outcome limits file f.results fuel 0 (run f.body ∷ []) (holding_values f.params values) roots
+    outcome limits file f.results fuel 0 (start f values roots)
 
 abbrev result : Procedure → List Value → Trees → Outcome
 result = with_fuel 100 standard_limits
@@ -144,22 +145,22 @@ append_again = refl
 
 -- an ancestor isn't appended
 append_cycle : result app (node_number 2 ∷ node_number 1 ∷ []) wide
-    ≡ has_fault cycle 0 (run app.body)
+    ≡ has_fault cycle 0 app.body
 unfolding native.Mathlib.Decide.ℕ_discrete
 append_cycle = refl
 
 -- nor is a node appended to itself; but one that isn't there is missed first
 append_itself : result app (node_number 3 ∷ node_number 3 ∷ []) wide
-    ≡ has_fault cycle 0 (run app.body)
+    ≡ has_fault cycle 0 app.body
 unfolding native.Mathlib.Decide.ℕ_discrete
 append_itself = refl
 
 append_absent_itself : result app (node_number 9 ∷ node_number 9 ∷ []) wide
-    ≡ has_fault no_node 0 (run app.body)
+    ≡ has_fault no_node 0 app.body
 unfolding native.Mathlib.Decide.ℕ_discrete
 append_absent_itself = refl
 
-append_null : result app (node_number 1 ∷ null ∷ []) wide ≡ has_fault no_node 0 (run app.body)
+append_null : result app (node_number 1 ∷ null ∷ []) wide ≡ has_fault no_node 0 app.body
 unfolding native.Mathlib.Decide.ℕ_discrete
 append_null = refl
 
@@ -172,7 +173,7 @@ remove_makes_a_root = refl
 
 -- a grandchild is no child
 remove_grandchild : result rem (node_number 1 ∷ node_number 4 ∷ []) high
-    ≡ has_fault not_child 1 (run (remove_child (of p) (of n)))
+    ≡ has_fault not_child 1 (remove_child (of p) (of n))
 unfolding native.Mathlib.Decide.ℕ_discrete
 remove_grandchild = refl
 
@@ -256,26 +257,22 @@ grow_three : result grow (int (pos 3) ∷ []) none
 unfolding native.Mathlib.Decide.ℕ_discrete
 grow_three = refl
 
-grow_changes : changes file 12 0 (run grow.body ∷ [])
-    (holding_values grow.params (int (pos 3) ∷ [])) none
+grow_changes : changes file 12 0 (start grow (int (pos 3) ∷ []) none)
     ≡ created 5 1 1 ∷ created 9 2 2 ∷ moved 10 2 0 1 0 ∷ []
 unfolding native.Mathlib.Decide.ℕ_discrete
 grow_changes = refl
 
-remove_changes : changes file 100 0 (run rem.body ∷ [])
-    (holding_values rem.params (node_number 1 ∷ node_number 2 ∷ [])) wide
+remove_changes : changes file 100 0 (start rem (node_number 1 ∷ node_number 2 ∷ []) wide)
     ≡ removed 2 2 1 ∷ []
 unfolding native.Mathlib.Decide.ℕ_discrete
 remove_changes = refl
 
 -- a move that leaves the grove as it was is a change; one that faults is none
-again_changes : changes file 100 0 (run app.body ∷ [])
-    (holding_values app.params (node_number 1 ∷ node_number 3 ∷ [])) wide
+again_changes : changes file 100 0 (start app (node_number 1 ∷ node_number 3 ∷ []) wide)
     ≡ moved 1 3 1 1 0 ∷ []
 unfolding native.Mathlib.Decide.ℕ_discrete
 again_changes = refl
 
-cycle_changes : changes file 100 0 (run app.body ∷ [])
-    (holding_values app.params (node_number 2 ∷ node_number 1 ∷ [])) wide ≡ []
+cycle_changes : changes file 100 0 (start app (node_number 2 ∷ node_number 1 ∷ []) wide) ≡ []
 unfolding native.Mathlib.Decide.ℕ_discrete
 cycle_changes = refl

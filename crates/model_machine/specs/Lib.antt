@@ -3,7 +3,7 @@ pub mod Outcomes
 pub mod Changes
 pub mod Fitting
 pub mod LocalTriples
+pub mod ClassicalTriples
 pub mod Behind
-pub mod ByStep
 pub mod Blocks
 pub mod SameMoves

@@ -1,6 +1,6 @@
 -- The machine: what one step does with each pending piece, and the runs over lists of picks.
 -- The commands are those of PODS 2008 and DOM Level 1 Core.
-use Rattle.std.specs.Prelude.{ℕ, List, [], ◌∷◌, ◌++◌, cond, Option, Some, None}
+use Rattle.std.specs.Prelude.{ℕ, Bool, true, false, List, [], ◌∷◌, ◌++◌, cond, Option, Some, None}
 use Rattle.model_shapes.specs.Values.{Value, node_number, list_number, str}
 use Rattle.model_shapes.specs.Trees.{Trees, none, node, hole, beside, node_uses}
 use Rattle.model_terms.specs.Terms.{Term}
@@ -83,35 +83,37 @@ calling None xs es store grove = becomes [] store grove
 
 -- THE TABLE: one case for each piece
 abbrev pub move : Procedures → Pick → Piece → Store → Trees → Move
-move ps pick (run skip) store grove = becomes [] store grove
-move ps pick (run (block b)) store grove = becomes (pieces_of b) store grove
-move ps pick (run (assign x e)) store grove = becomes [] (set x (value_of store e) store) grove
-move ps pick (run (if_else c a b)) store grove =
+move procedures pick (run skip) store grove = becomes [] store grove
+move procedures pick (run (block b)) store grove = becomes (pieces_of b) store grove
+move procedures pick (run (assign x e)) store grove =
+    becomes [] (set x (value_of store e) store) grove
+move procedures pick (run (if_else c a b)) store grove =
     becomes (run (block (cond (truth_of store c) a b)) ∷ []) store grove
-move ps pick (run (while_do c b)) store grove =
+move procedures pick (run (while_do c b)) store grove =
     becomes (cond (truth_of store c) (run (block b) ∷ run (while_do c b) ∷ []) []) store grove
-move ps pick (run (local x b)) store grove =
+move procedures pick (run (local x b)) store grove =
     becomes (run (block b) ∷ restore x (value_in store x) ∷ [])
     (set x (default (sort_of x)) store) grove
-move ps pick (restore x v) store grove = becomes [] (set x v store) grove
-move ps pick (run (call xs name es)) store grove =
-    calling (procedure_named name ps) xs es store grove
-move ps pick (return caller rs xs) store grove = becomes [] (returning rs xs store caller) grove
-move ps pick (run (create_node x e)) store grove =
+move procedures pick (restore x v) store grove = becomes [] (set x v store) grove
+move procedures pick (run (call xs name es)) store grove =
+    calling (procedure_named name procedures) xs es store grove
+move procedures pick (return caller rs xs) store grove =
+    becomes [] (returning rs xs store caller) grove
+move procedures pick (run (create_node x e)) store grove =
     creating pick x (text_in (value_of store e)) store grove
-move ps pick (run (node_name x e)) store grove =
+move procedures pick (run (node_name x e)) store grove =
     reading (node_at (value_of store e) grove) no_node (λ s i k l. str s) x store grove
-move ps pick (run (child_nodes x e)) store grove =
+move procedures pick (run (child_nodes x e)) store grove =
     reading (node_at (value_of store e) grove) no_node (λ s i k l. list_number l) x store grove
-move ps pick (run (parent_node x e)) store grove =
+move procedures pick (run (parent_node x e)) store grove =
     reading (node_at (value_of store e) grove) no_node
     (λ s i k l. first_number (nodes_where (parental i) grove)) x store grove
-move ps pick (run (list_item x e f)) store grove =
+move procedures pick (run (list_item x e f)) store grove =
     reading (list_at (value_of store e) grove) no_list
     (λ s i k l. item_of (value_of store f) k) x store grove
-move ps pick (run (append_child e f)) store grove =
+move procedures pick (run (append_child e f)) store grove =
     appending (node_at (value_of store e) grove) (node_at (value_of store f) grove) store grove
-move ps pick (run (remove_child e f)) store grove =
+move procedures pick (run (remove_child e f)) store grove =
     removing (node_at (value_of store e) grove) (node_at (value_of store f) grove) store grove
 
 -- what is pending, the store and the grove
@@ -120,18 +122,22 @@ pub record Config : Type 0 where
   pub store : Store
   pub grove : Trees
 
--- A run begins with the body as the only piece, and the parameters with their values as the store.
+abbrev pub configuration : List Piece → Store → Trees → Config
+configuration pending store grove =
+    record { pending = pending; store = store; grove = grove }
+
+-- A run begins with a command as the only piece: that of a procedure with its body, and with the
+-- store in which the parameters have their values.
+abbrev pub beginning : Command → Store → Trees → Config
+beginning command store grove = configuration (run command ∷ []) store grove
+
 abbrev pub holding_values : List ProgVar → List Value → Store
 holding_values (x ∷ xs) (v ∷ vs) = set x v (holding_values xs vs)
 holding_values xs vs = unset
 
 -- the configuration with which a procedure begins
 abbrev pub start : {F : Type 0} → ProcedureOf F → List Value → Trees → Config
-start f values grove = record {
-  pending = run f.body ∷ [];
-  store = holding_values f.params values;
-  grove = grove;
-}
+start f values grove = beginning f.body (holding_values f.params values) grove
 
 -- the answer of one step
 pub data StepOut : Type 0 where
@@ -142,19 +148,18 @@ pub data StepOut : Type 0 where
 
 -- the rest of what is pending stays behind
 abbrev pub stepped : List Piece → Move → StepOut
-stepped rest (becomes pieces store grove) =
-    next (record { pending = pieces ++ rest; store = store; grove = grove })
+stepped rest (becomes pieces store grove) = next (configuration (pieces ++ rest) store grove)
 stepped rest (faults fault) = at_fault fault
 stepped rest bad_pick = at_bad_pick
 
--- with nothing pending it is done
-abbrev pub step_on : Procedures → Pick → List Piece → Store → Trees → StepOut
-step_on ps pick [] store grove = done
-step_on ps pick (piece ∷ rest) store grove = stepped rest (move ps pick piece store grove)
-
--- one step: it takes the first piece
+-- one step: it takes the first piece; with nothing pending it is done
 abbrev pub step : Procedures → Config → Pick → StepOut
-step ps config pick = step_on ps pick config.pending config.store config.grove
+step procedures config pick = on_pending config.pending
+  where
+    on_pending : List Piece → StepOut
+    on_pending [] = done
+    on_pending (piece ∷ rest) =
+        stepped rest (move procedures pick piece config.store config.grove)
 
 -- where a run stands after its picks
 pub data RunOutcome : Type 0 where
@@ -163,16 +168,24 @@ pub data RunOutcome : Type 0 where
   fault : FaultKind → RunOutcome
   picked_badly : RunOutcome
 
--- what a move makes of a run
-abbrev pub going_on : (List Piece → Store → Trees → RunOutcome) → List Piece → Move → RunOutcome
-going_on more rest (becomes pieces store grove) = more (pieces ++ rest) store grove
-going_on more rest (faults kind) = fault kind
-going_on more rest bad_pick = picked_badly
+-- nothing is pending
+abbrev pub is_done : Config → Bool
+is_done config = is_empty config.pending
+  where
+    is_empty : List Piece → Bool
+    is_empty [] = true
+    is_empty (piece ∷ rest) = false
+
+-- what a run comes to after a step: it goes on with the next configuration, or it is at its end, at
+-- a fault or at a bad pick
+abbrev pub after_step : (Config → RunOutcome) → Config → StepOut → RunOutcome
+after_step more config (next after) = more after
+after_step more config done = ended config.store config.grove
+after_step more config (at_fault kind) = fault kind
+after_step more config at_bad_pick = picked_badly
 
 -- one step for each pick; what has ended stays so
-abbrev pub runs : Procedures → List Pick → List Piece → Store → Trees → RunOutcome
-runs ps [] [] store grove = ended store grove
-runs ps [] (piece ∷ rest) store grove = running
-runs ps (pick ∷ picks) [] store grove = ended store grove
-runs ps (pick ∷ picks) (piece ∷ rest) store grove =
-    going_on (runs ps picks) rest (move ps pick piece store grove)
+abbrev pub runs : Procedures → List Pick → Config → RunOutcome
+runs procedures [] config = cond (is_done config) (ended config.store config.grove) running
+runs procedures (pick ∷ picks) config =
+    after_step (runs procedures picks) config (step procedures config pick)

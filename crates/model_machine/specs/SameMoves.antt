@@ -1,5 +1,5 @@
--- Moves and outcomes that are the same but for the order of the roots of their groves.
--- Only laws speak of them.
+-- Needn't be believed: moves and outcomes that are the same but for the order of the roots of their
+-- groves. Only laws speak of them.
 use Rattle.std.specs.Prelude.{◌≡◌}
 use Rattle.model_shapes.specs.Sorts.{grove}
 use Rattle.model_shapes.specs.Shapes.{SameAt}

@@ -15,19 +15,18 @@ ghost use Rattle.model_terms.specs.Stores.{ProgVar, Store, value_in, value_of};
 ghost use Rattle.model_commands.specs.Commands.{Command, Block, block, Modifies};
 ghost use Rattle.model_commands.specs.Theories.{Procedure, Procedures, triple};
 ghost use Rattle.model_commands.specs.Sorting.{Sorted};
-ghost use Rattle.model_groves.specs.Picks.{Pick, is_free};
-ghost use Rattle.model_machine.specs.Machine.{Piece, run, becomes, move, pieces_of, entering, holding_values, start, Config, next, step, ended, runs};
+ghost use Rattle.model_groves.specs.Picks.{Pick};
+ghost use Rattle.model_machine.specs.Machine.{Piece, move, pieces_of, entering, holding_values, start, Config, configuration, beginning, next, step, ended, runs};
 ghost use Rattle.model_limits.specs.Limits.{Limits};
-ghost use Rattle.model_groves.specs.Picks.{next_pick};
 ghost use Rattle.model_machine.specs.Outcomes.{outcome, no_pick};
 ghost use Rattle.model_machine.specs.Changes.{change_of};
-ghost use Rattle.model_machine.specs.Fitting.{FitPieces, ValuesFit, Fine, FitsConfig};
+ghost use Rattle.model_machine.specs.Fitting.{ValuesFit, Fine, FitsConfig};
 ghost use Rattle.model_commands.specs.Sorting.{BodiesSorted};
-ghost use Rattle.model_machine.specs.LocalTriples.{Ends, EndsWith, Stands, HoldsLocally, TripleFor};
+ghost use Rattle.model_machine.specs.LocalTriples.{EndsWith, HoldsLocally};
+ghost use Rattle.model_machine.specs.ClassicalTriples.{Stands, TripleFor};
 ghost use Rattle.model_machine.specs.Blocks.{Followed};
 ghost use Rattle.model_machine.specs.SameMoves.{SameMove, SameOutcome};
 ghost use Rattle.model_machine.specs.Behind.{Behind};
-ghost use Rattle.model_machine.specs.ByStep.{after_step};
 
 /// A run begins with a configuration that fits, and a call gives the parameters their values as the
 /// beginning of a run does.
@@ -44,32 +43,24 @@ pub fn a_run_begins_with_what_fits()
 pub fn runs_keep_what_fits()
     ensures step { (ps : Procedures) → BodiesSorted ps → (pick : Pick) (before after : Config)
         → FitsConfig ps before → step ps before pick ≡ next after → FitsConfig ps after }
-    ensures run { (ps : Procedures) → BodiesSorted ps → (picks : List Pick) (pending : List Piece)
-        (store : Store) (roots : Trees) → FitPieces ps pending → Fine store roots
-        → Ends Unit Fine (runs ps picks pending store roots) }
-{}
-
-/// A run takes one step for its first pick, and goes on from where that leads.
-pub fn runs_take_steps()
-    ensures { (ps : Procedures) (picks : List Pick) (pick : Pick) (config : Config)
-        → runs ps (pick ∷ picks) config.pending config.store config.grove
-        ≡ after_step (λ c. runs ps picks c.pending c.store c.grove) config.store config.grove
-        (step ps config pick) }
+    ensures run { (ps : Procedures) → BodiesSorted ps → (picks : List Pick) (config : Config)
+        (store : Store) (roots : Trees) → FitsConfig ps config
+        → runs ps picks config ≡ ended store roots → Fine store roots }
 {}
 
 /// A run of pieces followed by others is the run of the pieces, and then that of the others.
 pub fn one_after_the_other()
-    ensures { (ps : Procedures) (picks : List Pick) (first second : List Piece) (store : Store)
-        (grove : Trees) → Followed ps picks first second store grove }
+    ensures { (ps : Procedures) (picks : List Pick) (config : Config) (others : List Piece)
+        → Followed ps picks config others }
 {}
 
 /// The run of a block is, after the step into it, the runs of its commands one after the other.
 pub fn a_block_is_its_commands()
     ensures enter { (ps : Procedures) (pick : Pick) (picks : List Pick) (b : Block) (store : Store)
-        (roots : Trees) → runs ps (pick ∷ picks) (run (block b) ∷ []) store roots
-        ≡ runs ps picks (pieces_of b) store roots }
+        (roots : Trees) → runs ps (pick ∷ picks) (beginning (block b) store roots)
+        ≡ runs ps picks (configuration (pieces_of b) store roots) }
     ensures each { (ps : Procedures) (picks : List Pick) (c : Command) (b : Block) (store : Store)
-        (roots : Trees) → Followed ps picks (run c ∷ []) (pieces_of b) store roots }
+        (roots : Trees) → Followed ps picks (beginning c store roots) (pieces_of b) }
 {}
 
 /// On groves that are the same, one step does the same up to the order of roots, and so does a run.
@@ -77,40 +68,38 @@ pub fn same_groves_run_alike()
     ensures step { (a b : Trees) → SameAt grove a b → WellFormed a → (ps : Procedures) (pick : Pick)
         (piece : Piece) (store : Store)
         → SameMove (move ps pick piece store a) (move ps pick piece store b) }
-    ensures run { (ps : Procedures) → BodiesSorted ps → (picks : List Pick) (pending : List Piece)
-        (store : Store) (a b : Trees) → FitPieces ps pending → Fine store a → SameAt grove a b
-        → SameOutcome (runs ps picks pending store a) (runs ps picks pending store b) }
+    ensures run { (ps : Procedures) → BodiesSorted ps → (picks : List Pick) (config : Config)
+        (roots : Trees) → FitsConfig ps config → SameAt grove config.grove roots
+        → SameOutcome (runs ps picks config) (runs ps picks (record config { grove = roots })) }
 {}
 
 /// Where a command's run ends, the variables that it doesn't change have the values that they had.
 pub fn unmodified_variables_stay()
     ensures { (ps : Procedures) (x : ProgVar) (c : Command) → (Modifies c x → ⊥)
         → (picks : List Pick) (store after : Store) (roots roots_after : Trees)
-        → runs ps picks (run c ∷ []) store roots ≡ ended after roots_after
+        → runs ps picks (beginning c store roots) ≡ ended after roots_after
         → value_in after x ≡ value_in store x }
 {}
 
 /// A step that isn't among the changes leaves the grove as it was.
 pub fn steps_without_a_change_leave_the_grove()
-    ensures { (ps : Procedures) (pick : Pick) (piece : Piece) (store : Store) (roots : Trees)
-        (n : ℕ) (pieces : List Piece) (after : Store) (roots_after : Trees)
-        → move ps pick piece store roots ≡ becomes pieces after roots_after
-        → change_of n pick piece store roots ≡ None → roots_after ≡ roots }
+    ensures { (ps : Procedures) (pick : Pick) (before after : Config) (n : ℕ)
+        → step ps before pick ≡ next after → change_of n pick before ≡ None
+        → after.grove ≡ before.grove }
 {}
 
 /// The next pick of a grove is free, so no pick of a run within the fuel is bad.
 pub fn no_outcome_is_a_bad_pick()
     ensures { (limits : Limits) (ps : Procedures) (results : List ProgVar) (fuel taken : ℕ)
-        (pending : List Piece) (store : Store) (roots : Trees)
-        → outcome limits ps results fuel taken pending store roots ≡ no_pick → ⊥ }
+        (config : Config) → outcome limits ps results fuel taken config ≡ no_pick → ⊥ }
 {}
 
-/// Behind each outcome within the fuel there is a run of as many steps.
+/// Behind each outcome within the fuel there is a run of as many steps; behind a limit that would be
+/// passed, one that is still running.
 pub fn outcomes_are_runs()
     ensures { (limits : Limits) (ps : Procedures) (results : List ProgVar) (fuel taken : ℕ)
-        (pending : List Piece) (store : Store) (roots : Trees)
-        → Behind ps results taken pending store roots
-        (outcome limits ps results fuel taken pending store roots) }
+        (config : Config)
+        → Behind ps results taken config (outcome limits ps results fuel taken config) }
 {}
 
 /// Where a run ends in a well-formed grove with some data in the context, read classically, it ends

@@ -2,68 +2,42 @@
 -- round data that meets the formula, by the number of steps.
 use Rattle.std.proofs.Common.{ℕ, ◌≤◌, [], ◌∷◌, refl, subst}
 use mathlib.Core.HLevel.{Stable}
-use Rattle.model_shapes.specs.Sorts.{Sort, value, shape, context, DataSort, grove, ValueSort, node_sort, list_sort, int_sort, str_sort, bool_sort}
-use Rattle.model_shapes.specs.Values.{Value, null, nolist, node_number, list_number, int, str, boolean, FitsValue}
+use Rattle.model_shapes.specs.Sorts.{shape, context, DataSort, grove}
 use Rattle.model_shapes.specs.Trees.{Trees, fill}
 use Rattle.model_shapes.specs.Shapes.{SameAt, Shaped}
-use Rattle.model_shapes.specs.Things.{Thing, val, trees, Fits}
 use Rattle.model_shapes.proofs.Shapes.{SameAt-sym, SameAt-trans, SameAt-eq, same-Shaped}
-use Rattle.model_terms.specs.Variables.{prog, logic}
 use Rattle.model_formulas.specs.Formulas.{Formula}
-use Rattle.model_formulas.specs.Satisfaction.{Environment, Meets, Proper, joint}
-use Rattle.model_formulas.proofs.Stable.{stable-not, stable-Shaped, stable-≤}
+use Rattle.model_formulas.specs.Satisfaction.{Environment, Meets, Proper, with_store}
+use Rattle.model_formulas.proofs.Stable.{stable-not, stable-Shaped, stable-Proper}
 use Rattle.model_terms.specs.Stores.{Store, lookup}
 use Rattle.model_commands.specs.Commands.{Command}
 use Rattle.model_commands.specs.Theories.{Procedures}
 use Rattle.model_commands.specs.Sorting.{Sorted}
 use Rattle.model_commands.specs.Sorting.{BodiesSorted}
-use Rattle.model_machine.specs.Fitting.{Fine}
-use Rattle.model_machine.specs.Machine.{run, RunOutcome, running, ended, fault, picked_badly, runs}
+use Rattle.model_machine.specs.Fitting.{Fine, FitsConfig}
+use Rattle.model_machine.specs.Machine.{run, beginning, RunOutcome, running, ended, fault, picked_badly, runs}
 use Rattle.model_machine.specs.SameMoves.{SameOutcome}
-use Rattle.model_machine.specs.LocalTriples.{Ends, Stands, TripleFor}
+use Rattle.model_machine.specs.ClassicalTriples.{Ends, Stands, TripleFor}
 use Rattle.model_commands.proofs.StoreLaws.{proper-store, other-store}
 use Rattle.model_machine.proofs.Runs.{Well, Ends-map}
 use Rattle.model_machine.proofs.Fine.{runs-fine}
-use Rattle.model_machine.proofs.SameRuns.{same-runs}
+use Rattle.model_machine.proofs.SameRuns.{same-config-runs}
 
 -- at most so many steps
 abbrev pub UpTo : ℕ → ℕ → Type 0
 UpTo n m = m ≤ n
 
 -- at a store and a grove: some data that meets the formula stands in the context
-pub record At (d : DataSort) (around : Trees) (p : Formula) (e : Environment) (st : Store) (g : Trees) : Type 0 where
-  pub proper : Proper (joint (lookup st) e)
+pub record At (d : DataSort) (around : Trees) (p : Formula) (e : Environment) (st : Store)
+    (g : Trees) : Type 0 where
+  pub proper : Proper (with_store (lookup st) e)
   pub whole : Shaped (shape grove) g
   pub stands : Stands d around p e st g
-
-stable-FitsValue : (s : ValueSort) (v : Value) → Stable (FitsValue s v)
-stable-FitsValue node_sort null = λ h. tt
-stable-FitsValue node_sort (node_number n) = stable-≤
-stable-FitsValue list_sort nolist = λ h. tt
-stable-FitsValue list_sort (list_number n) = stable-≤
-stable-FitsValue int_sort (int z) = λ h. tt
-stable-FitsValue str_sort (str s) = λ h. tt
-stable-FitsValue bool_sort (boolean b) = λ h. tt
-stable-FitsValue s v = λ h. h (λ b. b)
-
-stable-Fits : (s : Sort) (x : Thing) → Stable (Fits s x)
-stable-Fits (value s) (val v) = stable-FitsValue s v
-stable-Fits (value s) (trees r) = λ h. h (λ b. b)
-stable-Fits (shape k) (val v) = λ h. h (λ b. b)
-stable-Fits (shape k) (trees r) = stable-Shaped
-stable-Fits (context h k) (val v) = λ m. m (λ b. b)
-stable-Fits (context h k) (trees r) = stable-Shaped
-
-stable-Proper : (e : Environment) → Stable (Proper e)
-stable-Proper e h = record {
-  programs = λ x s. stable-Fits (value s) (e (prog x s)) (λ n. h (λ p. n (p.programs x s)));
-  logics = λ x s i. stable-Fits s (e (logic x s)) (λ n. h (λ p. n (p.logics x s i)));
-}
 
 stable-At : (d : DataSort) (c : Trees) (p : Formula) (e : Environment) (st : Store) (g : Trees)
     → Stable (At d c p e st g)
 stable-At d c p e st g h = record {
-  proper = stable-Proper (joint (lookup st) e) (λ n. h (λ a. n a.proper));
+  proper = stable-Proper (with_store (lookup st) e) (λ n. h (λ a. n a.proper));
   whole = stable-Shaped (λ n. h (λ a. n a.whole));
   stands = stable-not (λ n. h (λ a. n a.stands));
 }
@@ -81,14 +55,18 @@ At-same : (d : DataSort) (c : Trees) (p : Formula) (e : Environment) (st : Store
 At-same d c p e st g g' same a = record {
   proper = a.proper;
   whole = same-Shaped (shape grove) g g' same a.whole;
-  stands = λ n. a.stands (λ x. n (x.0, x.1, (SameAt-trans grove g' g (fill c x.0) (SameAt-sym grove g g' same) x.2.0, x.2.1)));
+  stands = λ n. a.stands (λ x. n (
+    x.0,
+    x.1,
+    (SameAt-trans grove g' g (fill c x.0) (SameAt-sym grove g g' same) x.2.0, x.2.1),
+  ));
 }
 
 -- another formula, where it is met too, and another store
 pub At-map : (d : DataSort) (c : Trees) (p q : Formula) (e : Environment) (st st' : Store)
-    (g : Trees) → Proper (joint (lookup st') e)
-    → ((b : Trees) → Shaped (shape d) b → Meets p (joint (lookup st) e) (shape d) b
-    → Meets q (joint (lookup st') e) (shape d) b) → At d c p e st g → At d c q e st' g
+    (g : Trees) → Proper (with_store (lookup st') e)
+    → ((b : Trees) → Shaped (shape d) b → Meets p (with_store (lookup st) e) (shape d) b
+    → Meets q (with_store (lookup st') e) (shape d) b) → At d c p e st g → At d c q e st' g
 At-map d c p q e st st' g pr f a = record {
   proper = pr;
   whole = a.whole;
@@ -123,31 +101,45 @@ module _ (ps : Procedures) (bodies : BodiesSorted ps) where
   pub to_sound : (n : ℕ) (p : Formula) (c : Command) (q : Formula) (d : DataSort) → Sorted ps c
       → TripleFor ps (UpTo n) p c q d → Sound n p c q d
   to_sound n p c q d so t e around wc st g a picks l =
-      stable-Ends (At d around q e) (stable-At d around q e) (runs ps picks (run c ∷ []) st g)
+      stable-Ends (At d around q e) (stable-At d around q e) (runs ps picks (beginning c st g))
       (λ k. a.stands (λ x. k (from x.0 x.1 x.2.0 x.2.1)))
     where
       from : (b : Trees) → Shaped (shape d) b → SameAt grove g (fill around b)
-          → Meets p (joint (lookup st) e) (shape d) b
-          → Ends ⊥ (At d around q e) (runs ps picks (run c ∷ []) st g)
+          → Meets p (with_store (lookup st) e) (shape d) b
+          → Ends ⊥ (At d around q e) (runs ps picks (beginning c st g))
       from b wb same m =
-          let whole : Shaped (shape grove) (fill around b) = same-Shaped (shape grove) g (fill around b) same a.whole in
-          let fine : Fine st (fill around b) = record { proper = proper-store st e a.proper; whole = whole } in
-          let there : Ends ⊥ (λ st' g'. Stands d around q e st' g' × Fine st' g') (runs ps picks (run c ∷ []) st (fill around b)) =
-          both-ends (Stands d around q e) Fine (runs ps picks (run c ∷ []) st (fill around b)) (t e st a.proper b wb m around wc whole picks l)
-          (runs-fine ps bodies picks (run c ∷ []) st (fill around b) (so, tt) fine) in
-          let here : Ends ⊥ (At d around q e) (runs ps picks (run c ∷ []) st (fill around b)) =
-          Ends-map ⊥ (λ st' g'. Stands d around q e st' g' × Fine st' g') (At d around q e) (runs ps picks (run c ∷ []) st (fill around b))
-          (λ st' g' y. record { proper = other-store st st' e a.proper y.1.proper; whole = y.1.whole; stands = y.0 }) there in
-          Ends-same (At d around q e) (λ st' g1 g2. At-same d around q e st' g1 g2) (runs ps picks (run c ∷ []) st (fill around b)) (runs ps picks (run c ∷ []) st g)
-          (same-runs ps bodies picks (run c ∷ []) st (fill around b) g (so, tt) fine (SameAt-sym grove g (fill around b) same)) here
+          let filled = fill around b in
+          let whole : Shaped (shape grove) filled = same-Shaped (shape grove) g filled same a.whole in
+          let fits : FitsConfig ps (beginning c st filled) = record {
+            pieces = (so, tt);
+            fine = record { proper = proper-store st e a.proper; whole = whole };
+          } in
+          let came_to = runs ps picks (beginning c st filled) in
+          let there : Ends ⊥ (λ st' g'. Stands d around q e st' g' × Fine st' g') came_to =
+          both-ends (Stands d around q e) Fine came_to
+          (t e st a.proper b wb m around wc whole picks l)
+          (runs-fine ps bodies picks (beginning c st filled) fits) in
+          let here : Ends ⊥ (At d around q e) came_to =
+          Ends-map ⊥ (λ st' g'. Stands d around q e st' g' × Fine st' g') (At d around q e) came_to
+          (λ st' g' y. record {
+            proper = other-store st st' e a.proper y.1.proper;
+            whole = y.1.whole;
+            stands = y.0;
+          }) there in
+          Ends-same (At d around q e) (λ st' g1 g2. At-same d around q e st' g1 g2) came_to
+          (runs ps picks (beginning c st g))
+          (same-config-runs ps bodies picks (beginning c st filled) g fits
+          (SameAt-sym grove g filled same)) here
 
   -- and back
   pub from_sound : (n : ℕ) (p : Formula) (c : Command) (q : Formula) (d : DataSort)
       → Sound n p c q d → TripleFor ps (UpTo n) p c q d
   from_sound n p c q d s e st pr r wr m around wc whole picks l =
-      Ends-map ⊥ (At d around q e) (Stands d around q e) (runs ps picks (run c ∷ []) st (fill around r)) (λ st' g' a. a.stands)
-      (s e around wc st (fill around r) (record {
+      let filled = fill around r in
+      Ends-map ⊥ (At d around q e) (Stands d around q e) (runs ps picks (beginning c st filled))
+      (λ st' g' a. a.stands)
+      (s e around wc st filled (record {
         proper = pr;
         whole = whole;
-        stands = λ k. k (r, wr, (SameAt-eq grove (fill around r) (fill around r) refl, m));
+        stands = λ k. k (r, wr, (SameAt-eq grove filled filled refl, m));
       }) picks l)

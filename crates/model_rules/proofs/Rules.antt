@@ -6,12 +6,12 @@ use Rattle.model_shapes.specs.Values.{Value}
 use Rattle.model_shapes.specs.Trees.{Trees}
 use Rattle.model_shapes.specs.Shapes.{Shaped}
 use Rattle.model_shapes.specs.Things.{val}
-use Rattle.model_terms.specs.VariableTests.{same_var-refl}
-use Rattle.model_terms.specs.Variables.{same_var, Var, prog, logic, bound}
-use Rattle.model_terms.specs.Terms.{Term, var_eq}
+use Rattle.model_terms.specs.VariableTests.{same_var-refl, var_eq, same_var}
+use Rattle.model_terms.specs.Variables.{Var, prog, logic, bound}
+use Rattle.model_terms.specs.Terms.{Term}
 use Rattle.model_formulas.specs.Formulas.{Formula}
 use Rattle.model_formulas.specs.Substitution.{formula_with, replacing}
-use Rattle.model_formulas.specs.Satisfaction.{Environment, Meets, Entails, joint}
+use Rattle.model_formulas.specs.Satisfaction.{Environment, Meets, Entails, with_store}
 use Rattle.model_formulas.specs.Setting.{setting, setting_at}
 use Rattle.model_formulas.proofs.Quantified.{replacing-env}
 use Rattle.model_formulas.proofs.Substitutes.{meets-with}
@@ -23,7 +23,7 @@ use Rattle.model_commands.specs.Sorting.{Sorted, BlockSorted}
 use Rattle.model_commands.specs.Sorting.{BodiesSorted}
 use Rattle.model_files.specs.FileFaults.{evaluates}
 use Rattle.model_machine.specs.Machine.{run, pieces_of}
-use Rattle.model_machine.specs.LocalTriples.{TripleFor}
+use Rattle.model_machine.specs.ClassicalTriples.{TripleFor}
 use Rattle.model_terms.proofs.StoreLaws.{value_in-set, same_name-not, set-proper, value-fits}
 use Rattle.model_commands.proofs.StoreLaws.{meaning-value, proper-store, other-store}
 use Rattle.model_machine.proofs.Runs.{Well, Well-less, at_end, at_step, at_zero, followed}
@@ -43,25 +43,25 @@ value_in-decided x v st y =
 
 -- a store with one variable set is the environment with that variable set
 set-env : (x : ProgVar) (v : Value) (st : Store) (e : Environment)
-    → joint (lookup (set x v st)) e ≡ setting (as_var x) (val v) (joint (lookup st) e)
+    → with_store (lookup (set x v st)) e ≡ setting (as_var x) (val v) (with_store (lookup st) e)
 set-env x v st e = fun_ext at
   where
-    at : (y : Var) → joint (lookup (set x v st)) e y ≡ setting (as_var x) (val v) (joint (lookup st) e) y
-    at (prog z u) = ap val (value_in-decided x v st (named z u)) ∙ go (var_eq (prog z u) (as_var x))
+    at : (y : Var) → with_store (lookup (set x v st)) e y ≡ setting (as_var x) (val v) (with_store (lookup st) e) y
+    at (prog z u) = ap val (value_in-decided x v st (named z u)) ∙ by_test (var_eq (prog z u) (as_var x))
       where
-        go : (b : Dec (prog z u ≡ as_var x)) → val (cond (is_yes b) v (value_in st (named z u))) ≡ setting_at (val v) (joint (lookup st) e) b
-        go (yes q) = refl
-        go (no m) = refl
-    at (logic z u) = go x (var_eq (logic z u) (as_var x))
+        by_test : (b : Dec (prog z u ≡ as_var x)) → val (cond (is_yes b) v (value_in st (named z u))) ≡ setting_at (val v) (with_store (lookup st) e) b
+        by_test (yes q) = refl
+        by_test (no m) = refl
+    at (logic z u) = by_test x (var_eq (logic z u) (as_var x))
       where
-        go : (x : ProgVar) (b : Dec (logic z u ≡ as_var x)) → e (logic z u) ≡ setting_at (val v) (joint (lookup st) e) b
-        go (named y s) (yes q) = absurd cc
-        go x (no m) = refl
-    at (bound i u) = go x (var_eq (bound i u) (as_var x))
+        by_test : (x : ProgVar) (b : Dec (logic z u ≡ as_var x)) → e (logic z u) ≡ setting_at (val v) (with_store (lookup st) e) b
+        by_test (named y s) (yes q) = absurd cc
+        by_test x (no m) = refl
+    at (bound i u) = by_test x (var_eq (bound i u) (as_var x))
       where
-        go : (x : ProgVar) (b : Dec (bound i u ≡ as_var x)) → e (bound i u) ≡ setting_at (val v) (joint (lookup st) e) b
-        go (named y s) (yes q) = absurd cc
-        go x (no m) = refl
+        by_test : (x : ProgVar) (b : Dec (bound i u ≡ as_var x)) → e (bound i u) ≡ setting_at (val v) (with_store (lookup st) e) b
+        by_test (named y s) (yes q) = absurd cc
+        by_test x (no m) = refl
 
 -- the command of a triple has parts of the right sorts
 abbrev pub JudgementSorted : Procedures → Judgement → Type 0
@@ -118,10 +118,10 @@ module _ (ps : Procedures) (bodies : BodiesSorted ps) where
       (other-store st after e a.proper
       (set-proper x (value_of st t) st (value-fits (sort_of x) t st so (proper-store st e a.proper)) (proper-store st e a.proper)))
       (λ b wb m. subst (λ z. Meets q z (shape d) b)
-      (replacing-env (as_var x) t (joint (lookup st) e)
-      ∙ ap (λ z. setting (as_var x) z (joint (lookup st) e)) (meaning-value (sort_of x) t st e so)
+      (replacing-env (as_var x) t (with_store (lookup st) e)
+      ∙ ap (λ z. setting (as_var x) z (with_store (lookup st) e)) (meaning-value (sort_of x) t st e so)
       ∙ sym (set-env x (value_of st t) st e))
-      (meets-with q (replacing (as_var x) t) (joint (lookup st) e) (shape d) b m)) a))
+      (meets-with q (replacing (as_var x) t) (with_store (lookup st) e) (shape d) b m)) a))
     where
       after : Store
       after = set x (value_of st t) st

@@ -1,6 +1,6 @@
 -- Instances of rules, and accepted theories.
 use Rattle.std.specs.Prelude.{◌≡◌, ℕ, ◌==◌, cond, List, [], ◌∷◌, ◌++◌, Option, Some, None}
-use Rattle.model_commands.specs.Theories.{Judgement, triple, Reason, auto, by_rule, Step, Procedure, Procedures, Theory, procedures_of}
+use Rattle.model_commands.specs.Theories.{Judgement, own_triple, Reason, auto, by_rule, Step, Procedure, Procedures, Theory, procedures_of}
 use Rattle.model_rules.specs.Rows.{Row}
 
 -- the judgement of the first step with the number
@@ -33,10 +33,6 @@ abbrev pub last_judgement : List Step → Option Judgement
 last_judgement [] = None
 last_judgement (step ∷ []) = Some step.judgement
 last_judgement (step ∷ next ∷ steps) = last_judgement (next ∷ steps)
-
--- what a procedure's proof has to end in: its requires, its body, its ensures and its sort
-abbrev pub own_triple : Procedure → Judgement
-own_triple f = triple f.pre f.body f.post f.sort
 
 -- a procedure is proved
 pub record IsProved (f : Procedure) : Type 0 where

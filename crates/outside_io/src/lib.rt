@@ -9,8 +9,6 @@ mod screen;
 mod shelf;
 mod sink;
 mod tape;
-#[cfg(test)]
-mod tests;
 
 pub use folder::Folder;
 pub use library::{Library, MOST_BYTES, ReadAllFault, read_all};

@@ -6,8 +6,6 @@
 mod arguments;
 mod decimals;
 mod requests;
-#[cfg(test)]
-mod tests;
 
 pub use arguments::read_arguments;
 pub use requests::{Request, WordFault, read_words};

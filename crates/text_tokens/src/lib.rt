@@ -11,8 +11,6 @@ mod positions;
 mod reading;
 mod reserved;
 mod symbols;
-#[cfg(test)]
-mod tests;
 mod tokens;
 mod words;
 

@@ -9,4 +9,4 @@ returns-clause-roots c = context-width
 
 pub returns-clause-shaped : goal.returns-clause-shaped
 returns-clause-shaped c outside w =
-    record { well_formed = w; width_fits = context-width outside; holed = one-hole outside }
+    record { well_formed = w; width_fits = context-width outside; holes_fit = one-hole outside }

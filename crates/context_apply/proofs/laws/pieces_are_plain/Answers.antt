@@ -3,4 +3,4 @@ use Rattle.context_apply.proofs.laws.pieces_are_plain.Goals as goal
 
 pub returns : goal.returns
 returns c piece w =
-    record { well_formed = w; width_fits = piece-width piece; holed = piece-bare piece }
+    record { well_formed = w; width_fits = piece-width piece; holes_fit = piece-bare piece }

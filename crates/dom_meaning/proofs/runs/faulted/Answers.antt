@@ -1,8 +1,6 @@
-use Rattle.std.proofs.Common.{◌≡◌, ◌∙◌, ◌-◌, ◌∷◌, length, take, true, inl, inr, sym, ap}
+use Rattle.std.proofs.Common.{◌≡◌, ◌-◌, length, take, true, inl, inr, sym, ap}
 use Rattle.model_shapes.proofs.Truth.{false≢true}
-use Rattle.model_machine.specs.Machine.{run}
-use Rattle.model_machine.specs.Outcomes.{has_fault}
-use Rattle.dom_syntax.specs.Commands.{command_of}
+use Rattle.model_machine.specs.Outcomes.{has_fault, first_command}
 use Rattle.dom_meaning.specs.declared.configurations.Pending.TheVariants.{Run}
 use Rattle.dom_meaning.specs.Configs.{piece_of, pieces_in}
 use Rattle.dom_meaning.specs.Built.{is_built_piece}
@@ -12,13 +10,11 @@ use Rattle.dom_meaning.proofs.StepLaws.{built-first}
 use Rattle.dom_meaning.proofs.runs.faulted.Goals as goal
 
 pub returns-clause-outcome : goal.returns-clause-outcome
-returns-clause-outcome c = λ results total piece rest e.
+returns-clause-outcome c = λ results total.
     let pending = c.args.config.pending in
     let last = rw c.len-place.ensures at c.in-Run.ensures.item in
-    let first : run (command_of c.in-Run.command) ∷ pieces_in (take (length pending - 1) pending)
-    ≡ piece ∷ rest = sym (first_piece pending (Run c.in-Run.command) (sym last)) ∙ e in
-    let same : piece ≡ run (command_of c.in-Run.command) = cc in
-    ap (has_fault (fault_kind_of c.args.kind) c.args.steps) same
+    ap (λ k. has_fault (fault_kind_of c.args.kind) c.args.steps (first_command k))
+    (first_piece pending (Run c.in-Run.command) (sym last))
 
 pub unreachable-requires : goal.unreachable-requires
 unreachable-requires c =

@@ -1,5 +1,5 @@
 use Rattle.std.proofs.Common.{◌+◌, ◌*◌}
-use Rattle.model_formulas.specs.WellSorted.{parts}
+use Rattle.model_formulas.specs.Parts.{parts}
 use Rattle.formula_syntax.specs.Formulas.{formula_of}
 use Rattle.formula_syntax.proofs.free.+add_free.Given as goal
 

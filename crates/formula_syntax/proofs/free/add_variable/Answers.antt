@@ -1,7 +1,7 @@
 -- A variable that a binder binds, one that was found, and a new one.
 use Rattle.std.proofs.Common.{◌≡◌, ◌∙◌, ap, sym, map, true, false, rules}
 use Rattle.std.specs.List.{list_any}
-use Rattle.model_terms.specs.Variables.{same_var}
+use Rattle.model_terms.specs.VariableTests.{same_var}
 use Rattle.formula_syntax.specs.Formulas.{any_var_of}
 use Rattle.formula_syntax.specs.Binders.{bound_by}
 use Rattle.formula_syntax.specs.Substitution.{var_named}

@@ -9,7 +9,9 @@ use Rattle.hoare_kernel.proofs.chains.is_chain.Given as goal
 
 abbrev pub invariant-loop-number : goal.invariant-loop-number
 invariant-loop-number l = record {
-  same : reached (map step_of l.earlier) l.citations (formula_of l.triple.pre) (block_of l.block) (data_sort_of l.triple.sort)
-      ≡ reached (map step_of l.earlier) (drop l.number-index l.citations) (formula_of l.at) (block_of l.commands) (data_sort_of l.triple.sort);
+  same : reached (map step_of l.earlier) l.citations (formula_of l.triple.pre) (block_of l.block)
+      (data_sort_of l.triple.sort)
+      ≡ reached (map step_of l.earlier) (drop l.number-index l.citations) (formula_of l.at)
+      (block_of l.commands) (data_sort_of l.triple.sort);
   small : IsSmall (formula_of l.at);
 }

@@ -1,14 +1,17 @@
-use Rattle.std.proofs.Common.{◌<◌, length, sym, subst, arith}
+use Rattle.std.proofs.Common.{sym, subst, arith}
 use Rattle.dom_syntax.specs.Judgements.{judgement_of}
 use Rattle.dom_syntax.specs.declared.steps.Step.{Step}
 use Rattle.hoare_kernel.specs.Sizes.{JudgementIsSmall}
-use Rattle.hoare_kernel.proofs.Last.{small_at, small_before}
+use Rattle.hoare_kernel.proofs.Steps.{small_at, citable_before}
 use Rattle.hoare_kernel.proofs.instances.are_instances.Goals as goal
 
 pub is_instance-requires-clause-earlier : goal.is_instance-requires-clause-earlier
-is_instance-requires-clause-earlier c = small_before c.args.steps.now c.loop-place.place c.requires
+is_instance-requires-clause-earlier c =
+    citable_before c.are_numbered-numbered.result c.args.steps.now _ c.requires
+    c.are_numbered-numbered.ensures
 
 pub is_instance-requires-clause-step : goal.is_instance-requires-clause-step
 is_instance-requires-clause-step c =
     subst (λ (z : Step). JudgementIsSmall (judgement_of z.judgement)) (sym c.index-steps-place.is)
-    (small_at c.args.steps.now c.index-steps-place.result c.loop-place.place (omega (arith, c.loop-place-test.true)) c.requires)
+    (small_at c.args.steps.now c.index-steps-place.result c.loop-place.place
+    (omega (arith, c.loop-place-test.true)) c.requires)

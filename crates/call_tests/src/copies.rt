@@ -1,0 +1,95 @@
+// A copy of a value of each type, through the bound that gives it.
+use crate::formulas::{logic, program};
+use crate::groves::{document, leaf};
+use crate::terms::integer;
+use context_apply::{Piece, cut_at};
+use dom_meaning::{Config, Pending, Pieces};
+use dom_syntax::{Command, Judgement};
+use dom_terms::{Cond, Copied, DataSort, List, Sort, Store, Text, Value};
+use formula_syntax::{AnyVar, Entailment, Formula, Pair};
+use logic_text::read_grove;
+use proof_text::read_theory;
+use std::alloc::Global;
+use std::fmt::Debug;
+use std::process::Abort;
+use std::test::Fail;
+use text_tokens::token_list;
+
+// Checks that a copy of the value prints as the value does.
+fn check_copy<T: Copied + Debug>(rt: &impl Abort, alloc: Global, value: &T) -> Result<(), Fail> {
+    let copied = format!(in alloc; "{:?}", value.copy(alloc)?)?;
+    let want = format!(in alloc; "{value:?}")?;
+    assert_eq!(rt; copied.as_str(), want.as_str());
+    Ok(())
+}
+
+const FILE: &str = "domlogic 1
+proc f(a: int, s: str) returns (x: int) sort g requires {a + 1} = 2 ensures (x = 2 and true)
+body { skip ; x := {a - -1} }
+proof step 1 by assign(7, 8) with ({s ++ \"t\"}): pre 0g do x := 3 post true at g; end";
+
+#[test]
+fn files_are_copied(rt: HostRuntime) -> Result<(), Fail> {
+    let alloc = rt.alloc();
+    let tokens = token_list(alloc, FILE.as_bytes())?;
+    check_copy(&rt, alloc, &read_theory(alloc, &tokens)?)
+}
+
+#[test]
+fn documents_are_copied(rt: HostRuntime) -> Result<(), Fail> {
+    let alloc = rt.alloc();
+    let tokens = token_list(alloc, b"[\"a\"#0[<\"b\"#2[0f]%3>]%4294967296]")?;
+    check_copy(&rt, alloc, &tokens)?;
+    check_copy(&rt, alloc, &read_grove(alloc, &tokens)?)
+}
+
+#[test]
+fn formulas_are_copied(rt: HostRuntime) -> Result<(), Fail> {
+    let alloc = rt.alloc();
+    let (left, right) = (Formula::Len(program(alloc, "a")?), Formula::EmptyForest);
+    let sort = Sort::Shape(DataSort::Forest);
+    let entailment = Entailment { left, right, sort };
+    check_copy(&rt, alloc, &Judgement::Entails(entailment))?;
+    let var = AnyVar::Logic(logic(alloc, "$m")?);
+    let term = program(alloc, "b")?;
+    check_copy(&rt, alloc, &Pair { var, term })
+}
+
+#[test]
+fn groves_and_contexts_are_copied(rt: HostRuntime) -> Result<(), Fail> {
+    let alloc = rt.alloc();
+    let grove = document(alloc)?;
+    let (context, cut) = cut_at(alloc, &grove, 3)?.ok_or("no tree")?;
+    check_copy(&rt, alloc, &context)?;
+    check_copy(&rt, alloc, &Piece::Tree(cut))?;
+    check_copy(&rt, alloc, &Piece::Grove(grove))
+}
+
+// the pieces of each kind
+fn pieces(alloc: Global) -> Result<Pieces, Fail> {
+    let (left, right) = (program(alloc, "x")?, program(alloc, "y")?);
+    let looped = Command::While(Cond::Le(left, right), List::new(alloc));
+    let text = Text::from_str(alloc, "é")?;
+    let nothing = Pending::Return(Store::new(alloc), List::new(alloc), List::new(alloc));
+    let mut pending = List::new(alloc);
+    pending.push(nothing)?;
+    pending.push(Pending::Restore(integer(alloc, "y")?, Value::Str(text)))?;
+    pending.push(Pending::Run(looped))?;
+    Ok(pending)
+}
+
+#[test]
+fn configurations_are_copied(rt: HostRuntime) -> Result<(), Fail> {
+    let alloc = rt.alloc();
+    let mut store = Store::new(alloc);
+    store.set(integer(alloc, "x")?, Value::Int(-2))?;
+    let mut results = List::new(alloc);
+    results.push(integer(alloc, "r")?)?;
+    let config = Config {
+        pending: pieces(alloc)?,
+        store,
+        grove: leaf(alloc, "a", 1)?,
+        results,
+    };
+    check_copy(&rt, alloc, &config)
+}

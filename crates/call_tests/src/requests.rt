@@ -1,0 +1,72 @@
+// The top call over a library or a sink that fails.
+use crate::outside::Trickle;
+use domcheck_core::{Status, domcheck};
+use outside_io::{Shelf, Sink, Tape};
+use std::alloc::Global;
+use std::test::Fail;
+
+const FILE: &str = "domlogic 1
+proc main() returns () sort g
+requires 0g ensures 0g
+body skip
+proof
+step 1 by skip(): pre 0g do skip post 0g at g;
+end
+";
+
+// Does what the words ask for, where the file `a` and the document `z` are at hand and a fetch call
+// fails; 0 is no call.
+fn answer<S: Sink>(
+    alloc: Global,
+    words: &[&str],
+    fetch: u64,
+    sink: &mut S,
+) -> Result<Status, Fail> {
+    let mut shelf = Shelf::new(alloc);
+    shelf.add("a", FILE.as_bytes())?;
+    shelf.add("z", b"0g")?;
+    shelf.fail_at(fetch)?;
+    let mut asked = Vec::new(alloc);
+    for word in words {
+        asked.push(String::from_str(alloc, word)?)?;
+    }
+    Ok(domcheck(alloc, &asked, &mut shelf, sink))
+}
+
+// (the words, the fetch call and the put call that fail, the status and what is written)
+#[test]
+fn failures_have_a_status_of_their_own(rt: HostRuntime) -> Result<(), Fail> {
+    let alloc = rt.alloc();
+    let check = ["check", "a"].as_slice();
+    let run = ["run", "a", "main", "z", "9"].as_slice();
+    for (words, fetch, put, status, output) in [
+        (
+            check,
+            0,
+            0,
+            Status::Done,
+            "accepted: 1 procedures, 1 steps\n",
+        ),
+        (check, 2, 0, Status::ReadFault, ""),
+        (check, 0, 1, Status::WriteFault, ""),
+        (run, 0, 0, Status::Done, "ended after 1 steps\n0g\n"),
+        (run, 3, 0, Status::ReadFault, ""),
+        (run, 4, 0, Status::ReadFault, ""),
+    ] {
+        let mut tape = Tape::new(alloc, 100)?;
+        tape.fail_at(put)?;
+        assert_eq!(rt; answer(alloc, words, fetch, &mut tape)?, status);
+        assert_eq!(rt; tape.taken(), output.as_bytes());
+    }
+    Ok(())
+}
+
+#[test]
+fn a_prefix_is_written_where_the_sink_fails(rt: HostRuntime) -> Result<(), Fail> {
+    let alloc = rt.alloc();
+    let mut sink = Trickle::new(alloc, 9);
+    let status = answer(alloc, &["check", "a"], 0, &mut sink)?;
+    assert_eq!(rt; (status, status.number()), (Status::WriteFault, 12));
+    assert_eq!(rt; sink.taken.as_slice(), b"accepted:".as_slice());
+    Ok(())
+}

@@ -1,0 +1,240 @@
+#!/usr/bin/env python3
+"""Compares the built program with the rows of this folder, byte by byte.
+
+usage: tests/run.py --cmd PROGRAM [--only TEXT] [--list]
+  PROGRAM   the built program; each row's words are handed to it
+  TEXT      runs only the rows whose file or title has this text
+
+Prints each row that fails, and last 'N passed, M failed'. The exit status is 0 where none fails, and 2
+where a file of rows can't be read. README.md beside this file says how a row is written.
+"""
+import argparse
+import glob
+import os
+import re
+import shlex
+import subprocess
+import sys
+import tempfile
+
+HERE = os.path.dirname(os.path.abspath(__file__))
+TOP = os.path.dirname(HERE)
+SECONDS = 60
+
+
+class Unreadable(Exception):
+    """A line of a file of rows that has no meaning."""
+
+
+class Row:
+    """One request and its wanted answer."""
+
+    def __init__(self, title, place):
+        self.title, self.place = title, place
+        self.words, self.status, self.output = None, None, []
+        self.texts, self.changes, self.sink, self.called = {}, [], None, None
+
+
+def meant(text):
+    """Returns the bytes that a text of a row stands for: what stands in backquotes is what can't be written."""
+    parts = text.split("`")
+    if len(parts) % 2 == 0:
+        raise Unreadable("a backquote stands alone")
+    return b"".join(quoted(part) if at % 2 else part.encode() for at, part in enumerate(parts))
+
+
+def quoted(part):
+    """Returns the bytes of `newline`, `return`, `tab`, a byte as `ff`, `9 x TEXT` or `for 1..9: TEXT`."""
+    names = {"newline": b"\n", "return": b"\r", "tab": b"\t"}
+    if part in names:
+        return names[part]
+    if re.fullmatch(r"[0-9a-f]{2}( [0-9a-f]{2})*", part):
+        return bytes.fromhex(part)
+    found = re.fullmatch(r"([0-9]+) x (.*)", part)
+    if found:
+        return found[2].encode() * int(found[1])
+    found = re.fullmatch(r"for ([0-9]+)\.\.([0-9]+): ?(.*)", part)
+    if found:
+        numbers = range(int(found[1]), int(found[2]) + 1)
+        return "".join(found[3].replace("@", str(number)) for number in numbers).encode()
+    raise Unreadable(f"`{part}` stands for nothing")
+
+
+def split_words(text):
+    """Returns the words of a row: as a shell splits them, with quotes, but that # begins no comment."""
+    return [meant(word) for word in shlex.split(text, comments=False)]
+
+
+def change_of(text):
+    """Returns what is put in place of what, written OLD => NEW."""
+    old, arrow, new = text.partition("=>")
+    if not arrow or not old.strip():
+        raise Unreadable("a change is written OLD => NEW")
+    return meant(old.strip()), meant(new.strip())
+
+
+def set_field(row, field, text):
+    """Gives a row one of its fields."""
+    name, _, file = field.partition(" ")
+    if field == "words":
+        row.words = split_words(text)
+    elif field == "status":
+        row.status = int(text)
+    elif field == "output":
+        row.output.append(meant(text) + b"\n")
+    elif field == "to":
+        row.sink = text
+    elif field == "called":
+        row.called = meant(text)
+    elif name == "text" and file:
+        row.texts[file] = meant(text)
+    elif name == "change" and file:
+        row.changes.append((file, *change_of(text)))
+    else:
+        raise Unreadable(f"a row has no field {field}")
+
+
+def rows_of(title, lines):
+    """Returns the rows of a block: one, or one for each line that begins with '-'."""
+    each = next((text[len("each:"):].strip() for _, text in lines if text.startswith("each:")), None)
+    dashed = [it for it in lines if re.match(r"-( |$)", it[1])] if each else [(lines[0][0], None)]
+    rows = []
+    for place, given in dashed:
+        row = Row(title if given is None else f"{title}: {given[1:].strip()}", place)
+        for _, text in lines:
+            if text.startswith("| "):
+                set_field(row, "output", text[2:])
+            elif not text.startswith("each:") and not re.match(r"-( |$)", text):
+                field, colon, rest = text.partition(":")
+                if not colon:
+                    raise Unreadable(f"no field: {text}")
+                if field != "output" or rest:
+                    set_field(row, field.strip(), rest.strip())
+        if given is not None:
+            set_field(row, each, given[1:].strip())
+        if row.words is None or row.status is None:
+            raise Unreadable(f"the row has no words or no status: {title}")
+        rows.append(row)
+    return rows
+
+
+def file_of(head, lines):
+    """Returns the name and the bytes of a file: of its lines '| TEXT', of one line, or of a file of the repository."""
+    found = re.fullmatch(r"(\S+) from (\S+)", head)
+    if found:
+        with open(os.path.join(TOP, found[2]), "rb") as it:
+            return found[1], it.read()
+    name, colon, text = head.partition(":")
+    if colon:
+        return name, meant(text.strip())
+    if any(not re.match(r"\|( |$)", it) for _, it in lines):
+        raise Unreadable(f"a line of the file {name} begins with no '| '")
+    return name, b"".join(meant(it[2:]) + b"\n" for _, it in lines)
+
+
+def shared():
+    """Returns the files of the folder files/, which every row may name."""
+    for name in sorted(os.listdir(os.path.join(HERE, "files"))):
+        with open(os.path.join(HERE, "files", name), "rb") as it:
+            yield name, it.read()
+
+
+def read(path):
+    """Returns the files and the rows that a file of rows has."""
+    with open(path, encoding="utf-8") as it:
+        lines = [(number, line.rstrip("\n")) for number, line in enumerate(it, 1)]
+    lines = [it for it in lines if not it[1].startswith("#") and it[1].strip()]
+    files, rows, at = dict(shared()), [], 0
+    while at < len(lines):
+        number, head = lines[at]
+        kind, _, rest = head.partition(" ")
+        end = at + 1
+        while end < len(lines) and not re.match(r"(file|row|rows) ", lines[end][1]):
+            end += 1
+        try:
+            if kind == "file":
+                name, content = file_of(rest, lines[at + 1 : end])
+                files[name] = content
+            elif kind in ("row", "rows"):
+                rows += rows_of(rest, lines[at + 1 : end])
+            else:
+                raise Unreadable("a block begins with 'file', 'row' or 'rows'")
+        except (Unreadable, ValueError, IndexError) as why:
+            sys.exit(f"{os.path.relpath(path, TOP)}:{number}: {why}")
+        at = end
+    return files, rows
+
+
+def given_files(row, files):
+    """Returns the files that the row's words name, as the row changes them; a name that none has stays a missing file."""
+    given = {**files, **row.texts}
+    for file, old, new in row.changes:
+        if old not in given[file]:
+            raise Unreadable(f"{file} has no text {old.decode(errors='replace')}")
+        given[file] = given[file].replace(old, new)
+    named = [os.path.normpath(word) for word in row.words]
+    return {name: given[name] for name in given if name.encode() in named}
+
+
+def ran(program, row, folder):
+    """Runs the program on the row's words in the folder."""
+    how = {"cwd": folder, "stdin": subprocess.DEVNULL, "stderr": subprocess.PIPE, "timeout": SECONDS}
+    words = [row.called or program.encode(), *row.words]
+    if row.sink == "closed":
+        words = [b"sh", b"-c", b'exec "$@" >&-', b"sh", *words]
+        return subprocess.run(words, stdout=subprocess.PIPE, **how)
+    if row.sink is None:
+        return subprocess.run(words, executable=program, stdout=subprocess.PIPE, **how)
+    with open(row.sink, "wb") as sink:
+        return subprocess.run(words, executable=program, stdout=sink, **how)
+
+
+def complaint(program, row, files):
+    """Returns what is wrong with the program's answer, or None."""
+    with tempfile.TemporaryDirectory() as folder:
+        try:
+            for name, content in given_files(row, files).items():
+                with open(os.path.join(folder, name), "wb") as it:
+                    it.write(content)
+            answer = ran(program, row, folder)
+        except (Unreadable, KeyError, OSError, subprocess.TimeoutExpired) as why:
+            return f"    not run: {why}"
+    wanted, found = b"".join(row.output), answer.stdout or b""
+    if (answer.returncode, found, answer.stderr) == (row.status, wanted, b""):
+        return None
+    told = [f"    wanted {row.status} {wanted[:300]!r}", f"    got    {answer.returncode} {found[:300]!r}"]
+    return "\n".join(told + [f"    on standard error {answer.stderr[:300]!r}"] * bool(answer.stderr))
+
+
+def main():
+    how = {"description": __doc__, "formatter_class": argparse.RawDescriptionHelpFormatter}
+    parser = argparse.ArgumentParser(**how)
+    parser.add_argument("--cmd", required=True)
+    parser.add_argument("--only", default="")
+    parser.add_argument("--list", action="store_true")
+    options = parser.parse_args()
+    program, passed, failed = os.path.abspath(options.cmd), 0, 0
+    if not os.access(program, os.X_OK):
+        print(f"no program stands at {options.cmd}\n0 passed, 1 failed")
+        return 1
+    for path in sorted(glob.glob(os.path.join(HERE, "*.rows"))):
+        files, rows = read(path)
+        name = os.path.relpath(path, TOP)
+        for row in rows:
+            words = b" ".join(row.words).decode(errors="replace")
+            if options.only not in f"{name} {row.title}":
+                continue
+            if options.list:
+                print(f"{name}:{row.place}: {row.title}")
+                continue
+            wrong = complaint(program, row, files)
+            passed, failed = passed + (wrong is None), failed + (wrong is not None)
+            if wrong is not None:
+                print(f"{name}:{row.place}: {row.title}\n    words  {words[:200]}\n{wrong}")
+    if not options.list:
+        print(f"{passed} passed, {failed} failed")
+    return 1 if failed else 0
+
+
+if __name__ == "__main__":
+    sys.exit(main())

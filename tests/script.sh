@@ -1,0 +1,94 @@
+#!/usr/bin/env bash
+# Tries ./domcheck, the script that builds and starts the program, with stand-ins for rt and for the program:
+# nothing is proved. Prints each case that fails, and last 'N passed, M failed'; ends with 1 where one fails.
+set -u
+top=$(cd "$(dirname "$0")/.." && pwd)
+room=$(mktemp -d)
+trap 'rm -rf "$room"' EXIT
+copy=$room/copy
+source_file=$copy/crates/text_tokens/src/words.rt
+passed=0 failed=0
+
+mkdir -p "$room/bin" "$copy/crates/domcheck_cli/data" "$copy/crates/text_tokens/src"
+cp "$top/domcheck" "$top/crates.txt" "$copy"
+cp "$top/crates/text_tokens/src/words.rt" "$source_file"
+
+# The program: says its words, and ends with the status $ENDS.
+cat >"$room/program" <<'END'
+#!/usr/bin/env bash
+echo "asked $*"
+exit "${ENDS:-0}"
+END
+# rt: as $BUILD says, all is proved; a proof is open; the sources don't compile; or the program isn't linked.
+cat >"$room/bin/rt" <<'END'
+#!/usr/bin/env bash
+if [ "$1 $2" = "all check" ]; then
+  [ "$BUILD" = unread ] && { echo "rt: mend these first"; exit 1; }
+  for name in $(sed -n 's/^\([a-z_]*\):.*/\1/p' crates.txt); do
+    echo "== $name"
+    [ "$BUILD $name" = "open text_tokens" ] && echo "the goal is open"
+  done
+  echo "== summary"
+  [ "$BUILD" = open ] && { echo "text_tokens: failed (1)"; exit 1; }
+  exit 0
+fi
+[ "$BUILD" = unlinked ] && { echo "no program"; exit 3; }
+mkdir -p out && cp "$PROGRAM" out/domcheck_cli && chmod +x out/domcheck_cli
+END
+chmod +x "$room/bin/rt" "$room/program"
+export PATH=$room/bin:$PATH PROGRAM=$room/program BUILD=proved ENDS=0
+
+# case NAME STATUS OUTPUT PART WORD..: runs ./domcheck on the words; the output is the one given, and standard
+# error has the part, or is empty where that is.
+case_of() {
+  local name=$1 status=$2 output=$3 part=$4 found said
+  shift 4
+  found=$("$copy/domcheck" "$@" 2>"$room/said")
+  local ended=$?
+  said=$(cat "$room/said")
+  if [ "$ended" = "$status" ] && [ "$found" = "$output" ] \
+    && { [ -n "$part" ] && [[ $said == *"$part"* ]] || [ -z "$part$said" ]; }; then
+    passed=$((passed + 1))
+  else
+    failed=$((failed + 1))
+    printf '%s: ended with %s, printed %s, and said %s\n' "$name" "$ended" "$found" "$said"
+  fi
+}
+
+change() {
+  sleep 0.01
+  echo "// $1" >>"$source_file"
+}
+
+BUILD=unread case_of "sources that don't compile" 70 '' 'rt: mend these first' check a
+BUILD=open case_of "an open proof" 70 '' 'the goal is open' check a
+BUILD=unlinked case_of "no program" 70 '' 'no program' check a
+case_of "the first build" 0 'asked check a' "$(grep -c '^[a-z_]*:' "$copy/crates.txt") crates done" check a
+case_of "a program that is current" 0 'asked check a b' '' check a 'b'
+BUILD=open case_of "a program that is current isn't built again" 0 'asked ' ''
+sleep 0.01
+touch "$source_file"
+BUILD=open case_of "a source that is newer and has the same text" 0 'asked check a' '' check a
+change one
+BUILD=open case_of "a changed source, and an open proof" 70 '' 'the program of the last build still stands' check a
+cp "$top/crates/text_tokens/src/words.rt" "$source_file"
+BUILD=open case_of "the change is taken back" 0 'asked check a' '' check a
+change two
+case_of "a changed source" 0 'asked check a' 'built, after' check a
+sleep 0.01
+touch "$copy/crates/text_tokens/src/new.rt"
+case_of "a new source" 0 'asked check a' 'built, after' check a
+rm "$copy/crates/text_tokens/src/new.rt"
+case_of "a removed source" 0 'asked check a' 'built, after' check a
+rm -r "$copy/out"
+BUILD=open case_of "the program that the gate built" 0 'asked check a' '' check a
+for ends in 1 2 3 5 6 7 8 9; do
+  ENDS=$ends case_of "status $ends" "$ends" 'asked check a' '' check a
+done
+ENDS=10 case_of "no memory" 10 'asked check a' 'out of memory' check a
+ENDS=11 case_of "no file" 11 'asked check a' 'could not read a: there is no such file' check a
+ENDS=11 case_of "a folder" 11 "asked check $room" "could not read $room: it is a folder" check "$room"
+ENDS=12 case_of "no output" 12 'asked check a' 'the output could not be written' check a
+
+echo "$passed passed, $failed failed"
+[ "$failed" -eq 0 ]
