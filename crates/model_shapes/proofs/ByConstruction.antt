@@ -51,50 +51,50 @@ mutual
   inner-stands forest_hole = refl
   inner-stands (one_context c) = tree-stands c
 
--- a tree context is a plain one
-pub tree-plain : (c : TreeContext) → TreeBare c → WellFormed (tree_thing c)
-    → Shaped (context (tree_hole_sort c) tree) (tree_thing c)
-tree-plain tree_hole b w = record {
-  well_formed = w;
-  width_fits = refl;
-  holes_fit = record { one = refl; stands = refl };
-}
-tree-plain (around_node s i f l) b w = record {
-  well_formed = w;
-  width_fits = refl;
-  holes_fit = record { one = tree-holes (around_node s i f l) b; stands = forest-stands f };
-}
+-- the hole of a tree context may stand where it stands
+pub tree-hole : (c : TreeContext) → TreeBare c → OneHole (tree_hole_sort c) tree (tree_thing c)
+tree-hole tree_hole b = record { one = refl; stands = refl }
+tree-hole (around_node s i f l) b =
+    record { one = tree-holes (around_node s i f l) b; stands = forest-stands f }
 
--- a forest context is a plain one
-pub forest-plain : (c : ForestContext) → ForestBare c → WellFormed (forest_thing c)
-    → Shaped (context (forest_hole_sort c) forest) (forest_thing c)
-forest-plain c b w = record {
-  well_formed = w;
-  width_fits = tt;
-  holes_fit =
-      one-hole _ _ _ (forest-holes c b) (λ z. forest-stands c) (λ z. forest-stands c);
-}
+-- that of a forest context too
+pub forest-hole : (c : ForestContext) → ForestBare c
+    → OneHole (forest_hole_sort c) forest (forest_thing c)
+forest-hole c b =
+    one-hole _ _ _ (forest-holes c b) (λ z. forest-stands c) (λ z. forest-stands c)
 
 tree-in_grove : (c : TreeContext) (r : Trees) → holes r ≡ 0
     → root_holes (beside (tree_thing c) r) ≡ 1 → may_stand (tree_hole_sort c) grove ≡ true
 tree-in_grove tree_hole r b z = refl
 tree-in_grove (around_node s i f l) r b z = absurd (omega (arith, z, root_holes-le r))
 
+-- and that of a grove context
+pub grove-hole : (c : GroveContext) → GroveBare c
+    → OneHole (grove_hole_sort c) grove (grove_thing c)
+grove-hole (grove_hole r) b = record { one = omega (arith, b); stands = refl }
+grove-hole (root_context c r) b =
+    one-hole _ _ _ (omega (arith, holes-beside (tree_thing c) r, tree-holes c b.0, b.1))
+    (λ z. tree-in_grove c r b.1 z) (λ z. tree-stands c)
+
+tree-width : (c : TreeContext) → width (tree_thing c) ≡ 1
+tree-width tree_hole = refl
+tree-width (around_node s i f l) = refl
+
+-- a tree context is a plain one
+pub tree-plain : (c : TreeContext) → TreeBare c → WellFormed (tree_thing c)
+    → Shaped (context (tree_hole_sort c) tree) (tree_thing c)
+tree-plain c b w =
+    record { well_formed = w; width_fits = tree-width c; holes_fit = tree-hole c b }
+
+-- a forest context is a plain one
+pub forest-plain : (c : ForestContext) → ForestBare c → WellFormed (forest_thing c)
+    → Shaped (context (forest_hole_sort c) forest) (forest_thing c)
+forest-plain c b w = record { well_formed = w; width_fits = tt; holes_fit = forest-hole c b }
+
 -- a grove context is a plain one
 pub grove-plain : (c : GroveContext) → GroveBare c → WellFormed (grove_thing c)
     → Shaped (context (grove_hole_sort c) grove) (grove_thing c)
-grove-plain (grove_hole r) b w = record {
-  well_formed = w;
-  width_fits = tt;
-  holes_fit = record { one = omega (arith, b); stands = refl };
-}
-grove-plain (root_context c r) b w = record {
-  well_formed = w;
-  width_fits = tt;
-  holes_fit =
-      one-hole _ _ _ (omega (arith, holes-beside (tree_thing c) r, tree-holes c b.0, b.1))
-      (λ z. tree-in_grove c r b.1 z) (λ z. tree-stands c);
-}
+grove-plain c b w = record { well_formed = w; width_fits = tt; holes_fit = grove-hole c b }
 
 -- EACH PLAIN ONE COMES FROM ONE
 -- a forest context that stands for the list
