@@ -27,7 +27,8 @@ block-pieces : (block : List Command) → map as_piece block ≡ pieces_of (bloc
 block-pieces [] = refl
 block-pieces (c ∷ block) = ap (λ z. as_piece c ∷ z) (block-pieces block)
 
-map-map : {A B C : Type 0} (g : B → C) (f : A → B) (xs : List A) → map g (map f xs) ≡ map (λ x. g (f x)) xs
+map-map : {A B C : Type 0} (g : B → C) (f : A → B) (xs : List A)
+    → map g (map f xs) ≡ map (λ x. g (f x)) xs
 map-map g f [] = refl
 map-map g f (x ∷ xs) = ap (λ z. g (f x) ∷ z) (map-map g f xs)
 

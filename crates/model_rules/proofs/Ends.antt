@@ -109,7 +109,8 @@ module _ (ps : Procedures) (bodies : BodiesSorted ps) where
           → Ends ⊥ (At d around q e) (runs ps picks (beginning c st g))
       from b wb same m =
           let filled = fill around b in
-          let whole : Shaped (shape grove) filled = same-Shaped (shape grove) g filled same a.whole in
+          let whole : Shaped (shape grove) filled =
+          same-Shaped (shape grove) g filled same a.whole in
           let fits : FitsConfig ps (beginning c st filled) = record {
             pieces = (so, tt);
             fine = record { proper = proper-store st e a.proper; whole = whole };
