@@ -46,7 +46,6 @@ set-env : (x : ProgVar) (v : Value) (st : Store) (e : Environment)
     → with_store (lookup (set x v st)) e ≡ setting (as_var x) (val v) (with_store (lookup st) e)
 set-env x v st e = fun_ext at
   where
-<<<<<<< HEAD
     at : (y : Var) → with_store (lookup (set x v st)) e y ≡ setting (as_var x) (val v) (with_store (lookup st) e) y
     at (prog z u) = ap val (value_in-decided x v st (named z u)) ∙ by_test (var_eq (prog z u) (as_var x))
       where
@@ -63,24 +62,6 @@ set-env x v st e = fun_ext at
         by_test : (x : ProgVar) (b : Dec (bound i u ≡ as_var x)) → e (bound i u) ≡ setting_at (val v) (with_store (lookup st) e) b
         by_test (named y s) (yes q) = absurd cc
         by_test x (no m) = refl
-=======
-    at : (y : Var) → joint (lookup (set x v st)) e y ≡ setting (as_var x) (val v) (joint (lookup st) e) y
-    at (prog z u) = ap val (value_in-decided x v st (named z u)) ∙ go (var_eq (prog z u) (as_var x))
-      where
-        go : (b : Dec (prog z u ≡ as_var x)) → val (cond (is_yes b) v (value_in st (named z u))) ≡ setting_at (val v) (joint (lookup st) e) b
-        go (yes q) = refl
-        go (no m) = refl
-    at (logic z u) = go x (var_eq (logic z u) (as_var x))
-      where
-        go : (x : ProgVar) (b : Dec (logic z u ≡ as_var x)) → e (logic z u) ≡ setting_at (val v) (joint (lookup st) e) b
-        go (named y s) (yes q) = absurd cc
-        go x (no m) = refl
-    at (bound i u) = go x (var_eq (bound i u) (as_var x))
-      where
-        go : (x : ProgVar) (b : Dec (bound i u ≡ as_var x)) → e (bound i u) ≡ setting_at (val v) (joint (lookup st) e) b
-        go (named y s) (yes q) = absurd cc
-        go x (no m) = refl
->>>>>>> b19cc7b (Lines of dom_meaning's proofs within 100 columns, and std's lemmas)
 
 -- the command of a triple has parts of the right sorts
 abbrev pub JudgementSorted : Procedures → Judgement → Type 0

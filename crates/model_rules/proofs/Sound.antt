@@ -30,11 +30,11 @@ module _ (P : Judgement → Type 0) where
   -- what an earlier step says
   of-numbered : (n : ℕ) (steps : List Step) (j : Judgement) → judgement_numbered n steps ≡ Some j → OfSteps steps → P j
   of-numbered n [] j e h = absurd cc
-  of-numbered n (step ∷ steps) j e h = go (step.number == n) e (λ q. of-numbered n steps j q h.1)
+  of-numbered n (step ∷ steps) j e h = by_test (step.number == n) e (λ q. of-numbered n steps j q h.1)
     where
-      go : (b : Bool) → cond b (Some step.judgement) (judgement_numbered n steps) ≡ Some j → (judgement_numbered n steps ≡ Some j → P j) → P j
-      go true e later = subst P (some-is step.judgement j e) h.0
-      go false e later = later e
+      by_test : (b : Bool) → cond b (Some step.judgement) (judgement_numbered n steps) ≡ Some j → (judgement_numbered n steps ≡ Some j → P j) → P j
+      by_test true e later = subst P (some-is step.judgement j e) h.0
+      by_test false e later = later e
 
   of-cited : (earlier : List Step) (ns : List ℕ) (js : List Judgement) → Cites earlier ns js → OfSteps earlier → Of js
   of-cited earlier [] [] c h = tt
@@ -67,14 +67,14 @@ body-sorted ps f proved = of-proved (JudgementSorted ps) (λ name arguments js j
 
 each-named : (P : Procedure → Type 0) (fs : Procedures) → Each P fs → (name : List ℕ) (f : Procedure) → procedure_named name fs ≡ Some f → P f
 each-named P [] p name f e = absurd cc
-each-named P (g ∷ fs) p name f e = go (bytes_eq name g.name) e (each-named P fs p.1 name f)
+each-named P (g ∷ fs) p name f e = by_test (bytes_eq name g.name) e (each-named P fs p.1 name f)
   where
     same : Some g ≡ Some f → g ≡ f
     same q = cc
 
-    go : (b : Bool) → cond b (Some g) (procedure_named name fs) ≡ Some f → (procedure_named name fs ≡ Some f → P f) → P f
-    go true q rec = subst P (same q) p.0
-    go false q rec = rec q
+    by_test : (b : Bool) → cond b (Some g) (procedure_named name fs) ≡ Some f → (procedure_named name fs ≡ Some f → P f) → P f
+    by_test true q rec = subst P (same q) p.0
+    by_test false q rec = rec q
 
 accepted-bodies : (ps : Procedures) → Each IsProved ps → BodiesSorted ps
 accepted-bodies ps proved name f e = body-sorted ps f (each-named IsProved ps proved name f e)
