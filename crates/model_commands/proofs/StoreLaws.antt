@@ -21,11 +21,12 @@ pub joint-proper : (st : Store) (e : Environment) → ProperStore st → Proper 
 joint-proper st e p pr = record { programs = λ x s. p.fits (named x s); logics = pr.logics }
 
 -- and the store of one together is proper
-pub proper-store : (st : Store) (e : Environment) → Proper (with_store (lookup st) e) → ProperStore st
-proper-store st e pr = record { fits = λ y. go y }
+pub proper-store : (st : Store) (e : Environment) → Proper (with_store (lookup st) e)
+    → ProperStore st
+proper-store st e pr = record { fits = λ y. by_variable y }
   where
-    go : (y : ProgVar) → FitsValue (sort_of y) (value_in st y)
-    go (named x s) = pr.programs x s
+    by_variable : (y : ProgVar) → FitsValue (sort_of y) (value_in st y)
+    by_variable (named x s) = pr.programs x s
 
 -- one proper store may stand for another
 pub other-store : (st st' : Store) (e : Environment) → Proper (with_store (lookup st) e)

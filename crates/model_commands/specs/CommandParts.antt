@@ -1,5 +1,6 @@
--- What stands in a command: its commands in the order of the text, and what each has of its own; and
--- what stands in formulas and steps. File faults and the limit of variables are read off these lists.
+-- What stands in a command: its commands in the order of the text, and what each has of its own;
+-- and what stands in formulas and steps. File faults and the limit of variables are read off these
+-- lists.
 use Rattle.std.specs.Prelude.{List, [], ◌∷◌, ◌++◌, map}
 use Rattle.std.specs.List.{flat_map}
 use Rattle.model_terms.specs.Variables.{Var}

@@ -5,8 +5,8 @@ use Rattle.model_terms.specs.Stores.{ProgVar, as_var}
 use Rattle.model_commands.specs.Commands.{Among, Modifies}
 use Rattle.model_commands.specs.Theories.{Procedure}
 
--- The parameters are apart from the results and keep their values, the requires speaks of parameters
--- alone, and the ensures of parameters and results.
+-- The parameters are apart from the results and keep their values, the requires speaks of
+-- parameters alone, and the ensures of parameters and results.
 pub record IsScoped (f : Procedure) : Type 0 where
   pub apart : (x : ProgVar) → Among f.params x → Among f.results x → ⊥
   pub constant : (x : ProgVar) → Among f.params x → Modifies f.body x → ⊥

@@ -1,5 +1,5 @@
--- Tests of a command by itself: its parts have the right sorts and number, a procedure that it calls is
--- there, and the results of a call are apart.
+-- Tests of a command by itself: its parts have the right sorts and number, a procedure that it
+-- calls is there, and the results of a call are apart.
 use Rattle.std.specs.Prelude.{List, [], ◌∷◌, Bool, true, false, not, ◌&&◌, Option, Some, None, is_some}
 use Rattle.std.specs.List.{list_all, list_any, flat_map}
 use Rattle.model_shapes.specs.Tests.{same_value_sort}

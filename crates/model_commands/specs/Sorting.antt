@@ -1,5 +1,5 @@
--- Commands whose parts have the right sorts and number: what the conditions of a run's beginning and
--- of a step ask. A law says that the bodies of a well-formed theory are such commands.
+-- Commands whose parts have the right sorts and number: what the conditions of a run's beginning
+-- and of a step ask. A law says that the bodies of a well-formed theory are such commands.
 use Rattle.std.specs.Prelude.{◌≡◌, List, [], ◌∷◌, Option, Some, None}
 use Rattle.model_shapes.specs.Sorts.{node_sort, list_sort, int_sort, str_sort}
 use Rattle.model_shapes.specs.Values.{Name}

@@ -111,25 +111,30 @@ one-sort-computes a b e p q = node-first (either-true (both_have node_sort a b) 
         ⊎ ((both_have bool_sort a b || both_logic_of_one_sort a b) ≡ true)
         → (s : ValueSort) × Computes s a × Computes s b
     str-first (inl h) = both-compute str_sort a b h p q
-    str-first (inr h) = bool-first (either-true (both_have bool_sort a b) (both_logic_of_one_sort a b) h)
+    str-first (inr h) = bool-first (either-true (both_have bool_sort a b)
+        (both_logic_of_one_sort a b) h)
 
     int-first : (both_have int_sort a b ≡ true)
-        ⊎ ((both_have str_sort a b || (both_have bool_sort a b || both_logic_of_one_sort a b)) ≡ true)
+        ⊎ ((both_have str_sort a b || (both_have bool_sort a b || both_logic_of_one_sort a b))
+        ≡ true)
         → (s : ValueSort) × Computes s a × Computes s b
     int-first (inl h) = both-compute int_sort a b h p q
     int-first (inr h) =
-        str-first (either-true (both_have str_sort a b) (both_have bool_sort a b || both_logic_of_one_sort a b) h)
+        str-first (either-true (both_have str_sort a b)
+        (both_have bool_sort a b || both_logic_of_one_sort a b) h)
 
     list-first : (both_have list_sort a b ≡ true)
         ⊎ ((both_have int_sort a b
-        || (both_have str_sort a b || (both_have bool_sort a b || both_logic_of_one_sort a b))) ≡ true)
+        || (both_have str_sort a b || (both_have bool_sort a b || both_logic_of_one_sort a b)))
+        ≡ true)
         → (s : ValueSort) × Computes s a × Computes s b
     list-first (inl h) = both-compute list_sort a b h p q
     list-first (inr h) = int-first (either-true (both_have int_sort a b) _ h)
 
     node-first : (both_have node_sort a b ≡ true)
         ⊎ ((both_have list_sort a b || (both_have int_sort a b
-        || (both_have str_sort a b || (both_have bool_sort a b || both_logic_of_one_sort a b)))) ≡ true)
+        || (both_have str_sort a b || (both_have bool_sort a b || both_logic_of_one_sort a b))))
+        ≡ true)
         → (s : ValueSort) × Computes s a × Computes s b
     node-first (inl h) = both-compute node_sort a b h p q
     node-first (inr h) = list-first (either-true (both_have list_sort a b) _ h)
@@ -323,8 +328,7 @@ module _ (th : Procedures) where
     sorted-command (local x b) k = sorted-block b (rest-checked (local x b) (commands_of b) k)
     sorted-command (call results name arguments) k =
         let c : Passes (call results name arguments) =
-        first-checked (call results name arguments) [] k in
-        (
+        first-checked (call results name arguments) [] k in (
           call-fits (procedure_named name th) results arguments c.known c.fitting,
           apart-distinct results (both_true (distinct_by same_name results) (list_all
               (λ x. not (stands_in (flat_map variables_of_term arguments) x)) results) c.apart).0,

@@ -136,12 +136,12 @@ raised-itself (bound i u) n s e = absurd (cc)
 named-itself : (ys : List Var) (y : Var) (n : List ℕ) (s : ValueSort) → names ys y ≡ prog n s
     → y ≡ prog n s
 named-itself [] y n s e = e
-named-itself (z ∷ ys) y n s e = go (var_eq y z) e (named-itself ys y n s)
+named-itself (z ∷ ys) y n s e = by_decision (var_eq y z) e (named-itself ys y n s)
   where
-    go : (d : Dec (y ≡ z)) → name_or (names ys y) d ≡ prog n s
+    by_decision : (d : Dec (y ≡ z)) → name_or (names ys y) d ≡ prog n s
         → (names ys y ≡ prog n s → y ≡ prog n s) → y ≡ prog n s
-    go (yes q) e rec = absurd (cc)
-    go (no m) e rec = rec (raised-itself (names ys y) n s e)
+    by_decision (yes q) e rec = absurd (cc)
+    by_decision (no m) e rec = rec (raised-itself (names ys y) n s e)
 
 var-stands : (y : Var) (n : List ℕ) (s : ValueSort) → y ≡ prog n s
     → stands_in (y ∷ []) (named n s) ≡ true
@@ -260,17 +260,17 @@ only-stands : (allowed : List ProgVar) (vars : List Var) (x : ProgVar)
     → only_among allowed vars ≡ true → stands_in vars x ≡ true → is_among allowed x ≡ true
 only-stands allowed [] x e m = false≢true m
 only-stands allowed (prog n s ∷ rest) x e m =
-    go (same_name x (named n s)) refl m (only-stands allowed rest x)
+    by_test (same_name x (named n s)) refl m (only-stands allowed rest x)
   where
     tests : (is_among allowed (named n s) ≡ true) × (only_among allowed rest ≡ true)
     tests = both_true (is_among allowed (named n s)) (only_among allowed rest) e
 
-    go : (b : Bool) → same_name x (named n s) ≡ b → (b || stands_in rest x) ≡ true
+    by_test : (b : Bool) → same_name x (named n s) ≡ b → (b || stands_in rest x) ≡ true
         → (only_among allowed rest ≡ true → stands_in rest x ≡ true → is_among allowed x ≡ true)
         → is_among allowed x ≡ true
-    go true q m rec =
+    by_test true q m rec =
         subst (λ z. is_among allowed z ≡ true) (sym (same_name-is x (named n s) q)) tests.0
-    go false q m rec = rec tests.1 m
+    by_test false q m rec = rec tests.1 m
 only-stands allowed (logic n s ∷ rest) (named k u) e m = only-stands allowed rest (named k u) e m
 only-stands allowed (bound i s ∷ rest) (named k u) e m = only-stands allowed rest (named k u) e m
 
@@ -284,9 +284,9 @@ only-free allowed p e (named n s) free =
 -- what the test says is among them
 pub test-among : (xs : List ProgVar) (x : ProgVar) → is_among xs x ≡ true → Among xs x
 test-among [] x e = false≢true e
-test-among (z ∷ xs) x e = go (same_name x z) refl e (test-among xs x)
+test-among (z ∷ xs) x e = by_test (same_name x z) refl e (test-among xs x)
   where
-    go : (b : Bool) → same_name x z ≡ b → (b || is_among xs x) ≡ true
+    by_test : (b : Bool) → same_name x z ≡ b → (b || is_among xs x) ≡ true
         → (is_among xs x ≡ true → Among xs x) → (x ≡ z) ⊎ Among xs x
-    go true q t rec = inl (same_name-is x z q)
-    go false q t rec = inr (rec t)
+    by_test true q t rec = inl (same_name-is x z q)
+    by_test false q t rec = inr (rec t)

@@ -39,7 +39,8 @@ module _ (theory : Theory) where
 
   -- a procedure that is found by its name is one of those that were tested
   found-head : (earlier : List (ProcedureOf Named)) (n : ℕ) (ps : List (ProcedureOf Named))
-      → first_fault_at (procedures_from theory earlier n ps) ≡ None → (name : List ℕ) (f : Procedure)
+      → first_fault_at (procedures_from theory earlier n ps) ≡ None
+      → (name : List ℕ) (f : Procedure)
       → procedure_named name (map nameless_procedure ps) ≡ Some f → Head f
   found-head earlier n [] e name f q = absurd (cc)
   found-head earlier n (p ∷ ps) e name f q =

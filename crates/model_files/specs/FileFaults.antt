@@ -25,8 +25,8 @@ abbrev pub kinds : List FileKind
 kinds = version_kind ∷ twice_kind ∷ unknown_kind ∷ sort_kind ∷ constant_kind ∷ results_kind
     ∷ scope_kind ∷ rule_kind ∷ number_kind ∷ []
 
--- a place and its kind. Procedures are counted from 1, and so are steps; step 0 is the header with the
--- body, and procedure 0 with step 0 is the version with the logic declarations
+-- a place and its kind. Procedures are counted from 1, and so are steps; step 0 is the header with
+-- the body, and procedure 0 with step 0 is the version with the logic declarations
 pub record FileFault : Type 0 where
   pub procedure : ℕ
   pub step : ℕ

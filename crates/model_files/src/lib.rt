@@ -1,6 +1,6 @@
-//! The definitions of what is at fault in a file, with no Rust data. Promises that well-formed theories
-//! are those that the machine can run: its law is a function here, with an empty body. Stands on
-//! model_commands.
+//! The definitions of what is at fault in a file, with no Rust data. Promises that well-formed
+//! theories are those that the machine can run: its law is a function here, with an empty body.
+//! Stands on model_commands.
 #![tactic(auto)]
 
 ghost use Rattle.std.specs.Prelude.{◌≡◌, ℕ, List, Some, None};

@@ -94,8 +94,8 @@ pub fn no_outcome_is_a_bad_pick()
         (config : Config) → outcome limits ps results fuel taken config ≡ no_pick → ⊥ }
 {}
 
-/// Behind each outcome within the fuel there is a run of as many steps; behind a limit that would be
-/// passed, one that is still running.
+/// Behind each outcome within the fuel there is a run of as many steps; behind a limit that would
+/// be passed, one that is still running.
 pub fn outcomes_are_runs()
     ensures { (limits : Limits) (ps : Procedures) (results : List ProgVar) (fuel taken : ℕ)
         (config : Config)

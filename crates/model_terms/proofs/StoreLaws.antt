@@ -18,17 +18,17 @@ same_name-refl x = same_var-refl (as_var x)
 
 -- and it denies it of different ones
 pub same_name-not : (x y : ProgVar) → x ≢ y → same_name x y ≡ false
-same_name-not x y n = go (same_name x y) refl
+same_name-not x y n = by_test (same_name x y) refl
   where
-    go : (b : Bool) → same_name x y ≡ b → same_name x y ≡ false
-    go true e = absurd (n (same_name-is x y e))
-    go false e = e
+    by_test : (b : Bool) → same_name x y ≡ b → same_name x y ≡ false
+    by_test true e = absurd (n (same_name-is x y e))
+    by_test false e = e
 
 -- what a store gives after one variable is set
 pub value_in-set : (x : ProgVar) (v : Value) (st : Store) (y : ProgVar)
     → value_in (set x v st) y ≡ cond (same_name y x) v (value_in st y)
 value_in-set x v unset y = refl
-value_in-set x v (holding z w st) y = go (same_name x z) refl (value_in-set x v st y)
+value_in-set x v (holding z w st) y = by_test (same_name x z) refl (value_in-set x v st y)
   where
     twice : (b : Bool) (u : Value) → cond b v u ≡ cond b v (cond b w u)
     twice true u = refl
@@ -41,15 +41,15 @@ value_in-set x v (holding z w st) y = go (same_name x z) refl (value_in-set x v 
     swap false true u n = refl
     swap false false u n = refl
 
-    go : (b : Bool) → same_name x z ≡ b
+    by_test : (b : Bool) → same_name x z ≡ b
         → value_in (set x v st) y ≡ cond (same_name y x) v (value_in st y)
         → value_in (cond b (holding z v st) (holding z w (set x v st))) y
         ≡ cond (same_name y x) v (cond (same_name y z) w (value_in st y))
-    go true e ih =
+    by_test true e ih =
         subst (λ q. cond (same_name y z) v (value_in st y)
         ≡ cond (same_name y q) v (cond (same_name y z) w (value_in st y)))
         (sym (same_name-is x z e)) (twice (same_name y z) (value_in st y))
-    go false e ih = ap (λ q. cond (same_name y z) w q) ih
+    by_test false e ih = ap (λ q. cond (same_name y z) w q) ih
         ∙ swap (same_name y z) (same_name y x) (value_in st y)
         (λ a b. differ (same_name-is y z a) (same_name-is y x b))
       where
@@ -86,13 +86,13 @@ pub set-proper : (x : ProgVar) (v : Value) (st : Store) → FitsValue (sort_of x
 set-proper x v st f p =
     record {
       fits = λ y. subst (FitsValue (sort_of y)) (sym (value_in-set x v st y))
-          (go y (same_name y x) refl);
+          (by_variable y (same_name y x) refl);
     }
   where
-    go : (y : ProgVar) (b : Bool) → same_name y x ≡ b
+    by_variable : (y : ProgVar) (b : Bool) → same_name y x ≡ b
         → FitsValue (sort_of y) (cond b v (value_in st y))
-    go y true e = subst (λ z. FitsValue (sort_of z) v) (sym (same_name-is y x e)) f
-    go y false e = p.fits y
+    by_variable y true e = subst (λ z. FitsValue (sort_of z) v) (sym (same_name-is y x e)) f
+    by_variable y false e = p.fits y
 
 -- terms
 pub value-fits : (s : ValueSort) (t : Term) (st : Store) → Computes s t → ProperStore st

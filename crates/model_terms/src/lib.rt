@@ -1,6 +1,6 @@
-//! The definitions of variables, terms, stores and conditions, and of the limits of values, with no Rust
-//! data. Promises that stores are maps: its law is a function here, with an empty body.
-//! Stands on model_shapes and model_limits.
+//! The definitions of variables, terms, stores and conditions, and of the limits of values, with no
+//! Rust data. Promises that stores are maps: its law is a function here, with an empty body. Stands
+//! on model_shapes and model_limits.
 #![tactic(auto)]
 
 ghost use Rattle.std.specs.Prelude.{◌≡◌, ◌≢◌};
