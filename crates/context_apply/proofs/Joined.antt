@@ -1,12 +1,10 @@
 -- The trees of forests, one after another.
-use Rattle.std.proofs.Common.{◌≡◌, List, [], ◌∷◌, ◌++◌, map, length, sym, refl, ap, arith, ◌∙◌, subst, Some}
+use Rattle.std.proofs.Common.{◌≡◌, List, [], ◌∷◌, ◌++◌, length, sym, refl, ap, arith, ◌∙◌, Some}
 use Rattle.std.specs.Prelude.{slice_get}
-use Rattle.model_shapes.specs.Trees.{Trees, none, beside, width}
-use Rattle.model_shapes.specs.Shapes.{holes}
-use Rattle.model_shapes.proofs.Basics.{beside_assoc, beside-none, holes-beside, width-beside}
-use Rattle.grove_data.specs.Trees.{tree_of, forest_of, tree_step}
+use Rattle.model_shapes.specs.Trees.{none, beside, width}
+use Rattle.model_shapes.proofs.Basics.{beside_assoc, beside-none, width-beside}
+use Rattle.grove_data.specs.Trees.{tree_of, forest_of}
 use Rattle.grove_data.specs.declared.trees.Tree.{Tree}
-use Rattle.grove_data.specs.declared.trees.Tree.TheFolds.{fold-roll-Tree, ind-Tree}
 use Rattle.grove_data.proofs.Walks.{tree_is}
 
 -- two forests in a row

@@ -1,13 +1,11 @@
 -- Each context of the program is a plain one with one hole, and each piece a plain one with none.
-use Rattle.std.proofs.Common.{◌≡◌, List, sym, refl, arith, true, subst}
-use Rattle.model_shapes.specs.Sorts.{DataSort, tree, forest, grove}
-use Rattle.model_shapes.specs.Trees.{Trees, beside, fill, width}
-use Rattle.model_shapes.specs.Shapes.{holes, root_holes, OneHole, HasWidth, may_stand}
+use Rattle.std.proofs.Common.{◌≡◌, List, sym, refl, subst}
+use Rattle.model_shapes.specs.Sorts.{DataSort}
+use Rattle.model_shapes.specs.Trees.{Trees, fill, width}
+use Rattle.model_shapes.specs.Shapes.{holes, OneHole, HasWidth}
 use Rattle.model_shapes.specs.Contexts as model
-use Rattle.model_shapes.proofs.Basics.{holes-beside}
-use Rattle.model_shapes.proofs.Shapes.{root_holes-le}
 use Rattle.model_shapes.proofs.Filling.{fill-width}
-use Rattle.model_shapes.proofs.ByConstruction.{tree-holes, forest-holes, tree-stands, forest-stands}
+use Rattle.model_shapes.proofs.ByConstruction.{tree-hole, forest-hole, grove-hole}
 use Rattle.grove_data.specs.Trees.{forest_of}
 use Rattle.grove_data.specs.declared.trees.Tree.{Tree}
 use Rattle.context_apply.specs.declared.contexts.TreeContext.{TreeContext}
@@ -34,45 +32,6 @@ mutual
   inner-context-bare : (x : ForestInner) → model.InnerBare (forest_inner_of x)
   inner-context-bare i.Hole = tt
   inner-context-bare (i.One inside) = tree-context-bare inside
-
--- a context of a tree has one hole, which may stand there
-tree-hole : (x : model.TreeContext) → model.TreeBare x
-    → OneHole (model.tree_hole_sort x) tree (model.tree_thing x)
-tree-hole model.tree_hole b = record { one = refl; at_root = λ z. refl; below = λ z. refl }
-tree-hole (model.around_node s n f l) b = record {
-  one = tree-holes (model.around_node s n f l) b;
-  at_root = λ z. absurd (omega (arith, z));
-  below = λ z. forest-stands f;
-}
-
--- a context of a forest too
-forest-hole : (x : model.ForestContext) → model.ForestBare x
-    → OneHole (model.forest_hole_sort x) forest (model.forest_thing x)
-forest-hole x b = record {
-  one = forest-holes x b;
-  at_root = λ z. forest-stands x;
-  below = λ z. forest-stands x;
-}
-
-root-hole : (x : model.TreeContext) (rest : Trees) → holes rest ≡ 0
-    → root_holes (beside (model.tree_thing x) rest) ≡ 1
-    → may_stand (model.tree_hole_sort x) grove ≡ true
-root-hole model.tree_hole rest b z = refl
-root-hole (model.around_node s n f l) rest b z = absurd (omega (arith, z, root_holes-le rest))
-
--- and a context of a grove
-grove-hole : (x : model.GroveContext) → model.GroveBare x
-    → OneHole (model.grove_hole_sort x) grove (model.grove_thing x)
-grove-hole (model.grove_hole rest) b = record {
-  one = omega (arith, b);
-  at_root = λ z. refl;
-  below = λ z. absurd (omega (arith, z));
-}
-grove-hole (model.root_context x rest) b = record {
-  one = omega (arith, holes-beside (model.tree_thing x) rest, tree-holes x b.0, b.1);
-  at_root = λ z. root-hole x rest b.1 z;
-  below = λ z. tree-stands x;
-}
 
 grove-context-bare : (inner : GroveInner) (rest : List Tree)
     → model.GroveBare (with_rest (grove_inner_of inner) (forest_of rest))
