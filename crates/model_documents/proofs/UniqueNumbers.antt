@@ -2,7 +2,7 @@
 use Rattle.std.proofs.Common.{◌≡◌, ℕ, ◌≤◌, ◌+◌, Bool, true, false, not, ◌||◌, cond, List, [], ◌∷◌, Some, None, refl, sym, ap, ◌∙◌, subst, arith}
 use Rattle.std.specs.List.{list_any, find}
 use Rattle.model_shapes.specs.Trees.{Trees, none, node, hole, WellFormed}
-use Rattle.model_documents.proofs.Counting.{bit, count, count-append, uses, bit-one_if, counted, same-itself, same-is}
+use Rattle.model_documents.proofs.Counting.{bit, count, count-append, uses, bit-decided, counted, same-itself, same-is}
 use Rattle.model_documents.specs.Numbers.{Numbered, node_numbered, list_numbered, same_numbered, numbers_written, is_in_range, first_out_of_range, numbers_in, first_repeat_behind, first_repeat}
 
 -- and so it is in the order of the text
@@ -10,7 +10,7 @@ counted-written : (q : Numbered) (g : Trees) → count q (numbers_written g) ≡
 counted-written (node_numbered n) none = refl
 counted-written (node_numbered n) (node s i k l r) = omega (
   arith,
-  bit-one_if n i,
+  bit-decided n i,
   count-append (node_numbered n) (numbers_written k) (list_numbered l ∷ numbers_written r),
   counted-written (node_numbered n) k,
   counted-written (node_numbered n) r,
@@ -19,7 +19,7 @@ counted-written (node_numbered n) (hole r) = counted-written (node_numbered n) r
 counted-written (list_numbered n) none = refl
 counted-written (list_numbered n) (node s i k l r) = omega (
   arith,
-  bit-one_if n l,
+  bit-decided n l,
   count-append (list_numbered n) (numbers_written k) (list_numbered l ∷ numbers_written r),
   counted-written (list_numbered n) k,
   counted-written (list_numbered n) r,
