@@ -24,14 +24,16 @@ use Rattle.dom_meaning.proofs.Bodies.{body-sorted}
 module _ (theory : Theory) (place : ℕ) (started : Procedure) (values : List Value) (roots : Trees)
     (config : Config) (well_formed : IsWellFormedTheory (theory_of theory))
     (is : slice_get theory.procedures place ≡ Some started)
-    (arguments : ValuesFit (procedure_of started).params values) (shaped : Shaped (shape grove) roots)
+    (arguments : ValuesFit (procedure_of started).params values)
+    (shaped : Shaped (shape grove) roots)
     (begins : Begins (procedure_of started) values roots config) where
   -- it fits the procedures of the theory
   pub begun_fits : FitsConfig (procedures_of (theory_of theory)) (config_of config)
   begun_fits =
       subst (FitsConfig (procedures_of (theory_of theory))) (sym begins.configuration)
-      (start-fits (procedures_of (theory_of theory)) (nameless_procedure (procedure_of started)) values roots
-      (body-sorted (theory_of theory) theory.procedures place started refl well_formed is) arguments shaped)
+      (start-fits (procedures_of (theory_of theory)) (nameless_procedure (procedure_of started))
+      values roots (body-sorted (theory_of theory) theory.procedures place started refl well_formed is)
+      arguments shaped)
 
   -- and the machine runs it, where the body is built
   pub begun_runs : (other : Procedure) → slice_get theory.procedures place ≡ Some other

@@ -29,8 +29,10 @@ module _ (theory : Theory) where
       × (procedure_named f.name (map nameless_procedure (map procedure_of ps))
       ≡ Some (nameless_procedure (procedure_of f)))
 
-  found : (earlier : List (ProcedureOf Named)) (n : ℕ) (ps : List Procedure) (place : ℕ) (f : Procedure)
-      → first_fault_at (procedures_from theory earlier n (map procedure_of ps)) ≡ None → slice_get ps place ≡ Some f
+  found : (earlier : List (ProcedureOf Named)) (n : ℕ) (ps : List Procedure) (place : ℕ)
+      (f : Procedure)
+      → first_fault_at (procedures_from theory earlier n (map procedure_of ps)) ≡ None
+      → slice_get ps place ≡ Some f
       → Found earlier ps f
   found earlier n [] place f e is = absurd cc
   found earlier n (p ∷ ps) zero f e is =
@@ -51,7 +53,8 @@ module _ (theory : Theory) where
       ++ procedures_from theory (procedure_of p ∷ earlier) (n + 1) (map procedure_of ps)) e in
       let b = both-none (steps_from theory n (procedure_of p) 1 (procedure_of p).proof) _ a.1 in
       let r = found (procedure_of p ∷ earlier) (n + 1) ps place f b.1 is in
-      let h = either-false (bytes_eq f.name p.name) (list_any (λ g. bytes_eq f.name g.name) earlier) r.0 in (
+      let h = either-false (bytes_eq f.name p.name)
+      (list_any (λ g. bytes_eq f.name g.name) earlier) r.0 in (
         h.1,
         ap (λ b. cond b (Some (nameless_procedure (procedure_of p)))
             (procedure_named f.name (map nameless_procedure (map procedure_of ps)))) h.0 ∙ r.1,

@@ -46,7 +46,8 @@ module _ (ps : Procedures) (config : Config) (piece : Pending)
   piece_fits = first-fits ps (config_of config) (piece_of piece) (pieces_in others) first
 
   pub piece_limit : limit_ahead standard_limits (config_of config)
-      ≡ step_limit standard_limits (piece_of piece) (pieces_in others) (store_of config.store) (forest_of config.grove)
+      ≡ step_limit standard_limits (piece_of piece) (pieces_in others) (store_of config.store)
+      (forest_of config.grove)
   piece_limit = first-limit ps (config_of config) (piece_of piece) (pieces_in others) first
 
   -- the step, by the move of the piece

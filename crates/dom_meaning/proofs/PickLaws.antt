@@ -63,14 +63,16 @@ has-root : (t : Tree) → 0 < width (tree_of t)
 has-root t = subst (λ z. 0 < width z) (sym (tree_is t)) (omega arith)
 
 pub node_is_used : (found : Option (Bor Tree)) (n : ℕ) (g : Trees)
-    → MatchOption (option_copied found) (node_at (node_number n) g ≡ none) (λ t. node_at (node_number n) g ≡ tree_of t)
+    → MatchOption (option_copied found) (node_at (node_number n) g ≡ none)
+    (λ t. node_at (node_number n) g ≡ tree_of t)
     → is_some found ≡ positive (node_uses n g)
 node_is_used None n g e = ap positive (sym (node-unused n g e))
 node_is_used (Some t) n g e =
     in-use (node_uses n g) (omega (arith, width-numbered n g, has-root t.now, ap width e))
 
 pub list_is_used : (found : Option (Bor Tree)) (n : ℕ) (g : Trees)
-    → MatchOption (option_copied found) (list_at (list_number n) g ≡ none) (λ t. list_at (list_number n) g ≡ tree_of t)
+    → MatchOption (option_copied found) (list_at (list_number n) g ≡ none)
+    (λ t. list_at (list_number n) g ≡ tree_of t)
     → is_some found ≡ positive (list_uses n g)
 list_is_used None n g e = ap positive (sym (list-unused n g e))
 list_is_used (Some t) n g e =

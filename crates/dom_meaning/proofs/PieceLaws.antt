@@ -1,6 +1,7 @@
 -- Pieces that are kept with the first one last.
 use Rattle.std.proofs.Common.{◌≡◌, ◌<◌, ◌-◌, ◌+◌, List, [], ◌∷◌, ◌++◌, map, length, take, Bor, Some, refl, sym, ap, ◌∙◌, arith}
 use Rattle.std.specs.Prelude.{reverse, slice_get}
+use mathlib.Core.List.{map-map}
 use Rattle.std.proofs.lemmas.List.{map-append, reverse-append, reverse-reverse, map_push, take_all, take_more}
 use Rattle.std.proofs.lemmas.Option.{slice_get_within, get_or_from_slice_get}
 use Rattle.model_machine.specs.Machine.{Piece, run, pieces_of}
@@ -26,10 +27,6 @@ as_piece command = run (command_of command)
 block-pieces : (block : List Command) → map as_piece block ≡ pieces_of (block_of block)
 block-pieces [] = refl
 block-pieces (c ∷ block) = ap (λ z. as_piece c ∷ z) (block-pieces block)
-
-map-map : {A B C : Type 0} (g : B → C) (f : A → B) (xs : List A) → map g (map f xs) ≡ map (λ x. g (f x)) xs
-map-map g f [] = refl
-map-map g f (x ∷ xs) = ap (λ z. g (f x) ∷ z) (map-map g f xs)
 
 -- pieces made from the last command on
 pub in_order : (block : List Command) (yielded : List (Bor Command)) (pieces : List Pending)

@@ -115,18 +115,3 @@ module _ (ps : Procedures) (rs : List ProgVar) where
             by_pick (inl h) = absurd (next-steps ps here (sym (q ∙ h.1)))
             by_pick (inr h) = λ i.
                 within (or_else (b i) (h.0 i)) (after here (step ps here (next_pick c.grove)))
-
-    -- a limit comes before the step
-    pub passes : (c : Config) (kind : LimitKind) → limit_ahead standard_limits c ≡ Some kind
-        → outcome standard_limits ps rs (suc fuel) taken c ≡ passes_limit kind
-    passes c kind a = by_pending c.pending a
-      where
-        by_pending : (k : List Piece)
-            → limit_ahead standard_limits (configuration k c.store c.grove) ≡ Some kind
-            → outcome standard_limits ps rs (suc fuel) taken (configuration k c.store c.grove)
-            ≡ passes_limit kind
-        by_pending [] b = absurd cc
-        by_pending (x ∷ k) b = λ i.
-            let here = configuration (x ∷ k) c.store c.grove in
-            within (or_else (b i) (pick_limit standard_limits here))
-            (after here (step ps here (next_pick c.grove)))

@@ -1,6 +1,7 @@
 -- What a step of the machine does to what it runs.
 use Rattle.std.proofs.Common.{◌≡◌, Bool, true, false, ◌&&◌, cond, List, [], ◌∷◌, ◌++◌, refl, sym, ap, ◌∙◌, subst, ℕ}
 use Rattle.std.specs.List.{list_all}
+use Rattle.std.proofs.lemmas.List.Folds.{list_all-append}
 use Rattle.model_shapes.specs.Trees.{Trees, none, node, hole}
 use Rattle.model_shapes.specs.Values.{Value}
 use Rattle.model_shapes.proofs.Truth.{false≢true, both_true}
@@ -23,12 +24,9 @@ use Rattle.dom_meaning.specs.Built.{is_built_kind, is_built, is_built_piece, IsR
 join : (a b : Bool) → a ≡ true → b ≡ true → (a && b) ≡ true
 join a b e f = λ i. e i && f i
 
-all-join : {A : Type 0} (p : A → Bool) (xs ys : List A) → list_all p xs ≡ true → list_all p ys ≡ true
-    → list_all p (xs ++ ys) ≡ true
-all-join p [] ys a b = b
-all-join p (x ∷ xs) ys a b =
-    let h = both_true (p x) (list_all p xs) a in
-    join (p x) (list_all p (xs ++ ys)) h.0 (all-join p xs ys h.1 b)
+all-join : {A : Type 0} (p : A → Bool) (xs ys : List A) → list_all p xs ≡ true
+    → list_all p ys ≡ true → list_all p (xs ++ ys) ≡ true
+all-join p xs ys a b = list_all-append p xs ys ∙ join (list_all p xs) (list_all p ys) a b
 
 -- the commands of a block that is built
 built-block : (b : Block) → list_all is_built_kind (commands_of b) ≡ true
@@ -99,7 +97,8 @@ built-step ps pick (piece ∷ rest) store grove after b e =
     (built-move ps pick piece store grove h.0) h.1 e
 
 -- the first of them is
-pub built-first : (pending : List Piece) (piece : Piece) (rest : List Piece) → pending ≡ piece ∷ rest
+pub built-first : (pending : List Piece) (piece : Piece) (rest : List Piece)
+    → pending ≡ piece ∷ rest
     → list_all is_built_piece pending ≡ true → is_built_piece piece ≡ true
 built-first pending piece rest first built =
     (both_true (is_built_piece piece) (list_all is_built_piece rest)

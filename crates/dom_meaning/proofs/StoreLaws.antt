@@ -32,6 +32,7 @@ absent_default x (holding y w store) e = by_test (same_name x y) e (absent_defau
 
 -- the values, one by one
 pub values_are : (xs : List declared.ProgVar) (store : Store)
-    → values_in (map prog_var_of xs) store ≡ map (λ (x : declared.ProgVar). value_in store (prog_var_of x)) xs
+    → values_in (map prog_var_of xs) store
+    ≡ map (λ (x : declared.ProgVar). value_in store (prog_var_of x)) xs
 values_are [] store = refl
 values_are (x ∷ xs) store = ap (λ z. value_in store (prog_var_of x) ∷ z) (values_are xs store)

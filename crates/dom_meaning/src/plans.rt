@@ -94,7 +94,8 @@ fn command_planned(
     pick: (u32, u32),
 ) -> Result<Plan, StepFault>
     requires built { is_built_piece (run (command_of command.now)) ≡ true }
-    requires fits { (procedures : Procedures) × FitsPiece procedures (run (command_of command.now)) }
+    requires fits { (procedures : Procedures)
+        × FitsPiece procedures (run (command_of command.now)) }
     requires well_formed { WellFormed (forest_of grove.now) }
     ensures plan { IfOk result (λ plan. (procedures : Procedures)
         → move_of plan (store_of store.now) (forest_of grove.now)

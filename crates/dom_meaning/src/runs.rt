@@ -50,16 +50,16 @@ pub enum Outcome {
     OutOfMemory,
 }
 
-/// Runs the configuration for at most `fuel` steps. A new node takes one more than the greatest node
-/// number, and one more than the greatest list number, of the grove. Before each step it is asked, in
-/// this order, whether nothing is pending, whether the fuel is spent, and whether a limit is passed:
-/// Number or Text of the terms of the first piece, then Nodes, then Identifier.
+/// Runs the configuration for at most `fuel` steps. A new node takes one more than the greatest
+/// node number, and one more than the greatest list number, of the grove. Before each step it is
+/// asked, in this order, whether nothing is pending, whether the fuel is spent, and whether a limit
+/// is passed: Number or Text of the terms of the first piece, then Nodes, then Identifier.
 pub fn run_plain(alloc: Global, theory: &Theory, config: Config, fuel: u32) -> Outcome
     requires well_formed { IsWellFormedTheory (theory_of theory.now) }
     requires runnable { IsRunnable (procedures_of (theory_of theory.now)) (config_of config) }
-    ensures outcome { IsOutcome (map prog_var_of config.results) fuel result
-        (outcome standard_limits (procedures_of (theory_of theory.now)) (map prog_var_of config.results)
-        fuel 0 (config_of config)) }
+    ensures outcome { let results = map prog_var_of config.results in
+        IsOutcome results fuel result (outcome standard_limits
+        (procedures_of (theory_of theory.now)) results fuel 0 (config_of config)) }
     ensures spent { IfSpent result (IsRunnable (procedures_of (theory_of theory.now))) }
 {
     let mut config = config;

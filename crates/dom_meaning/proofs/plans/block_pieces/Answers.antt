@@ -5,7 +5,7 @@ use Rattle.dom_meaning.proofs.plans.block_pieces.Goals as goal
 
 pub returns : goal.returns
 returns c =
-    let all = YieldsList-end (YieldsList-from_rev_slice c.args.block.now cc) c.loop-command.yielded _
-    c.loop-command.yielded_by _ _ c.in-None.is c.next.ensures.steps in
+    let all = YieldsList-end (YieldsList-from_rev_slice c.args.block.now cc)
+    c.loop-command.yielded _ c.loop-command.yielded_by _ _ c.in-None.is c.next.ensures.steps in
     in_order c.args.block.now c.loop-command.yielded c.loop-command.pieces all.0
     c.loop-command.invariant

@@ -18,6 +18,8 @@ returns-in-Create-clause-limit c = λ rest.
     let is : command_of c.args.command.now
     ≡ create_node (prog_var_of c.in-Create.variable) (term_of c.in-Create.name) =
     ap command_of (c.in-Create.is ∙ sym (rolls-Create c.in-Create.variable c.in-Create.name))
-    ∙ fold-roll-Command Command command_step (Command-F.Create c.in-Create.variable c.in-Create.name) in
+    ∙ fold-roll-Command Command command_step
+    (Command-F.Create c.in-Create.variable c.in-Create.name) in
     subst (λ (z : Command). TellsLimit c.created.result (step_limit standard_limits (run z) rest
-    (store_of c.args.store.now) (forest_of c.args.grove.now))) (sym is) (c.created.ensures.limit rest)
+    (store_of c.args.store.now) (forest_of c.args.grove.now))) (sym is)
+    (c.created.ensures.limit rest)

@@ -16,12 +16,15 @@ returns-in-Err-clause-outcome c =
     let config = config_of c.loop-steps.config in
     let left = c.args.fuel - suc c.loop-steps.steps in
     let less : suc left ≡ c.args.fuel - c.loop-steps.steps = omega arith in
-    let of_results = subst (λ (z : List ProgVar). IsOutcome (map prog_var_of z) c.args.fuel c.in-Err.outcome
-    (outcome standard_limits ps (map prog_var_of z) (suc left) c.loop-steps.steps config)) c.loop-steps.invariant.results
+    let of_results = subst (λ (z : List ProgVar).
+    IsOutcome (map prog_var_of z) c.args.fuel c.in-Err.outcome
+    (outcome standard_limits ps (map prog_var_of z) (suc left) c.loop-steps.steps config))
+    c.loop-steps.invariant.results
     (c.in-Err.ensures.outcome left c.args.fuel) in
     let of_fuel = subst (λ (n : ℕ). IsOutcome rs c.args.fuel c.in-Err.outcome
     (outcome standard_limits ps rs n c.loop-steps.steps config)) less of_results in
-    subst (λ (z : Outcome). IsOutcome rs c.args.fuel c.in-Err.outcome z) (sym c.loop-steps.invariant.same) of_fuel
+    subst (λ (z : Outcome). IsOutcome rs c.args.fuel c.in-Err.outcome z)
+    (sym c.loop-steps.invariant.same) of_fuel
 
 pub loop-steps-preserved : goal.loop-steps-preserved
 loop-steps-preserved c =

@@ -12,8 +12,8 @@ abbrev pub invariant-loop-steps : goal.invariant-loop-steps
 invariant-loop-steps l = record {
   runnable : IsRunnable (procedures_of (theory_of l.theory)) (config_of l.config);
   results : l.config.results ≡ l.fn.config.results;
-  same : outcome standard_limits (procedures_of (theory_of l.theory)) (map prog_var_of l.fn.config.results)
-      l.fuel 0 (config_of l.fn.config)
+  same : outcome standard_limits (procedures_of (theory_of l.theory))
+      (map prog_var_of l.fn.config.results) l.fuel 0 (config_of l.fn.config)
       ≡ outcome standard_limits (procedures_of (theory_of l.theory))
       (map prog_var_of l.fn.config.results) (l.fuel - l.steps) l.steps (config_of l.config);
 }

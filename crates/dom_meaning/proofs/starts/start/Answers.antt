@@ -10,15 +10,15 @@ returns-clause-fits c =
     let started = c.in-Some.started.now in
     let is = sym c.in-Some.ensures.item in
     IfOk-weaker c.begun.result _ _
-    (λ config begins. begun_fits c.args.theory.now c.args.procedure started (map value_seen c.args.arguments)
-    (forest_of c.args.grove) config c.requires.well_formed is (c.requires.arguments started is)
-    c.requires.grove begins) c.begun.ensures
+    (λ config begins. begun_fits c.args.theory.now c.args.procedure started
+    (map value_seen c.args.arguments) (forest_of c.args.grove) config c.requires.well_formed is
+    (c.requires.arguments started is) c.requires.grove begins) c.begun.ensures
 
 pub returns-clause-runnable : goal.returns-clause-runnable
 returns-clause-runnable c =
     let started = c.in-Some.started.now in
     let is = sym c.in-Some.ensures.item in
     IfOk-weaker c.begun.result _ _
-    (λ config begins. begun_runs c.args.theory.now c.args.procedure started (map value_seen c.args.arguments)
-    (forest_of c.args.grove) config c.requires.well_formed is (c.requires.arguments started is)
-    c.requires.grove begins) c.begun.ensures
+    (λ config begins. begun_runs c.args.theory.now c.args.procedure started
+    (map value_seen c.args.arguments) (forest_of c.args.grove) config c.requires.well_formed is
+    (c.requires.arguments started is) c.requires.grove begins) c.begun.ensures

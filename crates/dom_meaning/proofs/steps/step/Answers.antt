@@ -14,8 +14,8 @@ use Rattle.dom_meaning.proofs.steps.step.Goals as goal
 
 pub planned-requires-clause-built : goal.planned-requires-clause-built
 planned-requires-clause-built c =
-    piece_is_built (procedures_of (theory_of c.args.theory.now)) c.args.config.now c.in-Some.piece.now
-    c.in-Some.ensures.item c.requires.runnable
+    piece_is_built (procedures_of (theory_of c.args.theory.now)) c.args.config.now
+    c.in-Some.piece.now c.in-Some.ensures.item c.requires.runnable
 
 pub planned-requires-clause-fits : goal.planned-requires-clause-fits
 planned-requires-clause-fits c = (
@@ -32,7 +32,8 @@ returns-in_err-change-clause-limit c =
     let rest = pieces_in (others ps config piece c.in-Some.ensures.item) in
     let is = c.in_err-change.ensures.limit rest in
     let told : TellsLimit c.from_residual.result
-    (step_limit standard_limits (piece_of piece) rest (store_of config.store) (forest_of config.grove)) =
+    (step_limit standard_limits (piece_of piece) rest (store_of config.store)
+    (forest_of config.grove)) =
     search rules in
     subst (TellsLimit c.from_residual.result)
     (sym (piece_limit ps config piece c.in-Some.ensures.item)) told
@@ -44,18 +45,22 @@ returns-in_ok-advance-in-Becomes-clause-step c =
     let piece = c.in-Some.piece.now in
     let last = c.in-Some.ensures.item in
     let ps = procedures_of (theory_of c.args.theory.now) in
-    it_becomes ps config piece last (pick_of c.args.pick) c.in-Becomes.change (config_of c.advance.new.config)
+    it_becomes ps config piece last (pick_of c.args.pick) c.in-Becomes.change
+    (config_of c.advance.new.config)
     ((rw c.in-Becomes.is at c.in_ok-change.ensures.plan) ps)
-    (c.in_ok-advance-in-Becomes.ensures.ok piece (others ps config piece last) (is_last ps config piece last))
+    (c.in_ok-advance-in-Becomes.ensures.ok piece (others ps config piece last)
+    (is_last ps config piece last))
 
-pub returns-in_ok-advance-in-Becomes-clause-runnable : goal.returns-in_ok-advance-in-Becomes-clause-runnable
+pub returns-in_ok-advance-in-Becomes-clause-runnable :
+    goal.returns-in_ok-advance-in-Becomes-clause-runnable
 returns-in_ok-advance-in-Becomes-clause-runnable c =
     runnable-next (procedures_of (theory_of c.args.theory.now))
     (well-formed-bodies (theory_of c.args.theory.now) c.requires.well_formed) (pick_of c.args.pick)
     (config_of c.args.config.now) (config_of c.advance.new.config) c.requires.runnable
     (sym (returns-in_ok-advance-in-Becomes-clause-step c))
 
-pub returns-in_ok-advance-in-Becomes-clause-limit : goal.returns-in_ok-advance-in-Becomes-clause-limit
+pub returns-in_ok-advance-in-Becomes-clause-limit :
+    goal.returns-in_ok-advance-in-Becomes-clause-limit
 returns-in_ok-advance-in-Becomes-clause-limit c =
     piece_limit (procedures_of (theory_of c.args.theory.now)) c.args.config.now c.in-Some.piece.now
     c.in-Some.ensures.item ∙ c.in_ok-change.ensures.limit _
@@ -74,10 +79,12 @@ pub returns-in-Faults-clause-step : goal.returns-in-Faults-clause-step
 returns-in-Faults-clause-step c =
     it_faults (procedures_of (theory_of c.args.theory.now)) c.args.config.now c.in-Some.piece.now
     c.in-Some.ensures.item (pick_of c.args.pick) (fault_kind_of c.in-Faults.kind)
-    ((rw c.in-Faults.is at c.in_ok-change.ensures.plan) (procedures_of (theory_of c.args.theory.now)))
+    ((rw c.in-Faults.is at c.in_ok-change.ensures.plan)
+    (procedures_of (theory_of c.args.theory.now)))
 
 pub returns-in-BadPick-clause-step : goal.returns-in-BadPick-clause-step
 returns-in-BadPick-clause-step c =
     it_picks (procedures_of (theory_of c.args.theory.now)) c.args.config.now c.in-Some.piece.now
     c.in-Some.ensures.item (pick_of c.args.pick)
-    ((rw c.in-BadPick.is at c.in_ok-change.ensures.plan) (procedures_of (theory_of c.args.theory.now)))
+    ((rw c.in-BadPick.is at c.in_ok-change.ensures.plan)
+    (procedures_of (theory_of c.args.theory.now)))
