@@ -1,7 +1,8 @@
 -- Commands whose parts have the right sorts and number: what the conditions of a run's beginning and
 -- of a step ask. A law says that the bodies of a well-formed theory are such commands.
-use Rattle.std.specs.Prelude.{◌≡◌, List, [], ◌∷◌, Option, Some, None, ℕ}
+use Rattle.std.specs.Prelude.{◌≡◌, List, [], ◌∷◌, Option, Some, None}
 use Rattle.model_shapes.specs.Sorts.{node_sort, list_sort, int_sort, str_sort}
+use Rattle.model_shapes.specs.Values.{Name}
 use Rattle.model_terms.specs.Terms.{Term}
 use Rattle.model_terms.specs.Stores.{ProgVar, Computes, sort_of}
 use Rattle.model_terms.specs.Conditions.{Tests}
@@ -58,5 +59,5 @@ module _ (procedures : Procedures) where
 -- the body of each procedure that a call may enter has parts of the right sorts
 abbrev pub BodiesSorted : Procedures → Type 0
 BodiesSorted procedures =
-    (name : List ℕ) (f : Procedure) → procedure_named name procedures ≡ Some f
+    (name : Name) (f : Procedure) → procedure_named name procedures ≡ Some f
     → Sorted procedures f.body

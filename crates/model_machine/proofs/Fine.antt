@@ -104,7 +104,8 @@ removed-shaped j t g e w = record {
         ap (list_uses m) e,
       )) w.well_formed;
   width_fits = tt;
-  holes_fit = omega (arith, holes-beside (without j g) t, holes-taken-out j g, ap holes e, w.holes_fit);
+  holes_fit =
+      omega (arith, holes-beside (without j g) t, holes-taken-out j g, ap holes e, w.holes_fit);
 }
 
 -- the test says no at 0 alone

@@ -1,7 +1,7 @@
 -- The machine: what one step does with each pending piece, and the runs over lists of picks.
 -- The commands are those of PODS 2008 and DOM Level 1 Core.
 use Rattle.std.specs.Prelude.{ℕ, Bool, true, false, List, [], ◌∷◌, ◌++◌, cond, Option, Some, None}
-use Rattle.model_shapes.specs.Values.{Value, node_number, list_number, str}
+use Rattle.model_shapes.specs.Values.{Name, Value, node_number, list_number, str}
 use Rattle.model_shapes.specs.Trees.{Trees, none, node, hole, beside, node_uses}
 use Rattle.model_terms.specs.Terms.{Term}
 use Rattle.model_terms.specs.Stores.{ProgVar, Store, unset, value_in, set, value_of, default, sort_of, text_in}
@@ -35,7 +35,7 @@ pieces_of stop = []
 pieces_of (c then b) = run c ∷ pieces_of b
 
 -- sets the variable to what is read off the node that was found
-abbrev pub reading : Trees → FaultKind → (List ℕ → ℕ → Trees → ℕ → Value) → ProgVar → Store
+abbrev pub reading : Trees → FaultKind → (Name → ℕ → Trees → ℕ → Value) → ProgVar → Store
     → Trees → Move
 reading (node name number kids list rest) fault read x store grove =
     becomes [] (set x (read name number kids list) store) grove
@@ -58,7 +58,7 @@ removing (node name n kids list rest) (node name' m kids' list' rest') store gro
 removing a b store grove = faults no_node
 
 -- adds a root without children
-abbrev pub creating : Pick → ProgVar → List ℕ → Store → Trees → Move
+abbrev pub creating : Pick → ProgVar → Name → Store → Trees → Move
 creating pick x name store grove =
     cond (is_free pick grove)
     (becomes [] (set x (node_number pick.node) store)
