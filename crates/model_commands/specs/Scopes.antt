@@ -1,4 +1,5 @@
--- What calls need of a procedure; a law says that the procedures of a well-formed theory have it.
+-- Needn't be believed: what the rules for calls need of a procedure. A law says that the procedures
+-- of a well-formed theory have it.
 use Rattle.std.specs.Prelude.{◌⊎◌}
 use Rattle.model_formulas.specs.Substitution.{FreeIn}
 use Rattle.model_terms.specs.Stores.{ProgVar, as_var}
