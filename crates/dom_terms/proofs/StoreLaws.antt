@@ -1,5 +1,5 @@
 -- What a look-up and a change of the cells of a store are in the store of the definitions.
-use Rattle.std.proofs.Common.{◌≡◌, ℕ, ◌<◌, ◌≤◌, zero, suc, ◌+◌, ◌++◌, List, [], ◌∷◌, Bool, true, false, not, cond, Option, Some, None, length, get_or, refl, sym, ap, ◌∙◌, subst, arith}
+use Rattle.std.proofs.Common.{◌≡◌, ℕ, ◌<◌, ◌≤◌, zero, suc, ◌++◌, List, [], ◌∷◌, Bool, true, false, not, cond, Some, None, length, get_or, refl, sym, ap, ◌∙◌, arith}
 use Rattle.std.specs.Prelude.{nat_lt, option_map, map}
 use Rattle.std.specs.List.{find, position, prefix_len}
 use Rattle.std.proofs.Math.ListN as list
