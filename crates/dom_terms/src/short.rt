@@ -1,5 +1,6 @@
 //! Short texts, which lie in the value itself and take no memory.
-ghost use Rattle.std.specs.Prelude.{◌≡◌, [], ◌++◌, IfSome};
+ghost use Rattle.std.specs.Prelude.{◌≡◌, [], ◌++◌, IfSome, MatchBool};
+ghost use Rattle.std.specs.Char.{encode_utf8};
 
 use std::marker::Model;
 use std::str;
@@ -50,6 +51,20 @@ impl ShortText {
             bytes,
             len: whole as u8,
         })
+    }
+
+    /// Puts a character at the end, if it is ASCII and there is room; else nothing is changed.
+    pub(crate) fn take_ascii(&mut self, character: char) -> bool
+        ensures { MatchBool result (self.new ≡ self.old ++ encode_utf8 character)
+            (self.new ≡ self.old) }
+    {
+        let len = self.len as usize;
+        if len == MOST_SHORT || !character.is_ascii() {
+            return false;
+        }
+        self.bytes[len] = character as u8;
+        self.len += 1;
+        true
     }
 
     /// The characters.

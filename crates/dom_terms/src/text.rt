@@ -1,6 +1,6 @@
 //! Texts: names, symbols and literals.
 ghost use Rattle.std.specs.Prelude.{◌≡◌, ◌≤◌, ◌↔◌, [], ◌++◌, length, slice_get, option_copied};
-ghost use Rattle.std.specs.Prelude.{IsNone, IfOk, OnOk, OnErr};
+ghost use Rattle.std.specs.Prelude.{IsNone, IfOk, OnOk, OnErr, MatchBool};
 ghost use Rattle.std.specs.Char.{encode_utf8};
 ghost use Rattle.dom_terms.specs.Letters.{letters_bytes};
 
@@ -61,6 +61,18 @@ fn join(alloc: Global, letters: &mut Letters, more: &str) -> Result<(), OutOfMem
     Ok(())
 }
 
+// Puts an ASCII character at the end of a short text with room; else nothing is changed.
+fn take_ascii(letters: &mut Letters, character: char) -> bool
+    ensures { MatchBool result
+        (letters_bytes letters.new ≡ letters_bytes letters.old ++ encode_utf8 character)
+        (letters_bytes letters.new ≡ letters_bytes letters.old) }
+{
+    match letters {
+        Letters::Short(short) => short.take_ascii(character),
+        Letters::Long(_) => false,
+    }
+}
+
 impl Text {
     /// The empty text. It takes memory only when it grows.
     pub fn new(alloc: Global) -> Text
@@ -86,6 +98,9 @@ impl Text {
         ensures ok { OnOk result (self.new ≡ self.old ++ encode_utf8 character) }
         ensures err { OnErr result (self.new ≡ self.old) }
     {
+        if take_ascii(&mut self.letters, character) {
+            return Ok(());
+        }
         let mut buffer = [0; 4];
         join(
             self.alloc,
