@@ -1,9 +1,11 @@
 -- The longest symbol at the front of a text, one symbol after the other.
-use Rattle.std.proofs.Common.{◌≡◌, ℕ, ◌+◌, ◌<◌, max, List, map, length, drop, get_or, arith, add-one, drop-cons, [], ◌∷◌, nat_eq, Bool, true, false, ◌&&◌, take, refl, sym, subst, ap, ◌∙◌, ◌≤◌}
+use Rattle.std.proofs.Common.{◌≡◌, ℕ, ◌+◌, ◌<◌, max, List, map, length, drop, get_or, arith, add-one, drop-cons, [], ◌∷◌, nat_eq, Bool, true, false, not, ◌||◌, ◌&&◌, take, refl, sym, subst, ap, ◌∙◌, ◌≤◌}
 use Rattle.std.specs.Prelude.{if◌then◌else◌}
 use Rattle.std.specs.Cmp.Lexicographic.{pointwise}
-use Rattle.std.specs.List.{filter}
-use Rattle.text_tokens.specs.Symbols.{begins_with}
+use Rattle.std.proofs.lemmas.Bool.{and_parts, eqb-true}
+use Rattle.std.specs.Char.{is_ascii_alphabetic}
+use Rattle.std.specs.List.{filter, list_all}
+use Rattle.text_tokens.specs.Symbols.{begins_with, begins_no_word}
 use Rattle.model_text.specs.Tokens.{symbols, length_at_front, longest_at_front}
 
 -- the symbol in turn is compared with those before
@@ -47,6 +49,44 @@ pub decided_by : (k first : ℕ) → first ≡ k → (rest : List ℕ)
 decided_by k first is rest =
     ap (λ x. longest_at_front (filter (begins_with x) symbols) (first ∷ rest)) (sym is)
     ∙ longest_from first rest symbols
+
+-- a letter other than o begins no symbol
+differs : (c first : ℕ) → is_ascii_alphabetic first ≡ true → nat_eq first 111 ≡ false
+    → (not (is_ascii_alphabetic c) || nat_eq c 111) ≡ true → nat_eq c first ≡ false
+differs c first letter other h = by_test (nat_eq c first) refl
+  where
+    by_test : (b : Bool) → nat_eq c first ≡ b → nat_eq c first ≡ false
+    by_test true e = let same : first ≡ c = sym (eqb-true c first e) in
+        let no : (not (is_ascii_alphabetic c) || nat_eq c 111) ≡ false =
+        ap (λ b. not b || nat_eq c 111) (ap is_ascii_alphabetic (sym same) ∙ letter)
+        ∙ ap (λ x. nat_eq x 111) (sym same) ∙ other in
+        cc
+    by_test false e = e
+
+none_from : (first : ℕ) → is_ascii_alphabetic first ≡ true → nat_eq first 111 ≡ false
+    → (symbols : List (List ℕ)) → list_all begins_no_word symbols ≡ true → (rest : List ℕ)
+    → 0 ≡ longest_at_front symbols (first ∷ rest)
+none_from first letter other [] h rest = refl
+none_from first letter other ([] ∷ symbols) h rest =
+    omega (arith, none_from first letter other symbols h rest)
+none_from first letter other ((c ∷ symbol) ∷ symbols) h rest =
+    let parts = and_parts (begins_no_word (c ∷ symbol)) (list_all begins_no_word symbols) h in
+    omega (
+      arith,
+      none_from first letter other symbols parts.1 rest,
+      no_length first c rest symbol (differs c first letter other parts.0),
+    )
+
+not_o : (first : ℕ) (b : Bool) → nat_eq first 111 ≡ b → (first ≡ 111 → ⊥)
+    → nat_eq first 111 ≡ false
+not_o first true e other = absurd (other (eqb-true first 111 e))
+not_o first false e other = e
+
+pub letter_begins_none : (first : ℕ) → is_ascii_alphabetic first ≡ true → (first ≡ 111 → ⊥)
+    → (rest : List ℕ) → 0 ≡ longest_at_front symbols (first ∷ rest)
+unfolding symbols
+letter_begins_none first letter other rest =
+    none_from first letter (not_o first (nat_eq first 111) refl other) symbols refl rest
 
 -- none stands at the front of no text
 pub none_in : (text : List ℕ) → length text < 1 → 0 ≡ longest_at_front symbols text

@@ -46,6 +46,9 @@ fn symbols_from(first: char) -> &'static [&'static [char]]
     ensures { (rest : List ℕ) → longest_at_front (map (λ s. s.now) result.now) (first ∷ rest)
         ≡ longest_at_front symbols (first ∷ rest) }
 {
+    if first.is_ascii_alphabetic() && first != 'o' {
+        return &[];
+    }
     match first {
         '(' => &[&['(']],
         ')' => &[&[')']],

@@ -1,6 +1,6 @@
-use Rattle.std.proofs.Common.{refl}
+use Rattle.std.proofs.Common.{refl, sym, ◌∙◌}
 use Rattle.model_text.specs.Tokens.{symbols}
-use Rattle.text_tokens.proofs.SymbolLemmas.{decided_by}
+use Rattle.text_tokens.proofs.SymbolLemmas.{decided_by, letter_begins_none}
 use Rattle.text_tokens.proofs.symbols.symbols_from.Goals as goal
 
 pub returns-in-40 : goal.returns-in-40
@@ -90,3 +90,9 @@ returns-in-63 c = decided_by 63 c.args.first c.in-63.is
 pub returns-in_default : goal.returns-in_default
 unfolding symbols
 returns-in_default c = λ rest. refl
+
+pub returns-then-first-ne111 : goal.returns-then-first-ne111
+returns-then-first-ne111 c =
+    letter_begins_none c.args.first
+    (sym c.is_ascii_alphabetic.ensures.value ∙ c.if-is_ascii_alphabetic.true)
+    c.if-first-ne111.true
