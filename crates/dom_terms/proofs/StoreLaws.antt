@@ -22,13 +22,14 @@ value_in_cell cell = value_seen cell.value
 pub find-found : (x : ProgVar) (cells : List Cell)
     → option_map value_in_cell (find (has_variable x) cells) ≡ found_in (store_of cells) x
 find-found x [] = refl
-find-found x (c ∷ cs) = go (has_variable x c) (find-found x cs)
+find-found x (c ∷ cs) = by_test (has_variable x c) (find-found x cs)
   where
-    go : (b : Bool) → option_map value_in_cell (find (has_variable x) cs) ≡ found_in (store_of cs) x
+    by_test : (b : Bool) → option_map value_in_cell (find (has_variable x) cs)
+        ≡ found_in (store_of cs) x
         → option_map value_in_cell (cond b (Some c) (find (has_variable x) cs))
         ≡ cond b (Some (value_in_cell c)) (found_in (store_of cs) x)
-    go true h = refl
-    go false h = h
+    by_test true h = refl
+    by_test false h = h
 
 -- the cell at a place is the variable's, and none before it is
 abbrev pub IsFirst : ProgVar → List Cell → ℕ → Cell → Type 0
@@ -45,7 +46,8 @@ first-set x v [] i d e f = absurd (omega (arith, f.0))
 first-set x v (c ∷ cs) zero d e f =
     ap (λ (q : Cell). holding (prog_var_of q.variable) (value_seen v) (store_of cs)) e
     ∙ sym (ap (λ b. cond b (holding (prog_var_of c.variable) (value_seen v) (store_of cs))
-    (holding (prog_var_of c.variable) (value_seen c.value) (set x (value_seen v) (store_of cs)))) f.1)
+    (holding (prog_var_of c.variable) (value_seen c.value) (set x (value_seen v) (store_of cs))))
+    f.1)
 first-set x v (c ∷ cs) (suc i) d e f =
     ap (λ q. holding (prog_var_of c.variable) (value_seen c.value) q)
     (first-set x v cs i d e (omega (arith, f.0), f.1, λ k h. f.2 (suc k) (omega arith)))
@@ -94,7 +96,8 @@ absent-set x c (d ∷ ds) e f =
 -- the same where the variable has no place
 pub push-set : (c : Cell) (cells : List Cell)
     → position (has_variable (prog_var_of c.variable)) cells ≡ None
-    → store_of (cells ++ c ∷ []) ≡ set (prog_var_of c.variable) (value_seen c.value) (store_of cells)
+    → store_of (cells ++ c ∷ []) ≡ set (prog_var_of c.variable) (value_seen c.value)
+    (store_of cells)
 push-set c cells p =
     absent-set (prog_var_of c.variable) c cells refl
     (none-passes (has_variable (prog_var_of c.variable)) cells c p)
@@ -103,27 +106,28 @@ push-set c cells p =
 pub found-value : (x : ProgVar) (store : Store) (v : values.Value) → Some v ≡ found_in store x
     → v ≡ value_in store x
 found-value x unset v e = absurd (cc)
-found-value x (holding y w store) v e = go (same_name x y) e (found-value x store v)
+found-value x (holding y w store) v e = by_test (same_name x y) e (found-value x store v)
   where
-    go : (b : Bool) → Some v ≡ cond b (Some w) (found_in store x)
+    by_test : (b : Bool) → Some v ≡ cond b (Some w) (found_in store x)
         → (Some v ≡ found_in store x → v ≡ value_in store x) → v ≡ cond b w (value_in store x)
-    go true q h = cc
-    go false q h = h q
+    by_test true q h = cc
+    by_test false q h = h q
 
 -- and one that isn't found has its sort's default
 pub absent-default : (x : ProgVar) (store : Store) → None ≡ found_in store x
     → default (sort_of x) ≡ value_in store x
 absent-default x unset e = refl
-absent-default x (holding y w store) e = go (same_name x y) e (absent-default x store)
+absent-default x (holding y w store) e = by_test (same_name x y) e (absent-default x store)
   where
-    go : (b : Bool) → None ≡ cond b (Some w) (found_in store x)
+    by_test : (b : Bool) → None ≡ cond b (Some w) (found_in store x)
         → (None ≡ found_in store x → default (sort_of x) ≡ value_in store x)
         → default (sort_of x) ≡ cond b w (value_in store x)
-    go true q h = absurd (cc)
-    go false q h = h q
+    by_test true q h = absurd (cc)
+    by_test false q h = h q
 
 -- cells that hold the same make the same store
-pub same_cells : (xs ys : List Cell) → map cell_seen xs ≡ map cell_seen ys → store_of xs ≡ store_of ys
+pub same_cells : (xs ys : List Cell) → map cell_seen xs ≡ map cell_seen ys
+    → store_of xs ≡ store_of ys
 same_cells [] [] e = refl
 same_cells [] (y ∷ ys) e = absurd cc
 same_cells (x ∷ xs) [] e = absurd cc

@@ -1,3 +1,4 @@
+pub mod Letters
 pub mod Sorts
 pub mod Values
 pub mod Terms

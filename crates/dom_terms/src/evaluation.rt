@@ -33,7 +33,8 @@ pub fn eval(alloc: Global, term: &Term, store: &Store) -> Result<Value, EvalFaul
     requires { (s : model.ValueSort) × Computes s (term_of term.now) }
     ensures value { IfOk result (λ value.
         value_seen value ≡ value_of (store_of store.now) (term_of term.now)) }
-    ensures limit { Reports result (term_limit standard_limits (store_of store.now) (term_of term.now)) }
+    ensures limit { Reports result (term_limit standard_limits (store_of store.now)
+        (term_of term.now)) }
     ensures sort { (s : model.ValueSort) → Computes s (term_of term.now)
         → IfOk result (λ value. FitsValue s (value_seen value)) }
 {

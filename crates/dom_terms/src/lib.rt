@@ -11,6 +11,7 @@ mod limits;
 mod list;
 mod memory;
 mod same;
+mod short;
 mod sorts;
 mod store;
 mod terms;

@@ -55,7 +55,9 @@ const RESERVED: [&str; 45] = [
 fn is_among(words: &[&str], word: &str) -> bool
     ensures { result ≡ list_any (λ w. bytes_eq word.now w.now) words.now }
 {
-    words.iter().any(|other| word == *other)
+    words
+        .iter()
+        .any(|other| word.len() == other.len() && word == *other)
 }
 
 /// Whether the word is no name.

@@ -1,4 +1,4 @@
-ghost use Rattle.std.specs.Prelude.{◌≡◌, map, length};
+ghost use Rattle.std.specs.Prelude.{◌≡◌, ℕ, List, ◌∷◌, map, length};
 ghost use Rattle.model_text.specs.Tokens.{symbols, length_at_front, longest_at_front};
 
 /// The symbols that begin with no digit.
@@ -40,14 +40,49 @@ const SYMBOLS: [&[char]; 35] = [
     &['?', 'g'],
 ];
 
+/// The symbols that decide which one stands at the front of a text that begins with the character:
+/// those that begin with it, and all for one that begins none.
+fn symbols_from(first: char) -> &'static [&'static [char]]
+    ensures { (rest : List ℕ) → longest_at_front (map (λ s. s.now) result.now) (first ∷ rest)
+        ≡ longest_at_front symbols (first ∷ rest) }
+{
+    if first.is_ascii_alphabetic() && first != 'o' {
+        return &[];
+    }
+    match first {
+        '(' => &[&['(']],
+        ')' => &[&[')']],
+        '[' => &[&['[']],
+        ']' => &[&[']']],
+        '{' => &[&['{']],
+        '}' => &[&['}']],
+        '<' => &[&['<'], &['<', '=']],
+        '>' => &[&['>']],
+        ',' => &[&[',']],
+        ';' => &[&[';']],
+        ':' => &[&[':'], &[':', '=']],
+        '.' => &[&['.'], &['.', '*'], &['.', '+']],
+        '=' => &[&['=']],
+        '#' => &[&['#']],
+        '%' => &[&['%']],
+        '+' => &[&['+'], &['+', '+']],
+        '-' => &[&['-'], &['-', 'o'], &['-', '>']],
+        '*' => &[&['*'], &['*', '.']],
+        '@' => &[&['@', 't'], &['@', 'f'], &['@', 'g']],
+        'o' => &[&['o', '-', 't'], &['o', '-', 'f'], &['o', '-', 'g']],
+        '?' => &[&['?', 't'], &['?', 'f'], &['?', 'g']],
+        _ => &SYMBOLS,
+    }
+}
+
 /// The length of the symbol, if it stands at the front of the text.
 fn length_at_front(text: &[char], symbol: &[char]) -> usize
     ensures { result ≡ length_at_front text.now symbol.now }
 {
-    if text.starts_with(symbol) {
-        symbol.len()
-    } else {
-        0
+    match (text, symbol) {
+        ([first, ..], [wanted, ..]) if *first != *wanted => 0,
+        _ if text.starts_with(symbol) => symbol.len(),
+        _ => 0,
     }
 }
 
@@ -69,5 +104,8 @@ fn longest_at_front(symbols: &[&[char]], text: &[char]) -> usize
 pub fn symbol_length(text: &[char]) -> usize
     ensures { result ≡ longest_at_front symbols text.now }
 {
-    longest_at_front(&SYMBOLS, text)
+    match text {
+        [first, ..] => longest_at_front(symbols_from(*first), text),
+        [] => 0,
+    }
 }

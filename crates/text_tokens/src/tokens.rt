@@ -1,4 +1,4 @@
-ghost use Rattle.std.specs.Prelude.{◌≡◌, ◌≢◌, ◌↔◌, ℕ, List, IsTrue, IfOk, MatchOption, IfSome};
+ghost use Rattle.std.specs.Prelude.{◌≡◌, ◌≢◌, ◌↔◌, ℕ, List, bytes_eq, IsTrue, IfOk, MatchOption, IfSome};
 ghost use Rattle.model_text.specs.Lexemes.{terminal, step_word, name_lexeme, logic_lexeme, number_lexeme, literal_lexeme, word_lexeme, lexeme_of};
 ghost use Rattle.model_text.specs.Tokens.{word_token};
 ghost use Rattle.text_tokens.specs.Tokens.{token_of};
@@ -28,8 +28,6 @@ pub enum TokenKind {
 /// A token, with its place in the bytes.
 #[derive(Debug, Drop)]
 pub struct Token {
-    /// What kind of token it is.
-    pub kind: TokenKind,
     /// The text that a literal stands for, empty for a bad token, and else the token's own text.
     pub text: Text,
     /// The place of its first byte, counted from 0.
@@ -38,6 +36,8 @@ pub struct Token {
     pub end: usize,
     /// 1 and the newline bytes before `start`.
     pub line: u32,
+    /// What kind of token it is.
+    pub kind: TokenKind,
 }
 
 /// The tokens of a text.
@@ -49,13 +49,21 @@ impl Token {
     pub fn is_terminal(&self, text: &str) -> bool
         ensures { IsTrue result ↔ (lexeme_of (token_of self.now) ≡ terminal text.now) }
     {
-        if self.text.as_str() != text {
-            return false;
-        }
         match self.kind {
-            TokenKind::Symbol => true,
-            TokenKind::Word => text != "step" && is_reserved(text),
+            TokenKind::Symbol => self.is_spelled(text),
+            TokenKind::Word => self.is_spelled(text) && text != "step" && is_reserved(text),
             _ => false,
+        }
+    }
+
+    // Whether the token has this text.
+    fn is_spelled(&self, text: &str) -> bool
+        ensures { result ≡ bytes_eq self.now.text text.now }
+    {
+        let own = self.text.as_str();
+        match (own.as_bytes(), text.as_bytes()) {
+            ([first, ..], [wanted, ..]) if *first != *wanted => false,
+            _ => own.len() == text.len() && own == text,
         }
     }
 
@@ -63,7 +71,7 @@ impl Token {
     pub fn is_step(&self) -> bool
         ensures { IsTrue result ↔ (lexeme_of (token_of self.now) ≡ step_word self.now.line) }
     {
-        self.kind == TokenKind::Word && self.text.as_str() == "step"
+        self.kind == TokenKind::Word && self.is_spelled("step")
     }
 
     /// The word, reserved or not: none exactly where the token is of another kind.

@@ -6,12 +6,23 @@ ghost use Rattle.model_text.specs.Tokens.{comment_length, in_digit_run, starts_w
 
 use unicode_ident::{is_xid_continue, is_xid_start};
 
-/// How many characters of XID_Continue stand at the front of the text.
+// Whether the character has the property XID_Continue, found without the table where it is ASCII.
+fn continues_word(character: char) -> bool
+    ensures { result ≡ is_xid_continue character }
+{
+    if character.is_ascii() {
+        character.is_ascii_alphanumeric() || character == '_'
+    } else {
+        is_xid_continue(character)
+    }
+}
+
+// How many characters of XID_Continue stand at the front of the text.
 fn continued_length(text: &[char]) -> usize
     ensures value { result ≡ prefix_len is_xid_continue text.now }
     ensures within { result ≤ length text.now }
 {
-    text.iter().take_while(|c| is_xid_continue(**c)).count()
+    text.iter().take_while(|c| continues_word(**c)).count()
 }
 
 /// How many digits and characters of XID_Continue stand at the front of the text.
@@ -20,7 +31,7 @@ pub fn run_length(text: &[char]) -> usize
     ensures within { result ≤ length text.now }
 {
     text.iter()
-        .take_while(|c| c.is_ascii_digit() || is_xid_continue(**c))
+        .take_while(|c| c.is_ascii_digit() || continues_word(**c))
         .count()
 }
 
@@ -36,7 +47,11 @@ pub fn comment_length(text: &[char]) -> usize
 fn starts_word(character: char) -> bool
     ensures { result ≡ starts_word character }
 {
-    is_xid_start(character) || character == '_'
+    if character.is_ascii() {
+        character.is_ascii_alphabetic() || character == '_'
+    } else {
+        is_xid_start(character)
+    }
 }
 
 /// How many characters the word at the front of the text has; 0 where none stands there.
