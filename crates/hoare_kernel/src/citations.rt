@@ -13,8 +13,8 @@ use dom_syntax::{Judgement, Step};
 pub fn are_numbered(steps: &[Step]) -> bool
     ensures { result ≡ test.are_numbered 1 steps.now }
 {
-    for place in 0..steps.len() {
-        if steps[place].number as usize != place + 1 {
+    for (place, step) in steps.iter().enumerate() {
+        if step.number as usize != place + 1 {
             return false;
         }
     }
