@@ -331,10 +331,11 @@ all_of : (steps earlier : List (StepOf Named)) → instances_test earlier steps 
     → AllInstances (map nameless_step earlier) (map nameless_step steps)
 all_of [] earlier e = tt
 all_of (step ∷ steps) earlier e =
-    let h = and_parts (instance_test earlier step) _ e in
-    (instance_of step.reason step.judgement earlier h.0,
-    subst (λ z. AllInstances z (map nameless_step steps))
-    (map-append nameless_step earlier (step ∷ [])) (all_of steps (earlier ++ step ∷ []) h.1))
+    let h = and_parts (instance_test earlier step) _ e in (
+      instance_of step.reason step.judgement earlier h.0,
+      subst (λ z. AllInstances z (map nameless_step steps))
+          (map-append nameless_step earlier (step ∷ [])) (all_of steps (earlier ++ step ∷ []) h.1),
+    )
 
 tests_of : (steps earlier : List (StepOf Named))
     → AllInstances (map nameless_step earlier) (map nameless_step steps)

@@ -160,8 +160,8 @@ pub fn are_instances(alloc: Global, steps: &[Step]) -> Result<bool, OutOfMemory>
     ensures { IfOk result (λ b. b ≡ test.instances_test [] (map step_of steps.now)) }
 {
     let numbered = are_numbered(steps);
-    for place in 0..steps.len() {
-        if !is_instance(alloc, &steps[..place], numbered, &steps[place])? {
+    for (place, step) in steps.iter().enumerate() {
+        if !is_instance(alloc, &steps[..place], numbered, step)? {
             return Ok(false);
         }
     }
