@@ -15,7 +15,7 @@ use Rattle.model_formulas.specs.Substitution.{formula_with, replacing}
 use Rattle.model_terms.specs.Stores.{ProgVar, as_var, sort_of}
 use Rattle.model_commands.specs.Commands.{Command, skip, assign, block, Block, stop, ◌then◌}
 use Rattle.model_commands.specs.Theories.{JudgementOf, Judgement, entails, triple, Reason, auto, by_rule, StepOf, Step, ProcedureOf, nameless_judgement, nameless_step, nameless_procedure}
-use Rattle.model_files.specs.FileFaults.{evaluates, has_command}
+use Rattle.model_commands.specs.SortTests.{evaluates, has_command}
 use Rattle.model_rules.specs.Rows.{Chain, last_link, more_links, Row, skip_row, assign_row, seq_row}
 use Rattle.model_rules.specs.Accepted.{judgement_numbered, Cites, InstanceBy, AllInstances, last_judgement, own_triple, IsProved, Each}
 use Rattle.dom_syntax.specs.SameCommands.{same_command}

@@ -10,7 +10,7 @@ use Rattle.std.specs.Prelude.{◌↔◌}
 use Rattle.std.specs.List.{list_all}
 use Rattle.std.proofs.Common.{◌++◌}
 use Rattle.model_terms.specs.Variables.{Var}
-use Rattle.model_files.specs.FileFaults.{is_program}
+use Rattle.model_commands.specs.SortTests.{is_program}
 use Rattle.dom_syntax.specs.SameCommands.{same_command}
 use Rattle.dom_syntax.proofs.SameCommands.{same_command-is, same_command-refl}
 use Rattle.model_terms.specs.Terms.{Term}

@@ -12,7 +12,7 @@ use Rattle.model_terms.specs.Stores.{ProgVar, as_var, sort_of}
 use Rattle.model_groves.specs.Groves.{is_yes}
 use Rattle.model_commands.specs.Commands.{Command, skip, assign, block, Block, stop, ◌then◌}
 use Rattle.model_commands.specs.Theories.{JudgementOf, entails, triple, Reason, auto, by_rule, StepOf, ProcedureOf}
-use Rattle.model_files.specs.FileFaults.{evaluates, has_command}
+use Rattle.model_commands.specs.SortTests.{evaluates, has_command}
 use Rattle.dom_syntax.specs.SameCommands.{same_command}
 use Rattle.dom_syntax.specs.declared.steps.Step.{Step}
 

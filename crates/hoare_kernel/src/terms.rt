@@ -1,6 +1,6 @@
 // Which terms may be assigned.
 ghost use Rattle.std.specs.Prelude.{◌≡◌};
-ghost use Rattle.model_files.specs.FileFaults as faults;
+ghost use Rattle.model_commands.specs.SortTests as tests;
 ghost use Rattle.dom_terms.specs.Sorts.{value_sort_of};
 ghost use Rattle.dom_terms.specs.Terms.{term_of};
 
@@ -10,7 +10,7 @@ use formula_syntax::has_sort;
 // whether no logic variable stands in the term
 #[tactic(auto, using(crate::proofs::Decisions::plain_parts))]
 fn is_plain(term: &Term) -> bool
-    ensures { result ≡ faults.is_plain (term_of term.now) }
+    ensures { result ≡ tests.is_plain (term_of term.now) }
 {
     match term {
         Term::Logic(_) => false,
@@ -23,7 +23,7 @@ fn is_plain(term: &Term) -> bool
 
 /// Whether the term has the sort, and no logic variable.
 pub fn evaluates(term: &Term, sort: ValueSort) -> bool
-    ensures { result ≡ faults.evaluates (value_sort_of sort) (term_of term.now) }
+    ensures { result ≡ tests.evaluates (value_sort_of sort) (term_of term.now) }
 {
     has_sort(term, sort) && is_plain(term)
 }

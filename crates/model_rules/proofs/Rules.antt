@@ -21,7 +21,7 @@ use Rattle.model_commands.specs.Commands.{skip, block, assign, Block}
 use Rattle.model_commands.specs.Theories.{Procedures, Judgement, entails, triple}
 use Rattle.model_commands.specs.Sorting.{Sorted, BlockSorted}
 use Rattle.model_commands.specs.Sorting.{BodiesSorted}
-use Rattle.model_files.specs.FileFaults.{evaluates}
+use Rattle.model_commands.specs.SortTests.{evaluates}
 use Rattle.model_machine.specs.Machine.{run, pieces_of}
 use Rattle.model_machine.specs.ClassicalTriples.{TripleFor}
 use Rattle.model_terms.proofs.StoreLaws.{value_in-set, same_name-not, set-proper, value-fits}

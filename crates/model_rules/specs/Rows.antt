@@ -9,7 +9,7 @@ use Rattle.model_formulas.specs.Substitution.{formula_with, replacing}
 use Rattle.model_terms.specs.Stores.{ProgVar, as_var, sort_of}
 use Rattle.model_commands.specs.Commands.{Command, skip, assign, block, Block, stop, ◌then◌}
 use Rattle.model_commands.specs.Theories.{Judgement, triple}
-use Rattle.model_files.specs.FileFaults.{evaluates}
+use Rattle.model_commands.specs.SortTests.{evaluates}
 
 -- The triples of the commands of a block, in order and all at one sort: the first begins with the
 -- one formula, each further one with the formula after the one before it, and the last ends with
