@@ -14,10 +14,10 @@ use Rattle.model_formulas.specs.Nameless.{nameless}
 use Rattle.model_formulas.specs.Substitution.{formula_with, replacing}
 use Rattle.model_terms.specs.Stores.{ProgVar, as_var, sort_of}
 use Rattle.model_commands.specs.Commands.{Command, skip, assign, block, Block, stop, ◌then◌}
-use Rattle.model_commands.specs.Theories.{JudgementOf, Judgement, entails, triple, Reason, auto, by_rule, StepOf, Step, ProcedureOf, nameless_judgement, nameless_step, nameless_procedure}
+use Rattle.model_commands.specs.Theories.{own_triple, JudgementOf, Judgement, entails, triple, Reason, auto, by_rule, StepOf, Step, ProcedureOf, nameless_judgement, nameless_step, nameless_procedure}
 use Rattle.model_commands.specs.SortTests.{evaluates, has_command}
 use Rattle.model_rules.specs.Rows.{Chain, last_link, more_links, Row, skip_row, assign_row, seq_row}
-use Rattle.model_rules.specs.Accepted.{judgement_numbered, Cites, InstanceBy, AllInstances, last_judgement, own_triple, IsProved, Each}
+use Rattle.model_rules.specs.Accepted.{judgement_numbered, Cites, InstanceBy, AllInstances, last_judgement, IsProved, Each}
 use Rattle.dom_syntax.specs.SameCommands.{same_command}
 use Rattle.dom_syntax.proofs.SameCommands.{same_command-is, same_command-refl}
 use Rattle.hoare_kernel.specs.Tests.{same_test, replaced_test, is_skip, no_items, skip_test, assign_test, cited, after, next, reached, ends, seq_test, judged_test, rule_test, instance_test, instances_test, own_test, own_last, last_step, proved_test, accepted_test}
