@@ -51,13 +51,16 @@ const RESERVED: [&str; 45] = [
     "item",
 ];
 
-/// Whether the texts are the same. Most that are compared differ in their first byte.
+/// Whether the texts are the same. Most that are compared differ in length or in their first byte.
 pub fn is_same(own: &str, wanted: &str) -> bool
     ensures { result ≡ bytes_eq own.now wanted.now }
 {
+    if own.len() != wanted.len() {
+        return false;
+    }
     match (own.as_bytes(), wanted.as_bytes()) {
         ([first, ..], [other, ..]) if *first != *other => false,
-        _ => own.len() == wanted.len() && own == wanted,
+        _ => own == wanted,
     }
 }
 

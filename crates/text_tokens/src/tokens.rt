@@ -51,7 +51,9 @@ impl Token {
     {
         match self.kind {
             TokenKind::Symbol => self.is_spelled(text),
-            TokenKind::Word => self.is_spelled(text) && text != "step" && is_reserved(text),
+            TokenKind::Word => {
+                self.is_spelled(text) && !is_same(text, "step") && is_reserved(text)
+            }
             _ => false,
         }
     }
