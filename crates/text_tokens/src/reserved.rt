@@ -51,13 +51,24 @@ const RESERVED: [&str; 45] = [
     "item",
 ];
 
+/// Whether the texts are the same. Most that are compared differ in length or in their first byte.
+pub fn is_same(own: &str, wanted: &str) -> bool
+    ensures { result ≡ bytes_eq own.now wanted.now }
+{
+    if own.len() != wanted.len() {
+        return false;
+    }
+    match (own.as_bytes(), wanted.as_bytes()) {
+        ([first, ..], [other, ..]) if *first != *other => false,
+        _ => own == wanted,
+    }
+}
+
 /// Whether the word is one of these.
 fn is_among(words: &[&str], word: &str) -> bool
     ensures { result ≡ list_any (λ w. bytes_eq word.now w.now) words.now }
 {
-    words
-        .iter()
-        .any(|other| word.len() == other.len() && word == *other)
+    words.iter().any(|other| is_same(word, *other))
 }
 
 /// Whether the word is no name.

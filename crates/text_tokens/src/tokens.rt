@@ -4,7 +4,7 @@ ghost use Rattle.model_text.specs.Tokens.{word_token};
 ghost use Rattle.text_tokens.specs.Tokens.{token_of};
 
 use crate::numbers::number_value;
-use crate::reserved::is_reserved;
+use crate::reserved::{is_reserved, is_same};
 use dom_terms::{Copied, List, OutOfMemory, Text};
 use std::alloc::Global;
 
@@ -51,7 +51,9 @@ impl Token {
     {
         match self.kind {
             TokenKind::Symbol => self.is_spelled(text),
-            TokenKind::Word => self.is_spelled(text) && text != "step" && is_reserved(text),
+            TokenKind::Word => {
+                self.is_spelled(text) && !is_same(text, "step") && is_reserved(text)
+            }
             _ => false,
         }
     }
@@ -60,11 +62,7 @@ impl Token {
     fn is_spelled(&self, text: &str) -> bool
         ensures { result ≡ bytes_eq self.now.text text.now }
     {
-        let own = self.text.as_str();
-        match (own.as_bytes(), text.as_bytes()) {
-            ([first, ..], [wanted, ..]) if *first != *wanted => false,
-            _ => own.len() == text.len() && own == text,
-        }
+        is_same(self.text.as_str(), text)
     }
 
     /// Whether the token is the reserved word `step`; its line is the token's.
