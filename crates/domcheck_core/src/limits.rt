@@ -7,7 +7,7 @@ ghost use Rattle.model_text.specs.Nesting as nesting;
 ghost use Rattle.model_files.specs.FileLimits as files;
 
 use dom_syntax::Procedure;
-use dom_terms::limits::{PROOF_STEPS, TEXT_BYTES, VARIABLES};
+use dom_terms::limits::{PROOF_STEPS, TEXT_BYTES};
 use text_tokens::Token;
 use token_readers::is_this;
 
@@ -87,21 +87,6 @@ pub fn are_within(tokens: &[Token], most_open: u32) -> bool
         && nesting.texts_within (lexemes_in tokens.now)) }
 {
     nest_within(tokens, most_open) && texts_within(tokens)
-}
-
-/// Whether no procedure declares more variables than the most.
-pub fn variables_within(procedures: &[Procedure]) -> bool
-    ensures { result ≡ files.variables_within (map procedure_of procedures.now) }
-{
-    let mut rest = procedures;
-    'procedures: while let [first, others @ ..] = rest {
-        let (params, results) = (first.params.len(), first.results.len());
-        if params > VARIABLES || results > VARIABLES - params {
-            return false;
-        }
-        rest = others;
-    }
-    true
 }
 
 /// The number of steps of all proofs, or none where it passes the limit.
