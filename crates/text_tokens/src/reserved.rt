@@ -68,7 +68,9 @@ pub fn is_same(own: &str, wanted: &str) -> bool
 fn is_among(words: &[&str], word: &str) -> bool
     ensures { result ≡ list_any (λ w. bytes_eq word.now w.now) words.now }
 {
-    words.iter().any(|other| is_same(word, *other))
+    words
+        .iter()
+        .any(|other| word.len() == other.len() && is_same(word, *other))
 }
 
 /// Whether the word is no name.
