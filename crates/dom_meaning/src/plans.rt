@@ -31,12 +31,13 @@ use crate::configurations::{Pending, Pieces};
 use crate::faults::{FaultKind, StepFault};
 use crate::picks::is_free;
 use dom_syntax::{Block, Command};
+use dom_terms::limits::NODES;
 use dom_terms::{Copied, LimitKind, List, OutOfMemory, ProgVar, Store, Term, Text, Value, eval};
 use grove_data::{Grove, Tree, find, has_at_most};
 use std::alloc::Global;
 
 // The most nodes that a grove may have.
-const MOST_NODES: usize = 1000;
+const MOST_NODES: usize = NODES;
 
 /// What a piece changes.
 #[derive(Drop)]

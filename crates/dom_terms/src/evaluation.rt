@@ -13,6 +13,7 @@ ghost use Rattle.dom_terms.specs.Stores.{store_of};
 ghost use Rattle.dom_terms.specs.Evaluation.{Reports};
 
 use crate::copied::Copied;
+use crate::limits::TEXT_BYTES;
 use crate::memory::OutOfMemory;
 use crate::sorts::ValueSort;
 use crate::store::Store;
@@ -21,9 +22,6 @@ use crate::text::Text;
 use crate::values::Value;
 use crate::verdicts::EvalFault;
 use std::alloc::Global;
-
-// The most bytes that a text may have.
-const TEXT_BYTES: usize = 4096;
 
 /// The value of a term of a command in a store. A variable that the store doesn't have has its
 /// sort's default. NumberRange comes exactly where the first subterm that passes a limit, from left

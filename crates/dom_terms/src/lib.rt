@@ -7,7 +7,7 @@
 mod conditions;
 mod copied;
 mod evaluation;
-mod limits;
+pub mod limits;
 mod list;
 mod memory;
 mod same;

@@ -1,3 +1,32 @@
+// The limits of the language, each number once, and the counted quantities that they bound.
+
+/// The most open brackets at one token of a file.
+pub const FILE_NESTING: u32 = 100;
+
+/// The most open brackets at one token of a document.
+pub const DOCUMENT_NESTING: u32 = 200;
+
+/// The most bytes of a text.
+pub const TEXT_BYTES: usize = 4096;
+
+/// The most parameters, results and locals of one procedure.
+pub const VARIABLES: usize = 64;
+
+/// The most steps of the proofs of a file.
+pub const PROOF_STEPS: usize = 65_535;
+
+/// The most nodes of a document or a grove.
+pub const NODES: usize = 1000;
+
+/// The greatest number of a node or a children list.
+pub const IDENTIFIER: u32 = 4_294_967_295;
+
+/// The greatest integer; the least is one below its negative.
+pub const INTEGER: u64 = 9_223_372_036_854_775_807;
+
+/// The most fuel of a run.
+pub const FUEL: u32 = 1_000_000;
+
 /// A counted quantity that has a limit.
 #[derive(Clone, Copy, Debug, PartialEq, Eq)]
 pub enum LimitKind {

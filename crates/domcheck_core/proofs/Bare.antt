@@ -11,7 +11,8 @@ use Rattle.grove_data.specs.Trees.{tree_of, forest_of, tree_step}
 use Rattle.grove_data.specs.declared.trees.Tree.{Tree}
 use Rattle.grove_data.specs.declared.trees.Tree.TheFolds.{fold-roll-Tree, ind-Tree}
 
-pub shaped : (ts : List Tree) (g : Trees) → forest_of ts ≡ g → first_out_of_range g ≡ None → first_repeat (forest_of ts) ≡ None → Shaped (shape grove) g
+pub shaped : (ts : List Tree) (g : Trees) → forest_of ts ≡ g → first_out_of_range g ≡ None
+    → first_repeat (forest_of ts) ≡ None → Shaped (shape grove) g
 shaped ts g e range repeat = subst (Shaped (shape grove)) e (record {
   well_formed = unique-WellFormed (forest_of ts) (rw e range) repeat;
   width_fits = tt;

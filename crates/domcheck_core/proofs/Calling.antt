@@ -17,14 +17,18 @@ module _ (name : List ℕ) where
   has_name x = bytes_eq name x.name
 
   -- found among what procedures stand for
-  seen : (xs : List Procedure) → procedure_called name (map procedure_of xs) ≡ option_map procedure_of (find has_name xs)
+  seen : (xs : List Procedure) → procedure_called name (map procedure_of xs) ≡ option_map
+      procedure_of (find has_name xs)
   seen [] = refl
-  seen (x ∷ xs) = go (bytes_eq name x.name) (seen xs)
+  seen (x ∷ xs) = first_seen (bytes_eq name x.name) (seen xs)
     where
-      go : (b : Bool) → procedure_called name (map procedure_of xs) ≡ option_map procedure_of (find has_name xs)
-          → cond b (Some (procedure_of x)) (procedure_called name (map procedure_of xs)) ≡ option_map procedure_of (cond b (Some x) (find has_name xs))
-      go true h = refl
-      go false h = h
+      first_seen : (b : Bool) → procedure_called name (map procedure_of xs) ≡ option_map
+          procedure_of (find has_name xs)
+          → cond b (Some (procedure_of x))
+              (procedure_called name (map procedure_of xs)) ≡ option_map procedure_of
+              (cond b (Some x) (find has_name xs))
+      first_seen true h = refl
+      first_seen false h = h
 
   -- nothing stands beyond the length
   beyond : (xs : List Procedure) (k : ℕ) → length xs ≤ k → slice_get xs k ≡ None
@@ -33,15 +37,20 @@ module _ (name : List ℕ) where
   beyond (x ∷ xs) (suc k) h = beyond xs k (omega (arith, h))
 
   -- no place, nothing found
-  pub uncalled : (xs : List Procedure) → position has_name xs ≡ None → procedure_called name (map procedure_of xs) ≡ None
-  uncalled xs e = seen xs ∙ ap (option_map procedure_of) (find_at has_name xs ∙ past (nat_lt (position_or_len has_name xs) (length xs)) refl e)
+  pub uncalled : (xs : List Procedure) → position has_name xs ≡ None
+      → procedure_called name (map procedure_of xs) ≡ None
+  uncalled xs e = seen xs ∙ ap (option_map procedure_of)
+      (find_at has_name xs ∙ past (nat_lt (position_or_len has_name xs) (length xs)) refl e)
     where
-      past : (b : Bool) → nat_lt (position_or_len has_name xs) (length xs) ≡ b → cond b (Some (position_or_len has_name xs)) None ≡ None
+      past : (b : Bool) → nat_lt (position_or_len has_name xs) (length xs) ≡ b
+          → cond b (Some (position_or_len has_name xs)) None ≡ None
           → slice_get xs (position_or_len has_name xs) ≡ None
       past true h f = absurd cc
-      past false h f = beyond xs (position_or_len has_name xs) (ltb-false (position_or_len has_name xs) (length xs) h)
+      past false h f = beyond xs (position_or_len has_name xs)
+          (ltb-false (position_or_len has_name xs) (length xs) h)
 
-  within : (xs : List Procedure) (k : ℕ) → k < length xs → (f : Procedure) × (slice_get xs k ≡ Some f)
+  within : (xs : List Procedure) (k : ℕ) → k < length xs → (f : Procedure)
+      × (slice_get xs k ≡ Some f)
   within [] k h = absurd (omega (arith, h))
   within (x ∷ xs) zero h = (x, refl)
   within (x ∷ xs) (suc k) h = within xs k (omega (arith, h))
@@ -50,12 +59,16 @@ module _ (name : List ℕ) where
   pub placed : (xs : List Procedure) (k : ℕ) → position has_name xs ≡ Some k → IsPlaceOf name xs k
   placed xs k e =
       let at = place (nat_lt (position_or_len has_name xs) (length xs)) refl e in
-      let lt : k < length xs = omega (arith, at.0, ltb-true (position_or_len has_name xs) (length xs) at.1) in
+      let lt : k < length xs = omega (arith, at.0, ltb-true (position_or_len has_name xs)
+          (length xs) at.1) in
       let f = within xs k lt in
-      (f.0, f.1, seen xs ∙ ap (option_map procedure_of) (find_at has_name xs ∙ ap (slice_get xs) at.0 ∙ f.1))
+      (f.0, f.1, seen xs ∙ ap (option_map procedure_of)
+          (find_at has_name xs ∙ ap (slice_get xs) at.0 ∙ f.1))
     where
-      place : (b : Bool) → nat_lt (position_or_len has_name xs) (length xs) ≡ b → cond b (Some (position_or_len has_name xs)) None ≡ Some k
-          → (position_or_len has_name xs ≡ k) × (nat_lt (position_or_len has_name xs) (length xs) ≡ true)
+      place : (b : Bool) → nat_lt (position_or_len has_name xs) (length xs) ≡ b
+          → cond b (Some (position_or_len has_name xs)) None ≡ Some k
+          → (position_or_len has_name xs ≡ k)
+              × (nat_lt (position_or_len has_name xs) (length xs) ≡ true)
       place true l q = (cc, l)
       place false l q = absurd cc
 
@@ -66,14 +79,19 @@ module _ (name : List ℕ) where
   by_place xs (Some k) e = placed xs k (sym e)
 
 -- the procedure at the place with the arguments that were read is what is called
-pub reads : (name : List ℕ) (xs : List Procedure) (k : ℕ) → IsPlaceOf name xs k → (g : Procedure) → Some g ≡ slice_get xs k
-    → (words : List (List ℕ)) (values : List Value) → Some values ≡ arguments_of (procedure_of g).params words
-    → (f : Procedure) × (slice_get xs k ≡ Some f) × (with_arguments (procedure_called name (map procedure_of xs)) words ≡ Some (procedure_of f, values))
+pub reads : (name : List ℕ) (xs : List Procedure) (k : ℕ) → IsPlaceOf name xs k → (g : Procedure)
+    → Some g ≡ slice_get xs k
+    → (words : List (List ℕ)) (values : List Value) → Some values ≡ arguments_of
+        (procedure_of g).params words
+    → (f : Procedure) × (slice_get xs k ≡ Some f)
+        × (with_arguments (procedure_called name (map procedure_of xs)) words ≡ Some
+        (procedure_of f, values))
 reads name xs k p g e words values h =
     let same : Some p.0 ≡ Some g = sym p.1 ∙ sym e in
     let here : p.0 ≡ g = cc in (
       g,
       sym e,
-      ap (λ (z : Option (ProcedureOf Named)). with_arguments z words) (p.2 ∙ ap (λ (z : Procedure). Some (procedure_of z)) here)
+      ap (λ (z : Option (ProcedureOf Named)). with_arguments z words)
+          (p.2 ∙ ap (λ (z : Procedure). Some (procedure_of z)) here)
           ∙ ap (λ (z : Option (List Value)). option_map (λ vs. (procedure_of g, vs)) z) (sym h),
     )

@@ -1,106 +1,114 @@
--- What follows from an answer: each clause of the top call.
+-- What follows from an answer: the clauses of the calls.
 use Rattle.std.proofs.Common.{◌≡◌, ◌⊎◌, inl, inr, ℕ, ◌<◌, Bool, true, false, List, Option, Some, None, refl, sym, ◌∙◌, subst, arith, length, Result, Ok, Err, IfOk}
 use Rattle.outside_io.specs.Causes.{Told}
 use Rattle.model_commands.specs.Theories.{Theory}
 use Rattle.model_rules.specs.Accepted.{IsAccepted}
 use Rattle.model_rules.proofs.Sound.{accepted_hold}
 use Rattle.model_grammar.specs.Files.{SpellsFile}
-use Rattle.model_text.specs.Nesting.{lexemes_of}
 use Rattle.model_limits.specs.Limits.{standard_limits}
 use Rattle.model_answers.specs.Words.{Request, check, run}
-use Rattle.model_answers.specs.Output.{accepted_line, bad_words_line}
-use Rattle.proof_text.proofs.Exact.{one_theory}
-use Rattle.domcheck_core.specs.Answers.{Books, Accepted, Refused, Unreadable, CheckAnswer, says_yes, says_no, reads_nothing, NotCalled, not_called, IsAnswer, bad_words, checked, ran, IsTold}
-use Rattle.domcheck_core.specs.Clauses.{OfFile, IsProved, ExactlyWhere, GivesUp, BadWordsWhere, IsAnswered, may_answer, Complete, speaks}
-use Rattle.domcheck_core.proofs.OneAnswer.{one_file, not_both, told_of, one_answer}
+use Rattle.model_answers.specs.Documents.{SpellsDocument}
+use Rattle.domcheck_core.specs.Answers.{Books, Unreadable, NoDocument, CheckAnswer, says_yes, says_no, reads_nothing, DocumentAnswer, IsCalled, NotCalled, RunAnswer, file_unread, not_called, is_called, IsAnswer, bad_words, checked, ran, IsToldBook, IsTold}
+use Rattle.domcheck_core.specs.Books.{ReadFrom, IsReply}
+use Rattle.domcheck_core.specs.Clauses.{OfFile, IsProved, ExactlyWhere, GivesUp, BadWordsExactly, IsAnswered}
+use Rattle.domcheck_core.proofs.OneAnswer.{not_both, not_both_called, told_of, one_answer, Equal}
+use Rattle.domcheck_core.proofs.Statuses.{document_status, is_of_called}
 use Rattle.domcheck_core.specs.declared.status.Status.{Status}
 use Rattle.domcheck_core.specs.declared.status.Status.TheVariants as status
 
--- the answer on the told bytes
-pub told_answer : (books : Books) (file bytes : List ℕ) (s : Status) (output : List ℕ) → IsAnswer books (Some (check file)) s output → books file ≡ Some bytes → CheckAnswer bytes s output
-told_answer books file bytes s output (checked f b e a) told =
-    let same : b ≡ bytes = cc in
-    subst (λ (z : List ℕ). CheckAnswer z s output) same a
-
--- a fact of the told bytes from the answer
-pub on_file : (r : Option Request) (books : Books) (s : Status) (output : List ℕ) (P : List ℕ → Type 0)
-    → ((bytes : List ℕ) → CheckAnswer bytes s output → P bytes) → (IsTold r books → IsAnswer books r s output) → OfFile r books P
-on_file None books s output P f h = tt
-on_file (Some (run file procedure document fuel arguments)) books s output P f h = tt
-on_file (Some (check file)) books s output P f h = λ bytes told. f bytes (told_answer books file bytes s output (h (bytes, told)) told)
-
-pub sound : (s : Status) (output bytes : List ℕ) → CheckAnswer bytes s output → s ≡ status.Done → IsProved bytes
-sound s output bytes (says_yes t spells accepted) e = (t, spells, accepted_hold t accepted)
-sound s output bytes (says_no refused) e = absurd cc
-sound s output bytes (reads_nothing none) e = absurd cc
-
-pub yes_exactly : (s : Status) (output bytes : List ℕ) → CheckAnswer bytes s output → ExactlyWhere (Accepted bytes) s status.Done
-yes_exactly s output bytes (says_yes t spells accepted) = (λ e. (t, spells, accepted), λ c. inl refl)
-yes_exactly s output bytes (says_no refused) = (λ e. absurd cc, λ c. absurd (not_both bytes c refused))
-yes_exactly s output bytes (reads_nothing none) = (λ e. absurd cc, λ c. absurd (none c.0 c.1))
-
-pub no_exactly : (s : Status) (output bytes : List ℕ) → CheckAnswer bytes s output → ExactlyWhere (Refused bytes) s status.StepFails
-no_exactly s output bytes (says_yes t spells accepted) = (λ e. absurd cc, λ c. absurd (not_both bytes (t, spells, accepted) c))
-no_exactly s output bytes (says_no refused) = (λ e. refused, λ c. inl refl)
-no_exactly s output bytes (reads_nothing none) = (λ e. absurd cc, λ c. absurd (none c.0 c.1))
-
-pub text_exactly : (s : Status) (output bytes : List ℕ) → CheckAnswer bytes s output → ExactlyWhere (Unreadable bytes) s status.BadText
-text_exactly s output bytes (says_yes t spells accepted) = (λ e. absurd cc, λ c. absurd (c t spells))
-text_exactly s output bytes (says_no refused) = (λ e. absurd cc, λ c. absurd (c refused.0 refused.1))
-text_exactly s output bytes (reads_nothing none) = (λ e. none, λ c. inl refl)
-
-done_or_none : (s : Status) → (s ≡ status.Done) ⊎ GivesUp s → speaks s ≡ true → (s ≡ status.Done) ⊎ (s ≡ status.OutOfMemory)
-done_or_none s (inl e) h = inl e
-done_or_none s (inr (inl e)) h = inr e
-done_or_none s (inr (inr (inl e))) h = absurd cc
-done_or_none s (inr (inr (inr e))) h = absurd cc
-
--- the answer of the definition, where there is one, is the one that was given
-pub exactly : (r : Option Request) (books : Books) (s : Status) (output : List ℕ) → (IsTold r books → IsAnswer books r s output)
-    → (other : Status) (other_output : List ℕ) → IsAnswer books r other other_output → (s ≡ other) ⊎ GivesUp s
-exactly r books s output h other other_output a =
-    inl (one_answer books r s output other other_output (h (told_of books r other other_output a)) a).0
-
-pub answered : (r : Option Request) (books : Books) (s : Status) (output : List ℕ) → (IsTold r books → IsAnswer books r s output) → IsAnswered r books s
-answered r books s output h = λ told. inl (output, h told)
-
-pub complete : (r : Option Request) (books : Books) (read_rose : List ℕ → Type 0) (write_rose : Type 0) (s : Status) (output : List ℕ)
-    → (IsTold r books → IsAnswer books r s output) → speaks s ≡ true → Complete r books read_rose write_rose s
-complete None books read_rose write_rose s output h sp = tt
-complete (Some (check file)) books read_rose write_rose s output h sp = λ bytes told accepted no_read no_write.
-    done_or_none s ((yes_exactly s output bytes (told_answer books file bytes s output (h (bytes, told)) told)).1 accepted) sp
-complete (Some (run file procedure document fuel arguments)) books read_rose write_rose s output h sp = λ other a no_file no_document no_write.
-    done_or_none s (exactly (Some (run file procedure document fuel arguments)) books s output h status.Done other a) sp
-
-pub bad_words_where : (r : Option Request) (books : Books) (s : Status) (output : List ℕ) → (IsTold r books → IsAnswer books r s output)
-    → may_answer r s ≡ true → BadWordsWhere r books s
-bad_words_where None books s output h m = inl (one_answer books None s output status.BadWords bad_words_line (h tt) bad_words).0
-bad_words_where (Some (check file)) books s output h m = λ e. no_bad_words (rw e at m)
-  where
-    no_bad_words : may_answer (Some (check file)) status.BadWords ≡ true → ⊥
-    no_bad_words m = cc
-bad_words_where (Some (run file procedure document fuel arguments)) books s output h m = λ bytes told nothing.
-    exactly (Some (run file procedure document fuel arguments)) books s output h status.BadWords bad_words_line
-    (ran file procedure document fuel arguments bytes told (not_called nothing))
-
--- a file with more bytes than the limit spells nothing
+-- more bytes than a file or a document may have spell nothing
 pub too_large : (bytes : List ℕ) → standard_limits.file_bytes < length bytes → Unreadable bytes
 too_large bytes lt t spells = omega (arith, spells.small)
 
--- the answer to words without a reading
-pub no_reading : (r : Option Request) (books : Books) (s : Status) (output : List ℕ) → r ≡ None → s ≡ status.BadWords → output ≡ bad_words_line → IsAnswer books r s output
-no_reading r books s output e e' e'' = rw (e, e', e'') bad_words
+pub no_large_document : (bytes : List ℕ) → standard_limits.file_bytes < length bytes
+    → NoDocument bytes
+no_large_document bytes lt g spells = omega (arith, spells.small)
 
--- the answer to `check`
-pub checks : (r : Option Request) (books : Books) (file : List ℕ) (s : Status) (output : List ℕ) → r ≡ Some (check file)
-    → Told (books file) (λ b. CheckAnswer b s output) → IsTold r books → IsAnswer books r s output
-checks r books file s output e h told = rw e (go (rw e at told))
-  where
-    go : IsTold (Some (check file)) books → IsAnswer books (Some (check file)) s output
-    go t = checked file t.0 t.1 (h t.0 t.1)
+-- a yes is a proof
+pub sound : (bytes : List ℕ) (s : Status) (output : List ℕ)
+    → CheckAnswer bytes s output → s ≡ status.Done → IsProved bytes
+sound bytes s output (says_yes t spells accepted) e = (t, spells, accepted_hold t accepted)
+sound bytes s output (says_no t spells refused) e = absurd cc
+sound bytes s output (reads_nothing none) e = absurd cc
 
--- what holds of the status and the line of a reply is the answer
-pub said : {R E : Type 0} (status_in : R → Status) (line_in : R → List ℕ) (bytes : List ℕ) (s : Status) (output : List ℕ) (r : Result R E)
-    → CheckAnswer bytes s output → IfOk r (λ x. status_in x ≡ s) → IfOk r (λ x. line_in x ≡ output) → IfOk r (λ x. CheckAnswer bytes (status_in x) (line_in x))
-said status_in line_in bytes s output (Ok x) a e f = rw (e, f) a
-said status_in line_in bytes s output (Err x) a e f = tt
+-- the status and the line of a reply are those of the answer
+pub said : {R E : Type 0} (status_in : R → Status) (line_in : R → List ℕ)
+    (Answer : Status → List ℕ → Type 0) (s : Status) (output : List ℕ) (r : Result R E)
+    → Answer s output → IfOk r (λ x. status_in x ≡ s) → IfOk r (λ x. line_in x ≡ output)
+    → IfOk r (λ x. Answer (status_in x) (line_in x))
+said status_in line_in Answer s output (Ok x) a e f = rw (e, f) a
+said status_in line_in Answer s output (Err x) a e f = tt
+
+-- A REPLY, where what it needs is told
+module _ (books : Books) where
+  -- of a run: the document that was read is the told one, where it comes to that
+  told_run : (document bytes procedure : List ℕ) (fuel : ℕ) (arguments : List (List ℕ))
+      (read : List ℕ) (s : Status) (output : List ℕ) → Told (books document) (λ d. read ≡ d)
+      → (IsCalled bytes procedure arguments → IsToldBook books document)
+      → RunAnswer (Some read) bytes procedure fuel arguments s output
+      → RunAnswer (books document) bytes procedure fuel arguments s output
+  told_run document bytes name fuel words read s output same needs (file_unread n) = file_unread n
+  told_run document bytes name fuel words read s output same needs (not_called n) = not_called n
+  told_run document bytes name fuel words read s output same needs
+      (is_called t f values d spells e found answer) =
+      let told = needs (t, spells, f, values, e) in
+      let there : told.0 ≡ d = cc (same told.0 told.1) in
+      is_called t f values told.0 spells e told.1
+      (subst (λ (z : List ℕ). DocumentAnswer t f values fuel z s output) (sym there) answer)
+
+  pub answer : (r : Option Request) (s : Status) (output : List ℕ)
+      → IsReply r books s output → IsTold r books → IsAnswer books r s output
+  answer None s output a told = a
+  answer (Some (check file)) s output a told =
+      checked file told.0 told.1
+      (subst (λ (z : List ℕ). CheckAnswer z s output) (a.2 told.0 told.1) a.1)
+  answer (Some (run file procedure document fuel arguments)) s output a told =
+      ran file procedure document fuel arguments told.0 told.1
+      (told_run document told.0 procedure fuel arguments a.1.0 s output a.1.2 told.2
+      (subst (λ (z : List ℕ). RunAnswer (Some a.1.0) z procedure fuel arguments s output)
+      (a.2 told.0 told.1) a.1.1))
+
+  pub answered : (r : Option Request) (s : Status) (output : List ℕ)
+      → IsReply r books s output → IsAnswered r books s
+  answered r s output a = λ told. inl (output, answer r s output a told)
+
+  -- the answer of the definition, where there is one, is the one that was given
+  pub same_answer : (r : Option Request) (s : Status) (output : List ℕ) → IsReply r books s output
+      → (t : Status) (other : List ℕ) → IsAnswer books r t other → s ≡ t
+  same_answer r s output a t other b =
+      (one_answer books r s output t other (answer r s output a (told_of books r t other b)) b).0
+
+  -- a fact of the told bytes of a file
+  pub on_file : (r : Option Request) (s : Status) (output : List ℕ) (P : List ℕ → Type 0)
+      → ((bytes : List ℕ) → CheckAnswer bytes s output → P bytes)
+      → IsReply r books s output → OfFile r books P
+  on_file None s output P f a = tt
+  on_file (Some (run file procedure document fuel arguments)) s output P f a = tt
+  on_file (Some (check file)) s output P f a = λ bytes told.
+      f bytes (subst (λ (z : List ℕ). CheckAnswer z s output) (a.2 bytes told) a.1)
+
+  -- bad words of a run
+  words_of_run : (bytes procedure : List ℕ) (fuel : ℕ) (arguments : List (List ℕ))
+      (read : Option (List ℕ)) (s : Status) (output : List ℕ)
+      → RunAnswer read bytes procedure fuel arguments s output
+      → ExactlyWhere (NotCalled bytes procedure arguments) s status.BadWords
+  words_of_run bytes name fuel words read s output (file_unread n) =
+      (λ e. absurd cc, λ c. absurd (n c.0 c.1))
+  words_of_run bytes name fuel words read s output (not_called n) = (λ e. n, λ c. inl refl)
+  words_of_run bytes name fuel words read s output (is_called t f values d spells e found answer) =
+      let called : is_of_called s ≡ true = document_status t f values fuel d s output answer in (
+        λ q. absurd (not_bad_words (subst (λ (z : Status). is_of_called z ≡ true) q called)),
+        λ c. absurd (not_both_called bytes name words (t, spells, f, values, e) c),
+      )
+    where
+      not_bad_words : is_of_called status.BadWords ≡ true → ⊥
+      not_bad_words h = cc
+
+  pub bad_words_exactly : (r : Option Request) (s : Status) (output : List ℕ)
+      → IsReply r books s output → BadWordsExactly r books s
+  bad_words_exactly None s output a = tt
+  bad_words_exactly (Some (check file)) s output a = tt
+  bad_words_exactly (Some (run file procedure document fuel arguments)) s output a =
+      λ bytes told. words_of_run bytes procedure fuel arguments (Some a.1.0) s output
+      (subst (λ (z : List ℕ). RunAnswer (Some a.1.0) z procedure fuel arguments s output)
+      (a.2 bytes told) a.1.1)

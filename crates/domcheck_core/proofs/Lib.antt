@@ -1,4 +1,5 @@
 pub mod OneAnswer
+pub mod Statuses
 pub mod Judged
 pub mod Calling
 pub mod Reading
@@ -10,3 +11,4 @@ pub mod Small
 pub mod Counts
 pub mod Spelling
 pub mod Tested
+pub mod Follows

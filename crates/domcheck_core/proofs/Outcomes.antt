@@ -1,5 +1,5 @@
 -- Runs that are called: they may be run, and where they end, the grove is well formed.
-use Rattle.std.proofs.Common.{◌≡◌, ◌∙◌, ℕ, zero, suc, Bool, true, false, ◌&&◌, List, [], ◌∷◌, map, slice_get, Some, Result, Ok, Err, IfOk, refl, sym, subst}
+use Rattle.std.proofs.Common.{◌≡◌, ◌∙◌, ℕ, zero, suc, Bool, true, false, ◌&&◌, List, [], ◌∷◌, map, slice_get, Option, Some, None, ap, Result, Ok, Err, IfOk, refl, sym, subst}
 use Rattle.std.specs.List.{list_all}
 use Rattle.model_shapes.specs.Tests.{same_data_sort}
 use Rattle.model_shapes.specs.Sorts.{shape, grove}
@@ -32,9 +32,10 @@ use Rattle.dom_terms.specs.Terms.{prog_var_of}
 use Rattle.dom_meaning.specs.declared.runs.Outcome.{Outcome}
 use Rattle.dom_meaning.specs.declared.runs.Outcome.TheVariants as o
 use Rattle.domcheck_core.specs.Calls.{IsWhole}
-use Rattle.domcheck_core.specs.Groves.{Passes}
-use Rattle.domcheck_core.specs.Answers.{Answer, outcome_on, outcome_answer, grove_answer, unless_unfit}
-use Rattle.domcheck_core.proofs.Tested.{both}
+use Rattle.model_terms.specs.TermLimits.{or_else}
+use Rattle.domcheck_core.specs.declared.status.Status.{Status}
+use Rattle.domcheck_core.specs.Answers.{Answer, outcome_on, outcome_answer, grove_answer, refusal}
+use Rattle.std.proofs.lemmas.Bool.{and_parts}
 
 -- the commands of the first form are those that the machine runs
 same_kinds : (c : Command) → is_first_kind c ≡ is_built_kind c
@@ -59,64 +60,101 @@ all_kinds (c ∷ cs) = λ i. same_kinds c i && all_kinds cs i
 
 built_body : (f : ProcedureOf Named) → is_first_procedure f ≡ true → is_built f.body ≡ true
 built_body f e =
-    let a = both (same_data_sort f.sort grove) (is_first_formula f.pre && (is_first_formula f.post && (is_first_command f.body && list_all is_first_step f.proof))) e in
-    let b = both (is_first_formula f.pre) (is_first_formula f.post && (is_first_command f.body && list_all is_first_step f.proof)) a.1 in
-    let c = both (is_first_formula f.post) (is_first_command f.body && list_all is_first_step f.proof) b.1 in
-    sym (all_kinds (commands_in f.body)) ∙ (both (is_first_command f.body) (list_all is_first_step f.proof) c.1).0
+    let a = and_parts (same_data_sort f.sort grove)
+        (is_first_formula f.pre && (is_first_formula
+        f.post && (is_first_command f.body && list_all is_first_step f.proof))) e in
+    let b = and_parts (is_first_formula f.pre)
+        (is_first_formula f.post && (is_first_command f.body && list_all is_first_step f.proof)) a.1
+        in
+    let c = and_parts (is_first_formula f.post)
+        (is_first_command f.body && list_all is_first_step f.proof) b.1 in
+    sym (all_kinds (commands_in f.body))
+        ∙ (and_parts (is_first_command f.body) (list_all is_first_step f.proof) c.1).0
 
 -- of the procedure at a place
-pub built_at : (xs : List Procedure) (k : ℕ) (p : Procedure) → list_all is_first_procedure (map procedure_of xs) ≡ true → slice_get xs k ≡ Some p
+pub built_at : (xs : List Procedure) (k : ℕ) (p : Procedure)
+    → list_all is_first_procedure (map procedure_of xs) ≡ true → slice_get xs k ≡ Some p
     → is_built (procedure_of p).body ≡ true
 built_at [] k p e h = absurd cc
 built_at (x ∷ xs) zero p e h =
     let same : x ≡ p = cc in
     subst (λ (z : Procedure). is_built (procedure_of z).body ≡ true) same
-    (built_body (procedure_of x) (both (is_first_procedure (procedure_of x)) (list_all is_first_procedure (map procedure_of xs)) e).0)
+    (built_body (procedure_of x) (and_parts (is_first_procedure (procedure_of x))
+        (list_all is_first_procedure (map procedure_of xs)) e).0)
 built_at (x ∷ xs) (suc k) p e h =
-    built_at xs k p (both (is_first_procedure (procedure_of x)) (list_all is_first_procedure (map procedure_of xs)) e).1 h
+    built_at xs k p (and_parts (is_first_procedure (procedure_of x))
+        (list_all is_first_procedure (map procedure_of xs)) e).1 h
 
 -- where a run ends, the grove is well formed
-ends_whole : (theory : Theory) → IsWellFormedTheory theory → (results : List ProgVar) (fuel : ℕ) (config : machine.Config)
+ends_whole : (theory : Theory) → IsWellFormedTheory theory
+    → (results : List ProgVar) (fuel : ℕ) (config : machine.Config)
     → FitsConfig (procedures_of theory) config → (n : ℕ) (values : List Value) (g : Trees)
-    → outcome_from (procedures_of theory) results fuel 0 config ≡ model.ends n values g → WellFormed g
+    → outcome_from (procedures_of theory) results fuel 0 config ≡ model.ends n values g
+        → WellFormed g
 ends_whole theory w results fuel config fits n values g e =
     let ps = procedures_of theory in
     let b : Behind ps results 0 config.pending config.store config.grove (model.ends n values g) =
     subst (Behind ps results 0 config.pending config.store config.grove) e
     (outcome-behind standard_limits ps results fuel 0 config.pending config.store config.grove) in
     let f : Ends Unit Fine (machine.ended b.1 g) =
-    subst (Ends Unit Fine) b.3 (runs-fine ps (well-formed-bodies theory w) b.0 config.pending config.store config.grove fits.pieces fits.fine) in
+    subst (Ends Unit Fine) b.3 (runs-fine ps (well-formed-bodies theory w) b.0 config.pending
+        config.store config.grove fits.pieces fits.fine) in
     f.whole.well_formed
 
-pub whole : (theory : Theory) → IsWellFormedTheory theory → (results : List ProgVar) (fuel : ℕ) (config : machine.Config)
-    → FitsConfig (procedures_of theory) config → (r : Outcome) → IsOutcome results fuel r (outcome_from (procedures_of theory) results fuel 0 config) → IsWhole r
-whole theory w results fuel config fits (o.Ended steps values g) e = ends_whole theory w results fuel config fits steps _ _ e
+pub whole : (theory : Theory) → IsWellFormedTheory theory
+    → (results : List ProgVar) (fuel : ℕ) (config : machine.Config)
+    → FitsConfig (procedures_of theory) config → (r : Outcome)
+        → IsOutcome results fuel r (outcome_from (procedures_of theory) results fuel 0 config)
+        → IsWhole r
+whole theory w results fuel config fits (o.Ended steps values g) e =
+    ends_whole theory w results fuel config fits steps _ _ e
 whole theory w results fuel config fits (o.Fault kind steps command) e = tt
 whole theory w results fuel config fits (o.Spent left) e = tt
 whole theory w results fuel config fits (o.Limit kind) e = tt
 whole theory w results fuel config fits o.OutOfMemory e = tt
 
 -- what a run came to is what the definition says of the document
-pub ran : (theory : Theory) (f : ProcedureOf Named) (values : List Value) (fuel : ℕ) (document roots : Trees) (config : Config) (results : List ProgVar) (r : Outcome)
+pub ran : (theory : Theory) (f : ProcedureOf Named) (values : List Value) (fuel : ℕ)
+    (document roots : Trees) (config : Config) (results : List ProgVar) (r : Outcome)
     → Begins f values roots config → roots ≡ document → results ≡ f.results
-    → IsOutcome (map prog_var_of config.results) fuel r (outcome_from (procedures_of theory) (map prog_var_of config.results) fuel 0 (config_of config))
+    → IsOutcome (map prog_var_of config.results) fuel r
+        (outcome_from (procedures_of theory) (map prog_var_of config.results) fuel 0
+        (config_of config))
     → IsOutcome results fuel r (outcome_on theory f values fuel document)
 ran theory f values fuel document roots config results r begins e q h =
     let ps = procedures_of theory in
     let a : IsOutcome f.results fuel r (outcome_from ps f.results fuel 0 (config_of config)) =
-    subst (λ (z : List ProgVar). IsOutcome z fuel r (outcome_from ps z fuel 0 (config_of config))) begins.results h in
-    let b : IsOutcome f.results fuel r (outcome_from ps f.results fuel 0 (machine.start f values roots)) =
-    subst (λ (z : machine.Config). IsOutcome f.results fuel r (outcome_from ps f.results fuel 0 z)) begins.configuration a in
+    subst (λ (z : List ProgVar). IsOutcome z fuel r (outcome_from ps z fuel 0 (config_of config)))
+        begins.results h in
+    let b : IsOutcome f.results fuel r
+        (outcome_from ps f.results fuel 0 (machine.start f values roots)) =
+    subst (λ (z : machine.Config). IsOutcome f.results fuel r (outcome_from ps f.results fuel 0 z))
+        begins.configuration a in
     let c : IsOutcome f.results fuel r (outcome_on theory f values fuel document) =
     subst (λ (z : Trees). IsOutcome f.results fuel r (outcome_on theory f values fuel z)) e b in
-    subst (λ (z : List ProgVar). IsOutcome z fuel r (outcome_on theory f values fuel document)) (sym q) c
+    subst (λ (z : List ProgVar). IsOutcome z fuel r (outcome_on theory f values fuel document))
+        (sym q) c
 
--- the answer of the outcome is the answer on the document
-pub on_grove : {A E : Type 0} (theory : Theory) (f : ProcedureOf Named) (values : List Value) (fuel : ℕ) (document : Trees) (results : List ProgVar) (of : A → Answer) (reply : Result A E)
-    → Passes (unless_unfit document) → results ≡ f.results
-    → IfOk reply (λ x. outcome_answer results (outcome_on theory f values fuel document) ≡ Some (of x))
-    → IfOk reply (λ x. grove_answer theory f values fuel document ≡ Some (of x))
-on_grove theory f values fuel document results of (Ok x) passes e h =
-    passes (outcome_answer f.results (outcome_on theory f values fuel document))
-    ∙ subst (λ (z : List ProgVar). outcome_answer z (outcome_on theory f values fuel document) ≡ Some (of x)) e h
-on_grove theory f values fuel document results of (Err x) passes e h = tt
+-- the answer of the outcome is the answer on the document, and so is what is refused
+module _ {A E : Type 0} (theory : Theory) (f : ProcedureOf Named) (values : List Value) (fuel : ℕ)
+    (document : Trees) (of : A → Answer) where
+  pub on_grove : (results : List ProgVar) (reply : Result A E)
+      → refusal document ≡ None → results ≡ f.results
+      → IfOk reply (λ x.
+      outcome_answer results (outcome_on theory f values fuel document) ≡ Some (of x))
+      → IfOk reply (λ x. grove_answer theory f values fuel document ≡ Some (of x))
+  on_grove results (Ok x) passes e h =
+      let answer = λ (z : List ProgVar). outcome_answer z
+          (outcome_on theory f values fuel document) in
+      ap (λ (z : Option Answer). or_else z (answer f.results)) passes
+      ∙ subst (λ (z : List ProgVar). answer z ≡ Some (of x)) e h
+  on_grove results (Err x) passes e h = tt
+
+  pub refused : (s : Status) (line : List ℕ) (reply : Result A E)
+      → refusal document ≡ Some (s, line)
+      → IfOk reply (λ x. of x ≡ (s, line))
+      → IfOk reply (λ x. grove_answer theory f values fuel document ≡ Some (of x))
+  refused s line (Ok x) h e =
+      let answer = outcome_answer f.results (outcome_on theory f values fuel document) in
+      ap (λ (z : Option Answer). or_else z answer) h ∙ ap (λ (z : Answer). Some z) (sym e)
+  refused s line (Err x) h e = tt

@@ -1,67 +1,113 @@
--- What follows for `run` from what was read: the answer, and where its faults come from.
-use Rattle.std.proofs.Common.{◌≡◌, ℕ, ◌+◌, ◌≤◌, List, Option, Some, None, refl, sym, subst, arith, min}
-use Rattle.outside_io.specs.Causes.{Told, Rose, next_count}
-use Rattle.model_shapes.specs.Trees.{Trees}
-use Rattle.model_shapes.specs.Values.{Value}
-use Rattle.model_formulas.specs.Formulas.{Named}
-use Rattle.model_commands.specs.Theories.{ProcedureOf, Theory}
-use Rattle.model_grammar.specs.Files.{SpellsFile}
-use Rattle.model_answers.specs.Words.{Request, run}
+-- What a run answers, from what its file and its document come to.
+use Rattle.std.proofs.Common.{◌≡◌, ℕ, List, Option, Some, None, refl, map, subst, slice_get, Result, Ok, Err, IfOk}
+use Rattle.outside_io.specs.Causes.{Told}
 use Rattle.model_answers.specs.Arguments.{called}
-use Rattle.model_answers.specs.Documents.{SpellsDocument}
-use Rattle.model_answers.specs.Output.{bad_text_line, bad_words_line, bad_document_text_line}
-use Rattle.domcheck_core.specs.Answers.{Books, Unreadable, NoDocument, grove_answer, DocumentAnswer, document_read, document_unread, IsCalled, NotCalled, RunAnswer, file_unread, not_called, is_called, IsAnswer, ran, IsToldBook, IsTold}
+use Rattle.model_answers.specs.Output.{bad_text_line, bad_words_line}
+use Rattle.dom_syntax.specs.Theories.{procedure_of, theory_of}
+use Rattle.dom_syntax.specs.declared.theories.Procedure.{Procedure}
+use Rattle.dom_syntax.specs.declared.theories.Theory.{Theory}
+use Rattle.dom_terms.specs.Values.{value_seen}
+use Rattle.model_grammar.specs.Files.{SpellsFile}
+use Rattle.domcheck_core.specs.Answers.{Unreadable, DocumentAnswer, IsCalled, NotCalled, RunAnswer, file_unread, not_called, is_called}
 use Rattle.domcheck_core.specs.Books.{ReadFrom}
+use Rattle.domcheck_core.specs.Calls.{FitsCall, IsCallOf, CallAnswer}
+use Rattle.domcheck_core.specs.declared.calls.Call.{Call}
 use Rattle.domcheck_core.specs.declared.status.Status.{Status}
 use Rattle.domcheck_core.specs.declared.status.Status.TheVariants as status
+use Rattle.domcheck_core.proofs.Fitting.{called_fits}
+use Rattle.domcheck_core.proofs.Reading.{unread_book}
 
--- the answer to `run`
-pub runs : (r : Option Request) (books : Books) (file procedure document : List ℕ) (fuel : ℕ) (arguments : List (List ℕ)) (s : Status) (output : List ℕ)
-    → r ≡ Some (run file procedure document fuel arguments)
-    → Told (books file) (λ b. (IsCalled b procedure arguments → IsToldBook books document) → RunAnswer books b procedure document fuel arguments s output)
-    → IsTold r books → IsAnswer books r s output
-runs r books file procedure document fuel arguments s output e h told = rw e (go (rw e at told))
-  where
-    go : IsTold (Some (run file procedure document fuel arguments)) books → IsAnswer books (Some (run file procedure document fuel arguments)) s output
-    go t = ran file procedure document fuel arguments t.0 t.1 (h t.0 t.1 t.2)
+module _ (bytes name : List ℕ) (arguments : List (List ℕ)) where
+  -- where the file comes to no call, the answer is the same whatever the document is
+  abbrev pub AnswersAll : Status → List ℕ → Type 0
+  AnswersAll s output =
+      (document : Option (List ℕ)) (fuel : ℕ)
+      → RunAnswer document bytes name fuel arguments s output
 
-module _ (books : Books) (file procedure document : List ℕ) (fuel : ℕ) (arguments : List (List ℕ)) where
-  -- what a run answers where its file is told, and its document where it comes to that
-  abbrev pub Answers : Status → List ℕ → Type 0
-  Answers s output =
-      Told (books file) (λ b. (IsCalled b procedure arguments → IsToldBook books document) → RunAnswer books b procedure document fuel arguments s output)
+  pub unread : (s : Status) (output : List ℕ) → Unreadable bytes → s ≡ status.BadText
+      → output ≡ bad_text_line → AnswersAll s output
+  unread s output h e q = λ document fuel. rw (e, q) (file_unread h)
 
-  pub unread : (s : Status) (output : List ℕ) → Told (books file) Unreadable → s ≡ status.BadText → output ≡ bad_text_line → Answers s output
-  unread s output h e f = λ b told needs. rw (e, f) (file_unread (h b told))
+  pub uncalled : (theory : Theory) (s : Status) (output : List ℕ)
+      → SpellsFile bytes (theory_of theory)
+      → called (theory_of theory) name arguments ≡ None → s ≡ status.BadWords
+      → output ≡ bad_words_line → AnswersAll s output
+  uncalled theory s output spells h e q =
+      λ document fuel. rw (e, q) (not_called (theory_of theory, spells, h))
 
-  module _ (t : Theory) (read : ReadFrom (books file) (λ bytes. SpellsFile bytes t)) where
-    spelled : (b : List ℕ) → books file ≡ Some b → SpellsFile b t
-    spelled b told = subst (λ (z : List ℕ). SpellsFile z t) (read.2 b told) read.1
+  -- where it comes to a call
+  module _ (theory : Theory) (call : Call)
+      (opened : SpellsFile bytes (theory_of theory) × IsCallOf theory name arguments call) where
+    pub fits : FitsCall theory call
+    fits = record {
+      of_form = opened.0.of_form;
+      procedure = opened.1.0;
+      stands = opened.1.1;
+      fit = called_fits (theory_of theory) name arguments (procedure_of opened.1.0)
+          (map value_seen call.values) opened.1.2;
+    }
 
-    pub uncalled : (s : Status) (output : List ℕ) → called t procedure arguments ≡ None → s ≡ status.BadWords → output ≡ bad_words_line → Answers s output
-    uncalled s output c e f = λ b told needs. rw (e, f) (not_called (t, spelled b told, c))
+    pub calls : IsCalled bytes name arguments
+    calls = (
+      theory_of theory,
+      opened.0,
+      procedure_of opened.1.0,
+      map value_seen call.values,
+      opened.1.2,
+    )
 
-    module _ (f : ProcedureOf Named) (values : List Value) (c : called t procedure arguments ≡ Some (f, values)) where
-      pub is_reached : Told (books file) (λ b. IsCalled b procedure arguments)
-      is_reached = λ b told. (t, spelled b told, f, values, c)
+    pub reached : (fuel : ℕ) (document : List ℕ) (s : Status) (output : List ℕ)
+        → CallAnswer theory call fuel document s output
+        → RunAnswer (Some document) bytes name fuel arguments s output
+    reached fuel document s output answer =
+        is_called (theory_of theory) (procedure_of opened.1.0) (map value_seen call.values) document
+        opened.0 opened.1.2 refl (answer opened.1.0 opened.1.1)
 
-      pub reached : (later : Books) (s : Status) (output : List ℕ) → Told (books document) (λ d. later document ≡ Some d)
-          → Told (later document) (λ d. DocumentAnswer t f values fuel d s output) → Answers s output
-      reached later s output kept answer = λ b told needs.
-          let d = needs (is_reached b told) in
-          is_called t f values d.0 (spelled b told) c d.1 (answer d.0 (kept d.0 d.1))
+-- over books: the file and the document, as they were read
+module _ (book : Option (List ℕ)) (name : List ℕ) (arguments : List (List ℕ)) (fuel : ℕ) where
+  abbrev pub Replies : Option (List ℕ) → Status → List ℕ → Type 0
+  Replies document s output =
+      ReadFrom book (λ bytes. ReadFrom document
+      (λ read. RunAnswer (Some read) bytes name fuel arguments s output))
 
--- the answer on a document that was read
-pub on_document : (theory : Theory) (f : ProcedureOf Named) (values : List Value) (fuel : ℕ) (book : Option (List ℕ)) (g : Trees) (s : Status) (output : List ℕ)
-    → ReadFrom book (λ bytes. SpellsDocument bytes g) → grove_answer theory f values fuel g ≡ Some (s, output)
-    → Told book (λ b. DocumentAnswer theory f values fuel b s output)
-on_document theory f values fuel book g s output read e = λ b told.
-    document_read g (subst (λ (z : List ℕ). SpellsDocument z g) (read.2 b told) read.1) e
+  pub replied : (document : Option (List ℕ)) (s : Status) (output : List ℕ)
+      → ReadFrom book (λ bytes. AnswersAll bytes name arguments s output)
+          → Replies document s output
+  replied document s output a = (
+    a.0,
+    unread_book (λ read. RunAnswer (Some read) a.0 name fuel arguments s output) document
+        (λ read. a.1 (Some read) fuel),
+    a.2,
+  )
 
-pub no_document : (theory : Theory) (f : ProcedureOf Named) (values : List Value) (fuel : ℕ) (book : Option (List ℕ)) (s : Status) (output : List ℕ)
-    → Told book NoDocument → s ≡ status.BadText → output ≡ bad_document_text_line → Told book (λ b. DocumentAnswer theory f values fuel b s output)
-no_document theory f values fuel book s output h e q = λ b told. rw (e, q) (document_unread (h b told))
+  module _ (theory : Theory) (call : Call)
+      (opened : ReadFrom book (λ bytes. SpellsFile bytes (theory_of theory)
+      × IsCallOf theory name arguments call)) where
+    pub called_reply : (before between : Option (List ℕ)) → Told before (λ d. between ≡ Some d)
+        → (s : Status) (output : List ℕ)
+        → ReadFrom between (λ read. CallAnswer theory call fuel read s output)
+        → Replies before s output
+    called_reply before between kept s output a = (
+      opened.0,
+      (
+        a.0,
+        reached opened.0 name arguments theory call opened.1 fuel a.0 s output a.1,
+        λ d told. a.2 d (kept d told),
+      ),
+      opened.2,
+    )
 
--- a count that rose behind one that had not fallen, rose
-pub rose_behind : (before between after : ℕ) → before ≤ between → Rose between after → Rose before after
-rose_behind before between after le rose = omega (arith, rose, le)
+    pub calls_told : Told book (λ b. IsCalled b name arguments)
+    calls_told = λ b told.
+        subst (λ (z : List ℕ). IsCalled z name arguments) (opened.2 b told)
+        (calls opened.0 name arguments theory call opened.1)
+
+-- the answer of a call, where its procedure is found behind the reply
+pub of_call : {A E : Type 0} (theory : Theory) (call : Call) (fuel : ℕ) (document : List ℕ)
+    (status_in : A → Status) (line_in : A → List ℕ) (r : Result A E)
+    → ((f : Procedure) → slice_get theory.procedures call.procedure ≡ Some f
+    → IfOk r (λ x. DocumentAnswer (theory_of theory) (procedure_of f) (map value_seen call.values)
+    fuel document (status_in x) (line_in x)))
+    → IfOk r (λ x. CallAnswer theory call fuel document (status_in x) (line_in x))
+of_call theory call fuel document status_in line_in (Ok x) h = h
+of_call theory call fuel document status_in line_in (Err e) h = tt

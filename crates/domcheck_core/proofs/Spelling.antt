@@ -11,5 +11,6 @@ seen_all : (ts : List Token) → lexemes_in ts ≡ map lexeme_of (map token_of t
 seen_all [] = refl
 seen_all (t ∷ ts) = ap (λ (z : List Lexeme). seen t ∷ z) (seen_all ts)
 
-pub same_lexemes : (bytes : List ℕ) (ts : List Token) → map token_of ts ≡ tokens_of bytes → lexemes_in ts ≡ lexemes_of bytes
+pub same_lexemes : (bytes : List ℕ) (ts : List Token) → map token_of ts ≡ tokens_of bytes
+    → lexemes_in ts ≡ lexemes_of bytes
 same_lexemes bytes ts e = seen_all ts ∙ ap (map lexeme_of) e

@@ -1,9 +1,10 @@
 -- The answer to the words: the status and the output, one case for each row.
-use Rattle.std.specs.Prelude.{◌≡◌, ℕ, nat_le, Bool, true, false, List, Option, Some, None}
+use Rattle.std.specs.Prelude.{◌≡◌, ℕ, nat_le, List, Option, Some, None, option_map}
 use Rattle.model_shapes.specs.Trees.{Trees}
 use Rattle.model_shapes.specs.Values.{Value}
 use Rattle.model_formulas.specs.Formulas.{Named}
 use Rattle.model_terms.specs.Stores.{ProgVar}
+use Rattle.model_terms.specs.TermLimits.{or_else, unless}
 use Rattle.model_commands.specs.Theories.{ProcedureOf, Theory, procedures_of}
 use Rattle.model_machine.specs.Machine.{start}
 use Rattle.model_machine.specs.Outcomes as outcomes
@@ -11,7 +12,7 @@ use Rattle.model_machine.specs.Outcomes.{Outcome, ends, spends, passes_limit, ha
 use Rattle.model_limits.specs.Limits.{standard_limits}
 use Rattle.model_groves.specs.Sizes.{size}
 use Rattle.model_rules.specs.Accepted.{IsAccepted}
-use Rattle.model_documents.specs.Numbers.{Numbered, first_out_of_range, first_repeat}
+use Rattle.model_documents.specs.Numbers.{first_out_of_range, first_repeat}
 use Rattle.model_grammar.specs.Files.{SpellsFile}
 use Rattle.model_answers.specs.Words.{Request, check, run}
 use Rattle.model_answers.specs.Arguments.{called}
@@ -22,18 +23,8 @@ use Rattle.dom_terms.specs.declared.limits.LimitKind.TheVariants as l
 use Rattle.domcheck_core.specs.declared.status.Status.{Status}
 use Rattle.domcheck_core.specs.declared.status.Status.TheVariants as status
 
--- the books, as far as the library tells them
-abbrev pub Books : Type 0
-Books = List ℕ → Option (List ℕ)
-
 -- CHECK
--- what is asked of the bytes of a file by each status of `check`
-abbrev pub Accepted : List ℕ → Type 0
-Accepted bytes = (theory : Theory) × SpellsFile bytes theory × IsAccepted theory
-
-abbrev pub Refused : List ℕ → Type 0
-Refused bytes = (theory : Theory) × SpellsFile bytes theory × (IsAccepted theory → ⊥)
-
+-- the bytes spell no file
 abbrev pub Unreadable : List ℕ → Type 0
 Unreadable bytes = (theory : Theory) → SpellsFile bytes theory → ⊥
 
@@ -41,7 +32,8 @@ Unreadable bytes = (theory : Theory) → SpellsFile bytes theory → ⊥
 pub data CheckAnswer (bytes : List ℕ) : Status → List ℕ → Type 0 where
   says_yes : (theory : Theory) → SpellsFile bytes theory → IsAccepted theory
       → CheckAnswer bytes status.Done (accepted_line theory)
-  says_no : Refused bytes → CheckAnswer bytes status.StepFails not_accepted_line
+  says_no : (theory : Theory) → SpellsFile bytes theory → (IsAccepted theory → ⊥)
+      → CheckAnswer bytes status.StepFails not_accepted_line
   reads_nothing : Unreadable bytes → CheckAnswer bytes status.BadText bad_text_line
 
 -- RUN
@@ -61,8 +53,8 @@ limit_named outcomes.depth_limit = l.Depth
 abbrev pub Answer : Type 0
 Answer = Status × List ℕ
 
-abbrev pub limit_answer : outcomes.LimitKind → Option Answer
-limit_answer kind = Some (status.Limit (limit_named kind), limit_line kind)
+abbrev pub limit_answer : outcomes.LimitKind → Answer
+limit_answer kind = (status.Limit (limit_named kind), limit_line kind)
 
 -- the answer of an outcome; the last never comes, since the next pick is free
 abbrev pub outcome_answer : List ProgVar → Outcome → Option Answer
@@ -70,50 +62,46 @@ outcome_answer results (ends steps values grove) =
     Some (status.Done, ended_lines steps results values grove)
 outcome_answer results (has_fault kind steps piece) = Some (status.Faulted, fault_line kind steps)
 outcome_answer results (spends steps config) = Some (status.FuelSpent, spent_line steps)
-outcome_answer results (passes_limit kind) = limit_answer kind
+outcome_answer results (passes_limit kind) = Some (limit_answer kind)
 outcome_answer results no_pick = None
 
 -- the outcome of the procedure on these values and this document within the fuel
 abbrev pub outcome_on : Theory → ProcedureOf Named → List Value → ℕ → Trees → Outcome
 outcome_on theory f values fuel document =
     let begun = start f values document in
-    outcome standard_limits (procedures_of theory) f.results fuel 0 begun.pending begun.store begun.grove
+    outcome standard_limits (procedures_of theory) f.results fuel 0
+    begun.pending begun.store begun.grove
 
--- a number that is out of range, where there is one, and else what comes otherwise
-abbrev pub unless_out_of_range : Option Numbered → Option Answer → Option Answer
-unless_out_of_range (Some n) otherwise = Some (status.BadDocument, range_line n)
-unless_out_of_range None otherwise = otherwise
+-- why nothing is run on a document: a number out of range, one that repeats, too many nodes
+abbrev pub range_refusal : Trees → Option Answer
+range_refusal document =
+    option_map (λ n. (status.BadDocument, range_line n)) (first_out_of_range document)
 
--- a number that repeats
-abbrev pub unless_repeated : Option Numbered → Option Answer → Option Answer
-unless_repeated (Some n) otherwise = Some (status.BadDocument, repeat_line n)
-unless_repeated None otherwise = otherwise
+abbrev pub repeat_refusal : Trees → Option Answer
+repeat_refusal document =
+    option_map (λ n. (status.BadDocument, repeat_line n)) (first_repeat document)
 
--- more nodes than the most
-abbrev pub unless_too_large : Bool → Option Answer → Option Answer
-unless_too_large false otherwise = limit_answer outcomes.nodes_limit
-unless_too_large true otherwise = otherwise
+abbrev pub size_refusal : Trees → Option Answer
+size_refusal document =
+    unless (nat_le (size document) standard_limits.nodes) (limit_answer outcomes.nodes_limit)
 
--- a number out of range, a number that repeats, too many nodes, in this order, and else what comes
--- otherwise
-abbrev pub unless_unfit : Trees → Option Answer → Option Answer
-unless_unfit document otherwise =
-    unless_out_of_range (first_out_of_range document)
-    (unless_repeated (first_repeat document)
-    (unless_too_large (nat_le (size document) standard_limits.nodes) otherwise))
+-- the first of these
+abbrev pub refusal : Trees → Option Answer
+refusal document =
+    or_else (range_refusal document) (or_else (repeat_refusal document) (size_refusal document))
 
 -- the answer of the run on a document that spells this grove
 abbrev pub grove_answer : Theory → ProcedureOf Named → List Value → ℕ → Trees → Option Answer
 grove_answer theory f values fuel document =
-    unless_unfit document (outcome_answer f.results (outcome_on theory f values fuel document))
+    or_else (refusal document) (outcome_answer f.results (outcome_on theory f values fuel document))
 
 -- the bytes spell no document
 abbrev pub NoDocument : List ℕ → Type 0
 NoDocument bytes = (document : Trees) → SpellsDocument bytes document → ⊥
 
 -- the answer of the run on a document with these bytes
-pub data DocumentAnswer (theory : Theory) (f : ProcedureOf Named) (values : List Value) (fuel : ℕ) (bytes : List ℕ)
-    : Status → List ℕ → Type 0 where
+pub data DocumentAnswer (theory : Theory) (f : ProcedureOf Named) (values : List Value) (fuel : ℕ)
+    (bytes : List ℕ) : Status → List ℕ → Type 0 where
   document_unread : NoDocument bytes
       → DocumentAnswer theory f values fuel bytes status.BadText bad_document_text_line
   document_read : (document : Trees) {s : Status} {output : List ℕ} → SpellsDocument bytes document
@@ -131,27 +119,32 @@ abbrev pub NotCalled : List ℕ → List ℕ → List (List ℕ) → Type 0
 NotCalled bytes procedure arguments =
     (theory : Theory) × SpellsFile bytes theory × (called theory procedure arguments ≡ None)
 
--- the answer of `run` on a file with these bytes
-pub data RunAnswer (books : Books) (bytes procedure document : List ℕ) (fuel : ℕ) (arguments : List (List ℕ))
-    : Status → List ℕ → Type 0 where
+-- the answer of `run` on a file with these bytes, and on a document as far as it is told
+pub data RunAnswer (document : Option (List ℕ)) (bytes procedure : List ℕ) (fuel : ℕ)
+    (arguments : List (List ℕ)) : Status → List ℕ → Type 0 where
   file_unread : Unreadable bytes
-      → RunAnswer books bytes procedure document fuel arguments status.BadText bad_text_line
+      → RunAnswer document bytes procedure fuel arguments status.BadText bad_text_line
   not_called : NotCalled bytes procedure arguments
-      → RunAnswer books bytes procedure document fuel arguments status.BadWords bad_words_line
+      → RunAnswer document bytes procedure fuel arguments status.BadWords bad_words_line
   is_called : (theory : Theory) (f : ProcedureOf Named) (values : List Value) (read : List ℕ)
       {s : Status} {output : List ℕ} → SpellsFile bytes theory
-      → called theory procedure arguments ≡ Some (f, values) → books document ≡ Some read
+      → called theory procedure arguments ≡ Some (f, values) → document ≡ Some read
       → DocumentAnswer theory f values fuel read s output
-      → RunAnswer books bytes procedure document fuel arguments s output
+      → RunAnswer document bytes procedure fuel arguments s output
 
--- THE ANSWER to a request, where the books that it reads are told
+-- THE ANSWER to a request
+-- the books, as far as the library tells them
+abbrev pub Books : Type 0
+Books = List ℕ → Option (List ℕ)
+
+-- where the books that the request reads are told
 pub data IsAnswer (books : Books) : Option Request → Status → List ℕ → Type 0 where
   bad_words : IsAnswer books None status.BadWords bad_words_line
   checked : (file bytes : List ℕ) {s : Status} {output : List ℕ} → books file ≡ Some bytes
       → CheckAnswer bytes s output → IsAnswer books (Some (check file)) s output
   ran : (file procedure document : List ℕ) (fuel : ℕ) (arguments : List (List ℕ)) (bytes : List ℕ)
       {s : Status} {output : List ℕ} → books file ≡ Some bytes
-      → RunAnswer books bytes procedure document fuel arguments s output
+      → RunAnswer (books document) bytes procedure fuel arguments s output
       → IsAnswer books (Some (run file procedure document fuel arguments)) s output
 
 -- the book of this name is told

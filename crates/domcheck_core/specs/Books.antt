@@ -1,7 +1,19 @@
--- What is read from a book, told or not; nothing here is to be believed.
-use Rattle.std.specs.Prelude.{◌≡◌, ℕ, List, Option}
+-- Needn't be believed: what is read from a book, told or not, and what a reply says of the books.
+use Rattle.std.specs.Prelude.{◌≡◌, ℕ, List, Option, Some, None}
 use Rattle.outside_io.specs.Causes.{Told}
+use Rattle.model_answers.specs.Words.{Request, check, run}
+use Rattle.domcheck_core.specs.Answers.{Books, CheckAnswer, RunAnswer, IsAnswer}
+use Rattle.domcheck_core.specs.declared.status.Status.{Status}
 
 -- some bytes have the property, and where the book is told they are its bytes
 abbrev pub ReadFrom : Option (List ℕ) → (List ℕ → Type 0) → Type 0
 ReadFrom book Has = (bytes : List ℕ) × Has bytes × Told book (λ b. bytes ≡ b)
+
+-- the answer on the books that were read
+abbrev pub IsReply : Option Request → Books → Status → List ℕ → Type 0
+IsReply None books s output = IsAnswer books None s output
+IsReply (Some (check file)) books s output =
+    ReadFrom (books file) (λ bytes. CheckAnswer bytes s output)
+IsReply (Some (run file procedure document fuel arguments)) books s output =
+    ReadFrom (books file) (λ bytes. ReadFrom (books document)
+    (λ read. RunAnswer (Some read) bytes procedure fuel arguments s output))

@@ -1,8 +1,8 @@
--- What a call of the program stands for, and what a run needs of it; nothing here is to be believed.
-use Rattle.std.specs.Prelude.{◌≡◌, ℕ, List, Some, slice_get, map}
+-- Needn't be believed: what a call of the program stands for, and what a run needs of it.
+use Rattle.std.specs.Prelude.{◌≡◌, ℕ, List, Option, Some, slice_get, map}
 use Rattle.model_shapes.specs.Trees.{WellFormed}
 use Rattle.model_machine.specs.Fitting.{ValuesFit}
-use Rattle.model_grammar.specs.Files.{IsOfForm}
+use Rattle.model_grammar.specs.Files.{SpellsFile, IsOfForm}
 use Rattle.dom_terms.specs.Terms.{prog_var_of}
 use Rattle.grove_data.specs.Trees.{forest_of}
 use Rattle.dom_meaning.specs.declared.runs.Outcome.{Outcome}
@@ -12,7 +12,11 @@ use Rattle.dom_syntax.specs.declared.theories.Theory.{Theory}
 use Rattle.dom_syntax.specs.Theories.{procedure_of, theory_of}
 use Rattle.dom_terms.specs.Values.{value_seen}
 use Rattle.model_answers.specs.Arguments.{called, procedure_called}
+use Rattle.domcheck_core.specs.Answers.{DocumentAnswer, RunAnswer}
 use Rattle.domcheck_core.specs.declared.calls.Call.{Call}
+use Rattle.domcheck_core.specs.declared.runs.Opened.{Opened}
+use Rattle.domcheck_core.specs.declared.runs.Opened.TheVariants as opened
+use Rattle.domcheck_core.specs.declared.status.Status.{Status}
 
 -- a procedure stands at the place, and it is the first of the name
 abbrev pub IsPlaceOf : List ℕ → List Procedure → ℕ → Type 0
@@ -32,6 +36,21 @@ pub record FitsCall (theory : Theory) (call : Call) : Type 0 where
   pub procedure : Procedure
   pub stands : slice_get theory.procedures call.procedure ≡ Some procedure
   pub fit : ValuesFit (map prog_var_of procedure.params) (map value_seen call.values)
+
+-- what the bytes of a file come to: a call, or the answer whatever the document is
+abbrev pub IsOpened : List ℕ → List ℕ → List (List ℕ) → Opened → Type 0
+IsOpened bytes name arguments (opened.Called theory call) =
+    SpellsFile bytes (theory_of theory) × IsCallOf theory name arguments call
+IsOpened bytes name arguments (opened.Answered reply) =
+    (document : Option (List ℕ)) (fuel : ℕ)
+    → RunAnswer document bytes name fuel arguments reply.status reply.output
+
+-- the answer of the call on a document with these bytes
+abbrev pub CallAnswer : Theory → Call → ℕ → List ℕ → Status → List ℕ → Type 0
+CallAnswer theory call fuel document s output =
+    (f : Procedure) → slice_get theory.procedures call.procedure ≡ Some f
+    → DocumentAnswer (theory_of theory) (procedure_of f) (map value_seen call.values) fuel document
+    s output
 
 -- the grove at the end of a run is well formed
 abbrev pub IsWhole : Outcome → Type 0

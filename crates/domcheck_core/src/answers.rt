@@ -1,50 +1,45 @@
 // From the words to the answer.
-ghost use Rattle.std.specs.Prelude.{◌≡◌, ◌≤◌, ℕ, List, true, None, Some, map, string_bytes, length, IfOk, IsErrOf};
+ghost use Rattle.std.specs.Prelude.{◌≡◌, ◌≤◌, ◌⊎◌, ℕ, List, None, Some, IfOk, IsErrOf};
 ghost use Rattle.outside_io.specs.Causes.{Rose, Told};
-ghost use Rattle.model_answers.specs.Words.{reading_of, check};
-ghost use Rattle.model_limits.specs.Limits.{standard_limits};
-ghost use Rattle.domcheck_core.specs.Answers.{CheckAnswer, IsAnswer, IsTold};
-ghost use Rattle.domcheck_core.specs.Clauses.{may_answer, ReadRose, speaks};
+ghost use Rattle.model_answers.specs.Words as words;
+ghost use Rattle.domcheck_core.specs.Answers.{IsCalled};
+ghost use Rattle.domcheck_core.specs.Books.{IsReply};
+ghost use Rattle.domcheck_core.specs.Clauses.{asked, ReadRose};
 
-use crate::books::read_book;
-use crate::file::read_file;
-use crate::replies::{Refusal, Reply, accepted, reported};
-use crate::runs::run;
+use crate::books::{check_book, open_book, run_book};
+use crate::replies::{Refusal, Reply, reported};
+use crate::runs::Opened;
 use crate::status::Status;
-use dom_terms::{OutOfMemory, Text};
+use dom_terms::{Text, Texts};
 use fault_report::Report;
-use hoare_kernel::is_accepted;
 use outside_io::Library;
 use request_words::{Request, WordFault, read_words};
 use std::alloc::Global;
 
-// The answer on the bytes of a file.
-fn judge(alloc: Global, bytes: &[u8]) -> Result<Reply, OutOfMemory>
-    requires { length bytes.now ≤ standard_limits.file_bytes }
-    ensures { IfOk result (λ r. CheckAnswer bytes.now r.status r.output) }
-{
-    let Some(theory) = read_file(alloc, bytes)? else {
-        return reported(alloc, Status::BadText, &Report::BadText);
-    };
-    if is_accepted(alloc, &theory)? {
-        accepted(alloc, &theory)
-    } else {
-        reported(alloc, Status::StepFails, &Report::NotAccepted)
-    }
-}
-
-// The answer of `check` with the name of a file.
-fn check<L: Library>(alloc: Global, library: &mut L, file: &Text) -> Result<Reply, Refusal>
-    ensures answer { IfOk result (λ r. Told (L.book library.old file.now) (λ b. CheckAnswer b r.status r.output)) }
-    ensures possible { IfOk result (λ r. may_answer (Some (check file.now)) r.status ≡ true) }
-    ensures speaks { IfOk result (λ r. speaks r.status ≡ true) }
-    ensures cause { IsErrOf result Refusal.ReadFault → Rose (L.faults library.old file.now) (L.faults library.new file.now) }
-    ensures kept { (name : List ℕ) → Told (L.book library.old name) (λ b. L.book library.new name ≡ Some b) }
+// The answer of `run` with these words.
+fn run<L: Library>(
+    alloc: Global,
+    library: &mut L,
+    file: &Text,
+    procedure: &Text,
+    document: &Text,
+    fuel: u32,
+    arguments: &Texts,
+) -> Result<Reply, Refusal>
+    ensures answer { IfOk result (λ r.
+        IsReply (Some (words.run file.now procedure.now document.now fuel arguments.now))
+        (L.book library.old) r.status r.output) }
+    ensures cause { IsErrOf result Refusal.ReadFault
+        → Rose (L.faults library.old file.now) (L.faults library.new file.now)
+        ⊎ (Rose (L.faults library.old document.now) (L.faults library.new document.now)
+        × Told (L.book library.old file.now) (λ b. IsCalled b procedure.now arguments.now)) }
+    ensures kept { (name : List ℕ)
+        → Told (L.book library.old name) (λ b. L.book library.new name ≡ Some b) }
     ensures later { (name : List ℕ) → L.faults library.old name ≤ L.faults library.new name }
 {
-    match read_book(alloc, library, file.as_str())? {
-        Some(bytes) => Ok(judge(alloc, &bytes)?),
-        None => Ok(reported(alloc, Status::BadText, &Report::BadText)?),
+    match open_book(alloc, library, file, procedure, arguments)? {
+        Opened::Called(theory, call) => run_book(alloc, library, &theory, call, document, fuel),
+        Opened::Answered(reply) => Ok(reply),
     }
 }
 
@@ -54,19 +49,18 @@ pub fn answer_words<L: Library>(
     words: &[String],
     library: &mut L,
 ) -> Result<Reply, Refusal>
-    ensures answer { IfOk result (λ r. IsTold (reading_of (map string_bytes words.now)) (L.book library.old)
-        → IsAnswer (L.book library.old) (reading_of (map string_bytes words.now)) r.status r.output) }
-    ensures possible { IfOk result (λ r. may_answer (reading_of (map string_bytes words.now)) r.status ≡ true) }
-    ensures speaks { IfOk result (λ r. speaks r.status ≡ true) }
+    ensures answer { IfOk result (λ r.
+        IsReply (asked words.now) (L.book library.old) r.status r.output) }
     ensures cause { IsErrOf result Refusal.ReadFault
-        → ReadRose (reading_of (map string_bytes words.now)) (L.book library.old)
-        (λ name. Rose (L.faults library.old name) (L.faults library.new name)) }
-    ensures words_first { reading_of (map string_bytes words.now) ≡ None → library.new ≡ library.old }
-    ensures kept { (name : List ℕ) → Told (L.book library.old name) (λ b. L.book library.new name ≡ Some b) }
+        → ReadRose (asked words.now) (L.book library.old) (λ name.
+        Rose (L.faults library.old name) (L.faults library.new name)) }
+    ensures words_first { asked words.now ≡ None → library.new ≡ library.old }
+    ensures kept { (name : List ℕ)
+        → Told (L.book library.old name) (λ b. L.book library.new name ≡ Some b) }
     ensures later { (name : List ℕ) → L.faults library.old name ≤ L.faults library.new name }
 {
     match read_words(alloc, words) {
-        Ok(Request::Check { file }) => check(alloc, library, &file),
+        Ok(Request::Check { file }) => check_book(alloc, library, &file),
         Ok(
             Request::Run {
                 file,

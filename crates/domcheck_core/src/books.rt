@@ -1,31 +1,30 @@
-// The books that the words name.
+// The books that the words name: what is done with their bytes once they are read.
 ghost use Rattle.std.specs.Prelude.{◌≡◌, ◌≤◌, ◌<◌, ℕ, List, Some, length, IfOk, IsErrOf, MatchOption};
 ghost use Rattle.outside_io.specs.Causes.{Rose, Told};
 ghost use Rattle.model_limits.specs.Limits.{standard_limits};
-ghost use Rattle.dom_syntax.specs.Theories.{theory_of};
-ghost use Rattle.model_grammar.specs.Files.{SpellsFile};
-ghost use Rattle.model_answers.specs.Documents.{SpellsDocument};
-ghost use Rattle.logic_text.specs.RawGroves.{raw_forest_of};
-ghost use Rattle.domcheck_core.specs.Answers.{Unreadable, NoDocument};
+ghost use Rattle.domcheck_core.specs.Answers.{CheckAnswer};
 ghost use Rattle.domcheck_core.specs.Books.{ReadFrom};
+ghost use Rattle.domcheck_core.specs.Calls.{FitsCall, IsOpened, CallAnswer};
 
-use crate::document::read_document;
-use crate::file::read_file;
-use crate::replies::Refusal;
+use crate::calls::Call;
+use crate::checks::check_bytes;
+use crate::replies::{Refusal, Reply, bad_text, reported};
+use crate::runs::{Opened, open_file, run_document};
+use crate::status::Status;
 use dom_syntax::Theory;
-use logic_text::RawGrove;
+use dom_terms::{Text, Texts};
+use fault_report::Report;
 use outside_io::{Library, ReadAllFault, read_all};
 use std::alloc::Global;
 
-/// The bytes of a book, or none where it has more than a file may have.
-pub fn read_book<L: Library>(
+// The bytes of a book, or none where it has more than a file may have.
+fn read_book<L: Library>(
     alloc: Global,
     library: &mut L,
     name: &str,
 ) -> Result<Option<Vec<u8>>, Refusal>
-    ensures whole { IfOk result (λ found. Told (L.book library.old name.now)
-        (λ b. MatchOption found (standard_limits.file_bytes < length b) (λ bytes. bytes.items ≡ b))) }
-    ensures small { IfOk result (λ found. MatchOption found Unit (λ bytes. length bytes.items ≤ standard_limits.file_bytes)) }
+    ensures read { IfOk result (λ found. ReadFrom (L.book library.old name.now) (λ b.
+        MatchOption found (standard_limits.file_bytes < length b) (λ bytes. bytes.items ≡ b))) }
     ensures cause { IsErrOf result Refusal.ReadFault
         → Rose (L.faults library.old name.now) (L.faults library.new name.now) }
     ensures kept { (other : List ℕ)
@@ -40,42 +39,68 @@ pub fn read_book<L: Library>(
     }
 }
 
-/// The theory of a file, or none where its bytes spell none of the form that is read.
-pub fn fetch_theory<L: Library>(
+/// The answer of `check` on the file of this name.
+pub fn check_book<L: Library>(
     alloc: Global,
     library: &mut L,
-    name: &str,
-) -> Result<Option<Theory>, Refusal>
-    ensures found { IfOk result (λ found. MatchOption found (Told (L.book library.old name.now) Unreadable)
-        (λ t. ReadFrom (L.book library.old name.now) (λ bytes. SpellsFile bytes (theory_of t)))) }
+    file: &Text,
+) -> Result<Reply, Refusal>
+    ensures answer { IfOk result (λ r. ReadFrom (L.book library.old file.now)
+        (λ bytes. CheckAnswer bytes r.status r.output)) }
     ensures cause { IsErrOf result Refusal.ReadFault
-        → Rose (L.faults library.old name.now) (L.faults library.new name.now) }
+        → Rose (L.faults library.old file.now) (L.faults library.new file.now) }
     ensures kept { (other : List ℕ)
         → Told (L.book library.old other) (λ b. L.book library.new other ≡ Some b) }
     ensures later { (other : List ℕ) → L.faults library.old other ≤ L.faults library.new other }
 {
-    match read_book(alloc, library, name)? {
-        Some(bytes) => Ok(read_file(alloc, &bytes)?),
-        None => Ok(None),
+    match read_book(alloc, library, file.as_str())? {
+        Some(bytes) => Ok(check_bytes(alloc, &bytes)?),
+        None => Ok(bad_text(alloc)?),
     }
 }
 
-/// The grove that a document spells, or none where its bytes spell none.
-pub fn fetch_document<L: Library>(
+/// The call that the words ask for of the file of this name, or the answer where there is none.
+pub fn open_book<L: Library>(
     alloc: Global,
     library: &mut L,
-    name: &str,
-) -> Result<Option<RawGrove>, Refusal>
-    ensures found { IfOk result (λ found. MatchOption found (Told (L.book library.old name.now) NoDocument)
-        (λ g. ReadFrom (L.book library.old name.now) (λ bytes. SpellsDocument bytes (raw_forest_of g)))) }
+    file: &Text,
+    procedure: &Text,
+    arguments: &Texts,
+) -> Result<Opened, Refusal>
+    ensures opened { IfOk result (λ o. ReadFrom (L.book library.old file.now)
+        (λ bytes. IsOpened bytes procedure.now arguments.now o)) }
     ensures cause { IsErrOf result Refusal.ReadFault
-        → Rose (L.faults library.old name.now) (L.faults library.new name.now) }
+        → Rose (L.faults library.old file.now) (L.faults library.new file.now) }
     ensures kept { (other : List ℕ)
         → Told (L.book library.old other) (λ b. L.book library.new other ≡ Some b) }
     ensures later { (other : List ℕ) → L.faults library.old other ≤ L.faults library.new other }
 {
-    match read_book(alloc, library, name)? {
-        Some(bytes) => Ok(read_document(alloc, &bytes)?),
-        None => Ok(None),
+    match read_book(alloc, library, file.as_str())? {
+        Some(bytes) => Ok(open_file(alloc, &bytes, procedure, arguments)?),
+        None => Ok(Opened::Answered(bad_text(alloc)?)),
+    }
+}
+
+/// The answer of a call on the document of this name.
+pub fn run_book<L: Library>(
+    alloc: Global,
+    library: &mut L,
+    theory: &Theory,
+    call: Call,
+    document: &Text,
+    fuel: u32,
+) -> Result<Reply, Refusal>
+    requires { FitsCall theory.now call }
+    ensures answer { IfOk result (λ r. ReadFrom (L.book library.old document.now)
+        (λ bytes. CallAnswer theory.now call fuel bytes r.status r.output)) }
+    ensures cause { IsErrOf result Refusal.ReadFault
+        → Rose (L.faults library.old document.now) (L.faults library.new document.now) }
+    ensures kept { (other : List ℕ)
+        → Told (L.book library.old other) (λ b. L.book library.new other ≡ Some b) }
+    ensures later { (other : List ℕ) → L.faults library.old other ≤ L.faults library.new other }
+{
+    match read_book(alloc, library, document.as_str())? {
+        Some(bytes) => Ok(run_document(alloc, theory, call, &bytes, fuel)?),
+        None => Ok(reported(alloc, Status::BadText, &Report::BadDocumentText)?),
     }
 }

@@ -36,8 +36,8 @@ fn place_of(procedures: &[Procedure], name: &str) -> Option<usize>
     position_of(procedures, name)
 }
 
-/// The call of the procedure of this name on these arguments. None comes exactly where the name isn't
-/// in the theory, or the arguments aren't as many as the parameters, or one doesn't read.
+/// The call of the procedure of this name on these arguments. None comes exactly where the name
+/// isn't in the theory, or the arguments aren't as many as the parameters, or one doesn't read.
 pub fn read_call(
     alloc: Global,
     theory: &Theory,

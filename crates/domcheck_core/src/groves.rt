@@ -5,18 +5,16 @@ ghost use Rattle.model_shapes.specs.Shapes.{Shaped};
 ghost use Rattle.model_documents.specs.Numbers.{first_repeat};
 ghost use Rattle.grove_data.specs.Trees.{forest_of};
 ghost use Rattle.logic_text.specs.RawGroves.{raw_forest_of};
-ghost use Rattle.domcheck_core.specs.Answers.{unless_unfit};
-ghost use Rattle.domcheck_core.specs.Groves.{size_test, repeat_test, IsUnfit, Passes};
+ghost use Rattle.model_terms.specs.TermLimits.{or_else};
+ghost use Rattle.domcheck_core.specs.Answers.{repeat_refusal, size_refusal, refusal};
+ghost use Rattle.domcheck_core.specs.Groves.{IsUnfit};
 
 use crate::status::Status;
-use dom_terms::LimitKind;
+use dom_terms::{LimitKind, limits};
 use fault_report::Report;
 use grove_data::{Grove, UniqueFault, check_unique, has_at_most};
 use logic_text::{RangeFault, RawGrove, to_grove};
 use std::alloc::Global;
-
-/// The most nodes of a document.
-const MOST_NODES: usize = 1000;
 
 /// Why a run may not start on a grove.
 #[derive(Clone, Copy, Debug, PartialEq, Eq)]
@@ -30,10 +28,10 @@ pub enum Unfit {
 // The grove, unless it has too many nodes.
 fn within_nodes(grove: Grove) -> Result<Grove, Unfit>
     ensures same { IfOk result (λ kept. forest_of kept ≡ forest_of grove) }
-    ensures passes { IfOk result (λ kept. Passes (size_test (forest_of grove))) }
-    ensures told { IfErr result (λ e. IsUnfit e (size_test (forest_of grove))) }
+    ensures passes { IfOk result (λ kept. size_refusal (forest_of grove) ≡ None) }
+    ensures told { IfErr result (λ e. IsUnfit e (size_refusal (forest_of grove))) }
 {
-    if has_at_most(&grove, MOST_NODES) {
+    if has_at_most(&grove, limits::NODES) {
         return Ok(grove);
     }
     let kind = LimitKind::Nodes;
@@ -44,8 +42,10 @@ fn within_nodes(grove: Grove) -> Result<Grove, Unfit>
 fn without_repeats(alloc: Global, grove: Grove) -> Result<Grove, Unfit>
     ensures same { IfOk result (λ kept. forest_of kept ≡ forest_of grove) }
     ensures unique { IfOk result (λ kept. first_repeat (forest_of grove) ≡ None) }
-    ensures passes { IfOk result (λ kept. Passes (repeat_test (forest_of grove))) }
-    ensures told { IfErr result (λ e. IsUnfit e (repeat_test (forest_of grove))) }
+    ensures passes { let found = repeat_refusal (forest_of grove) in
+        IfOk result (λ kept. or_else found (size_refusal (forest_of grove)) ≡ None) }
+    ensures told { let found = repeat_refusal (forest_of grove) in
+        IfErr result (λ e. IsUnfit e (or_else found (size_refusal (forest_of grove)))) }
 {
     match check_unique(alloc, &grove) {
         Ok(()) => within_nodes(grove),
@@ -62,8 +62,8 @@ fn without_repeats(alloc: Global, grove: Grove) -> Result<Grove, Unfit>
 pub fn fit_grove(alloc: Global, raw: &RawGrove) -> Result<Grove, Unfit>
     ensures same { IfOk result (λ kept. forest_of kept ≡ raw_forest_of raw.now) }
     ensures shaped { IfOk result (λ kept. Shaped (shape grove) (raw_forest_of raw.now)) }
-    ensures passes { IfOk result (λ kept. Passes (unless_unfit (raw_forest_of raw.now))) }
-    ensures told { IfErr result (λ e. IsUnfit e (unless_unfit (raw_forest_of raw.now))) }
+    ensures passes { IfOk result (λ kept. refusal (raw_forest_of raw.now) ≡ None) }
+    ensures told { IfErr result (λ e. IsUnfit e (refusal (raw_forest_of raw.now))) }
 {
     match to_grove(alloc, raw) {
         Ok(grove) => without_repeats(alloc, grove),

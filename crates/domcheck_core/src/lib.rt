@@ -1,18 +1,20 @@
-//! The top call: checks annotated program files, and runs their procedures on documents. Its contract
-//! says what each answer means, when it comes and what is written, for every library and every sink.
-//! Stands on the readers of words, files and documents, the checker of theories, the machine and the
-//! outside.
+//! Checks annotated program files, and runs their procedures on documents. `check_bytes` and
+//! `run_bytes` give the answer to bytes in hand, and `domcheck` is the thin layer over them: it reads
+//! the words, fetches what they name and writes the answer. Its contract says what each answer
+//! means, when it comes and what is written, for every library and every sink. Stands on the readers
+//! of words, files and documents, the checker of theories, the machine and the outside.
 #![tactic(auto)]
 
-ghost use Rattle.std.specs.Prelude.{◌≡◌, ◌≤◌, ◌⊎◌, ℕ, List, IsTrue, None, Some, map, string_bytes};
+ghost use Rattle.std.specs.Prelude.{◌≡◌, ◌≤◌, ◌⊎◌, ℕ, List, Contains, None, Some};
 ghost use Rattle.outside_io.specs.Causes.{Rose, Told};
-ghost use Rattle.model_answers.specs.Words.{reading_of};
-ghost use Rattle.domcheck_core.specs.Answers.{Accepted, Refused, Unreadable, IsAnswer};
-ghost use Rattle.domcheck_core.specs.Clauses.{OfFile, IsProved, ExactlyWhere, BadWordsWhere, GivesUp, IsAnswered, may_answer, ReadRose, Wrote, Complete};
+ghost use Rattle.domcheck_core.specs.Answers.{IsAnswer};
+ghost use Rattle.domcheck_core.specs.Clauses.{asked, OfFile, IsProved, BadWordsExactly, GivesUp, IsAnswered, statuses, ReadRose, Wrote};
+ghost use Rattle.domcheck_core.specs.Numbers.{number_of};
 
 mod answers;
 mod books;
 mod calls;
+mod checks;
 mod document;
 mod file;
 mod form;
@@ -25,7 +27,10 @@ mod status;
 use answers::answer_words;
 use outside_io::{Library, Sink, write_all_of};
 use replies::Refusal;
-pub use request_words::{Request, WordFault, read_words};
+
+pub use checks::check_bytes;
+pub use replies::Reply;
+pub use runs::run_bytes;
 pub use status::Status;
 use std::alloc::Global;
 
@@ -38,42 +43,45 @@ pub fn domcheck<L: Library, S: Sink>(
     sink: &mut S,
 ) -> Status
     // A yes is a proof.
-    ensures soundness_of_yes { OfFile (reading_of (map string_bytes words.now)) (L.book library.old)
+    ensures soundness_of_yes { OfFile (asked words.now) (L.book library.old)
         (λ bytes. result ≡ Status.Done → IsProved bytes) }
 
-    // When each answer comes.
-    ensures yes_exactly { OfFile (reading_of (map string_bytes words.now)) (L.book library.old)
-        (λ bytes. ExactlyWhere (Accepted bytes) result Status.Done) }
-    ensures not_accepted_exactly { OfFile (reading_of (map string_bytes words.now)) (L.book library.old)
-        (λ bytes. ExactlyWhere (Refused bytes) result Status.StepFails) }
-    ensures bad_text_exactly { OfFile (reading_of (map string_bytes words.now)) (L.book library.old)
-        (λ bytes. ExactlyWhere (Unreadable bytes) result Status.BadText) }
-    ensures bad_words_where { BadWordsWhere (reading_of (map string_bytes words.now)) (L.book library.old) result }
-    ensures possible { IsTrue (may_answer (reading_of (map string_bytes words.now)) result) }
-
     // The answer to each request is the one that is defined, and no other.
-    ensures answered { IsAnswered (reading_of (map string_bytes words.now)) (L.book library.old) result }
+    ensures answered { IsAnswered (asked words.now) (L.book library.old) result }
     ensures exactly { (s : Status) (output : List ℕ)
-        → IsAnswer (L.book library.old) (reading_of (map string_bytes words.now)) s output
+        → IsAnswer (L.book library.old) (asked words.now) s output
         → (result ≡ s) ⊎ GivesUp result }
+
+    // It is given where nothing failed, but for want of memory.
+    ensures complete { (s : Status) (output : List ℕ)
+        → IsAnswer (L.book library.old) (asked words.now) s output
+        → (ReadRose (asked words.now) (L.book library.old) (λ name.
+        Rose (L.faults library.old name) (L.faults library.new name)) → ⊥)
+        → (Rose (S.faults sink.old) (S.faults sink.new) → ⊥)
+        → (result ≡ s) ⊎ (result ≡ Status.OutOfMemory) }
+
+    // Whatever is told, a request has no other status than its own, and bad words of a run that is
+    // called come nowhere.
+    ensures possible { Contains (statuses (asked words.now)) (number_of result) }
+    ensures bad_words_exactly { BadWordsExactly (asked words.now) (L.book library.old) result }
 
     // Faults come only where their counts rose.
     ensures read_fault { result ≡ Status.ReadFault
-        → ReadRose (reading_of (map string_bytes words.now)) (L.book library.old) (λ name. Rose (L.faults library.old name) (L.faults library.new name)) }
-    ensures write_fault { result ≡ Status.WriteFault → Rose (S.faults sink.old) (S.faults sink.new) }
+        → ReadRose (asked words.now) (L.book library.old) (λ name.
+        Rose (L.faults library.old name) (L.faults library.new name)) }
+    ensures write_fault { result ≡ Status.WriteFault
+        → Rose (S.faults sink.old) (S.faults sink.new) }
 
     // What the sink took.
-    ensures wrote { Wrote (reading_of (map string_bytes words.now)) (L.book library.old) result (S.taken sink.old) (S.taken sink.new) }
-
-    // A yes is given.
-    ensures complete { Complete (reading_of (map string_bytes words.now)) (L.book library.old)
-        (λ name. Rose (L.faults library.old name) (L.faults library.new name)) (Rose (S.faults sink.old) (S.faults sink.new)) result }
+    ensures wrote { Wrote (asked words.now) (L.book library.old) result
+        (S.taken sink.old) (S.taken sink.new) }
 
     // The words are read first: where they have no reading the library isn't asked.
-    ensures words_first { reading_of (map string_bytes words.now) ≡ None → library.new ≡ library.old }
+    ensures words_first { asked words.now ≡ None → library.new ≡ library.old }
 
     // The library tells what it told, and no count has fallen.
-    ensures kept { (name : List ℕ) → Told (L.book library.old name) (λ b. L.book library.new name ≡ Some b) }
+    ensures kept { (name : List ℕ)
+        → Told (L.book library.old name) (λ b. L.book library.new name ≡ Some b) }
     ensures later { (name : List ℕ) → L.faults library.old name ≤ L.faults library.new name }
     ensures sink_later { S.faults sink.old ≤ S.faults sink.new }
 {

@@ -7,17 +7,9 @@ ghost use Rattle.model_text.specs.Nesting as nesting;
 ghost use Rattle.model_files.specs.FileLimits as files;
 
 use dom_syntax::Procedure;
+use dom_terms::limits::{PROOF_STEPS, TEXT_BYTES, VARIABLES};
 use text_tokens::Token;
 use token_readers::is_this;
-
-/// The most bytes of a text.
-const MOST_TEXT: usize = 4096;
-
-/// The most variables of a procedure.
-const MOST_VARIABLES: usize = 64;
-
-/// The most steps of the proofs of a file.
-const MOST_STEPS: usize = 65_535;
 
 // Whether the token is an opening bracket.
 fn opens(token: &Token) -> bool
@@ -69,7 +61,7 @@ fn is_text_within(token: &Token) -> bool
     ensures { result ≡ nesting.text_within (seen token.now) }
 {
     match token.literal() {
-        Some(text) => text.len() <= MOST_TEXT,
+        Some(text) => text.len() <= TEXT_BYTES,
         None => true,
     }
 }
@@ -91,7 +83,8 @@ fn texts_within(tokens: &[Token]) -> bool
 /// Whether at most so many brackets are open at each token, and the literals are within the limit.
 pub fn are_within(tokens: &[Token], most_open: u32) -> bool
     requires { most_open ≤ 1000 }
-    ensures { result ≡ (nesting.nests_within most_open 0 (lexemes_in tokens.now) && nesting.texts_within (lexemes_in tokens.now)) }
+    ensures { result ≡ (nesting.nests_within most_open 0 (lexemes_in tokens.now)
+        && nesting.texts_within (lexemes_in tokens.now)) }
 {
     nest_within(tokens, most_open) && texts_within(tokens)
 }
@@ -103,7 +96,7 @@ pub fn variables_within(procedures: &[Procedure]) -> bool
     let mut rest = procedures;
     'procedures: while let [first, others @ ..] = rest {
         let (params, results) = (first.params.len(), first.results.len());
-        if params > MOST_VARIABLES || results > MOST_VARIABLES - params {
+        if params > VARIABLES || results > VARIABLES - params {
             return false;
         }
         rest = others;
@@ -114,14 +107,15 @@ pub fn variables_within(procedures: &[Procedure]) -> bool
 /// The number of steps of all proofs, or none where it passes the limit.
 pub fn count_steps(procedures: &[Procedure]) -> Option<usize>
     ensures { MatchOption result
-        (MOST_STEPS < files.step_count (map procedure_of procedures.now))
-        (λ count. (count ≡ files.step_count (map procedure_of procedures.now)) × (count ≤ MOST_STEPS)) }
+        (PROOF_STEPS < files.step_count (map procedure_of procedures.now))
+        (λ count. (count ≡ files.step_count (map procedure_of procedures.now))
+        × (count ≤ PROOF_STEPS)) }
 {
     let mut rest = procedures;
     let mut count = 0usize;
     'procedures: while let [first, others @ ..] = rest {
         let steps = first.proof.len();
-        if steps > MOST_STEPS - count {
+        if steps > PROOF_STEPS - count {
             return None;
         }
         count += steps;

@@ -1,6 +1,6 @@
 // Answers with what is written, and why there is none.
 ghost use Rattle.std.specs.Prelude.{◌≡◌, IfOk, string_bytes};
-ghost use Rattle.model_answers.specs.Output.{line, accepted_text, accepted_line};
+ghost use Rattle.model_answers.specs.Output.{line, accepted_text, accepted_line, bad_text_line};
 ghost use Rattle.model_grammar.specs.Files.{IsOfForm};
 ghost use Rattle.dom_syntax.specs.Theories.{theory_of};
 ghost use Rattle.fault_report.specs.Lines.{line_of};
@@ -47,6 +47,14 @@ pub fn reported(alloc: Global, status: Status, report: &Report) -> Result<Reply,
     let mut output = status_line(alloc, report)?;
     output.push('\n')?;
     Ok(Reply { status, output })
+}
+
+/// The answer where the file isn't of the form that is read.
+pub fn bad_text(alloc: Global) -> Result<Reply, OutOfMemory>
+    ensures status { IfOk result (λ r. r.status ≡ Status.BadText) }
+    ensures output { IfOk result (λ r. r.output ≡ bad_text_line) }
+{
+    reported(alloc, Status::BadText, &Report::BadText)
 }
 
 // The text of the line for an accepted theory.

@@ -1,9 +1,7 @@
-// Runs of a file's procedure on a document.
-ghost use Rattle.std.specs.Prelude.{◌≡◌, ◌≤◌, ◌⊎◌, ℕ, List, Some, true, map, slice_get, IfOk, IsErrOf};
-ghost use Rattle.outside_io.specs.Causes.{Rose, Told};
+// Runs of a file's procedure on a document, over the bytes of both.
+ghost use Rattle.std.specs.Prelude.{◌≡◌, ℕ, List, Some, map, slice_get, IfOk};
 ghost use Rattle.model_shapes.specs.Trees.{WellFormed};
 ghost use Rattle.model_machine.specs.Outcomes as outcomes;
-ghost use Rattle.model_answers.specs.Words.{run};
 ghost use Rattle.dom_terms.specs.Terms.{prog_var_of};
 ghost use Rattle.dom_terms.specs.Values.{value_seen};
 ghost use Rattle.grove_data.specs.Trees.{forest_of};
@@ -11,14 +9,14 @@ ghost use Rattle.dom_syntax.specs.declared.theories.Procedure.{Procedure};
 ghost use Rattle.dom_syntax.specs.Theories.{procedure_of, theory_of};
 ghost use Rattle.dom_meaning.specs.Runs.{IsOutcome};
 ghost use Rattle.logic_text.specs.RawGroves.{raw_forest_of};
-ghost use Rattle.domcheck_core.specs.Answers.{outcome_answer, grove_answer, DocumentAnswer, RunAnswer, IsCalled, IsToldBook};
-ghost use Rattle.domcheck_core.specs.Calls.{FitsCall, IsWhole};
-ghost use Rattle.domcheck_core.specs.Clauses.{is_run_status};
+ghost use Rattle.domcheck_core.specs.Answers.{outcome_answer, grove_answer, RunAnswer};
+ghost use Rattle.domcheck_core.specs.Calls.{FitsCall, IsWhole, IsOpened, CallAnswer};
 
-use crate::books::{fetch_document, fetch_theory};
 use crate::calls::{Call, read_call};
+use crate::document::read_document;
+use crate::file::read_file;
 use crate::groves::{Unfit, fit_grove};
-use crate::replies::{Refusal, Reply, reported};
+use crate::replies::{Reply, bad_text, reported};
 use crate::status::Status;
 use dom_meaning::{Outcome, run_plain, start};
 use dom_syntax::Theory;
@@ -26,8 +24,37 @@ use dom_terms::{OutOfMemory, ProgVar, Text, Texts, Values};
 use fault_report::{Report, ended_text};
 use grove_data::{Grove, sort_roots};
 use logic_text::RawGrove;
-use outside_io::Library;
 use std::alloc::Global;
+
+/// What the bytes of a file come to before the document is read.
+#[derive(Drop)]
+pub enum Opened {
+    /// The theory, and the call of one of its procedures.
+    Called(Theory, Call),
+    /// The answer, whatever the document is.
+    Answered(Reply),
+}
+
+/// The call that the words ask for of a file with these bytes, or the answer where there is none.
+pub fn open_file(
+    alloc: Global,
+    file: &[u8],
+    procedure: &Text,
+    arguments: &Texts,
+) -> Result<Opened, OutOfMemory>
+    ensures { IfOk result (IsOpened file.now procedure.now arguments.now) }
+{
+    let Some(theory) = read_file(alloc, file)? else {
+        return Ok(Opened::Answered(bad_text(alloc)?));
+    };
+    match read_call(alloc, &theory, procedure, arguments)? {
+        Some(call) => Ok(Opened::Called(theory, call)),
+        None => {
+            let reply = reported(alloc, Status::BadWords, &Report::BadWords)?;
+            Ok(Opened::Answered(reply))
+        }
+    }
+}
 
 // The answer of a run that ended.
 fn ended(
@@ -39,7 +66,8 @@ fn ended(
 ) -> Result<Reply, OutOfMemory>
     requires { WellFormed (forest_of grove) }
     ensures { IfOk result (λ r. outcome_answer (map prog_var_of results.now)
-        (outcomes.ends steps (map value_seen values.now) (forest_of grove)) ≡ Some (r.status, r.output)) }
+        (outcomes.ends steps (map value_seen values.now) (forest_of grove))
+        ≡ Some (r.status, r.output)) }
 {
     let mut sorted = grove;
     sort_roots(&mut sorted)?;
@@ -57,7 +85,8 @@ fn outcome_reply(
 ) -> Result<Reply, OutOfMemory>
     requires { IsWhole outcome }
     ensures { (o : outcomes.Outcome) → IsOutcome (map prog_var_of results.now) fuel outcome o
-        → IfOk result (λ r. outcome_answer (map prog_var_of results.now) o ≡ Some (r.status, r.output)) }
+        → IfOk result (λ r.
+        outcome_answer (map prog_var_of results.now) o ≡ Some (r.status, r.output)) }
 {
     match outcome {
         Outcome::Ended {
@@ -86,8 +115,8 @@ fn run_on(
 ) -> Result<Reply, OutOfMemory>
     requires { FitsCall theory.now call }
     ensures { (p : Procedure) → slice_get theory.now.procedures call.procedure ≡ Some p
-        → IfOk result (λ r. grove_answer (theory_of theory.now) (procedure_of p) (map value_seen call.values)
-        fuel (raw_forest_of raw.now) ≡ Some (r.status, r.output)) }
+        → IfOk result (λ r. grove_answer (theory_of theory.now) (procedure_of p)
+        (map value_seen call.values) fuel (raw_forest_of raw.now) ≡ Some (r.status, r.output)) }
 {
     match fit_grove(alloc, raw) {
         Ok(grove) => {
@@ -104,57 +133,41 @@ fn run_on(
     }
 }
 
-// The answer of a run that is called, on the document of this name.
-fn run_document<L: Library>(
+/// The answer of a call on a document with these bytes.
+pub fn run_document(
     alloc: Global,
-    library: &mut L,
     theory: &Theory,
     call: Call,
-    document: &Text,
+    document: &[u8],
     fuel: u32,
-) -> Result<Reply, Refusal>
+) -> Result<Reply, OutOfMemory>
     requires { FitsCall theory.now call }
-    ensures answer { (p : Procedure) → slice_get theory.now.procedures call.procedure ≡ Some p
-        → IfOk result (λ r. Told (L.book library.old document.now) (λ b.
-        DocumentAnswer (theory_of theory.now) (procedure_of p) (map value_seen call.values) fuel b r.status r.output)) }
-    ensures possible { IfOk result (λ r. is_run_status r.status ≡ true) }
-    ensures cause { IsErrOf result Refusal.ReadFault
-        → Rose (L.faults library.old document.now) (L.faults library.new document.now) }
-    ensures kept { (name : List ℕ) → Told (L.book library.old name) (λ b. L.book library.new name ≡ Some b) }
-    ensures later { (name : List ℕ) → L.faults library.old name ≤ L.faults library.new name }
+    ensures { IfOk result (λ r. CallAnswer theory.now call fuel document.now r.status r.output) }
 {
-    match fetch_document(alloc, library, document.as_str())? {
-        Some(raw) => Ok(run_on(alloc, theory, call, &raw, fuel)?),
-        None => Ok(reported(alloc, Status::BadText, &Report::BadDocumentText)?),
+    match read_document(alloc, document)? {
+        Some(raw) => run_on(alloc, theory, call, &raw, fuel),
+        None => reported(alloc, Status::BadText, &Report::BadDocumentText),
     }
 }
 
-/// The answer of `run` with these words.
-pub fn run<L: Library>(
+/// The answer of `run` on the bytes of a file and of a document, however many they are: that of the
+/// definition, and no other.
+pub fn run_bytes(
     alloc: Global,
-    library: &mut L,
-    file: &Text,
+    file: &[u8],
     procedure: &Text,
-    document: &Text,
+    document: &[u8],
     fuel: u32,
     arguments: &Texts,
-) -> Result<Reply, Refusal>
-    ensures answer { IfOk result (λ r. Told (L.book library.old file.now) (λ b.
-        (IsCalled b procedure.now arguments.now → IsToldBook (L.book library.old) document.now)
-        → RunAnswer (L.book library.old) b procedure.now document.now fuel arguments.now r.status r.output)) }
-    ensures possible { IfOk result (λ r. is_run_status r.status ≡ true) }
-    ensures cause { IsErrOf result Refusal.ReadFault
-        → Rose (L.faults library.old file.now) (L.faults library.new file.now)
-        ⊎ (Rose (L.faults library.old document.now) (L.faults library.new document.now)
-        × Told (L.book library.old file.now) (λ b. IsCalled b procedure.now arguments.now)) }
-    ensures kept { (name : List ℕ) → Told (L.book library.old name) (λ b. L.book library.new name ≡ Some b) }
-    ensures later { (name : List ℕ) → L.faults library.old name ≤ L.faults library.new name }
+) -> Result<Reply, OutOfMemory>
+    ensures answer { IfOk result (λ r. RunAnswer (Some document.now) file.now procedure.now fuel
+        arguments.now r.status r.output) }
+    ensures exactly { (s : Status) (output : List ℕ)
+        → RunAnswer (Some document.now) file.now procedure.now fuel arguments.now s output
+        → IfOk result (λ r. (r.status ≡ s) × (r.output ≡ output)) }
 {
-    let Some(theory) = fetch_theory(alloc, library, file.as_str())? else {
-        return Ok(reported(alloc, Status::BadText, &Report::BadText)?);
-    };
-    let Some(call) = read_call(alloc, &theory, procedure, arguments)? else {
-        return Ok(reported(alloc, Status::BadWords, &Report::BadWords)?);
-    };
-    run_document(alloc, library, &theory, call, document, fuel)
+    match open_file(alloc, file, procedure, arguments)? {
+        Opened::Called(theory, call) => run_document(alloc, &theory, call, document, fuel),
+        Opened::Answered(reply) => Ok(reply),
+    }
 }

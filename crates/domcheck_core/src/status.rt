@@ -11,7 +11,8 @@ pub enum Status {
     Done,
     /// A step isn't an instance of its rule, or a proof doesn't end in its procedure's own triple.
     StepFails,
-    /// The words have none of the forms, or they name no procedure of the file or no arguments for it.
+    /// The words have none of the forms, or they name no procedure of the file or no arguments for
+    /// it.
     BadWords,
     /// The file isn't of the form that is read, or the document's tokens spell no grove.
     BadText,

@@ -59,8 +59,8 @@ fn steps_text(alloc: Global, steps: u32) -> Result<String, AllocError>
     format!(in alloc; "ended after {steps} steps")
 }
 
-/// The lines of a run that ended after so many steps, with these values of its results; the roots of
-/// the grove are printed in the order in which they stand.
+/// The lines of a run that ended after so many steps, with these values of its results; the roots
+/// of the grove are printed in the order in which they stand.
 pub fn ended_text(
     alloc: Global,
     steps: u32,

@@ -1,7 +1,8 @@
 // Reports of one line.
 ghost use Rattle.std.specs.Prelude.{◌≡◌, IfOk, string_bytes};
-ghost use Rattle.model_answers.specs.Output.{line};
-ghost use Rattle.fault_report.specs.Lines.{line_of, range_text, repeat_text};
+ghost use Rattle.model_answers.specs.Output.{line, range_line, repeat_line};
+ghost use Rattle.grove_data.specs.UsedNumbers.{numbered_of};
+ghost use Rattle.fault_report.specs.Lines.{line_of};
 
 use crate::names::{fault_name, limit_name};
 use dom_meaning::FaultKind;
@@ -55,7 +56,8 @@ pub enum Report {
 
 // The text of a number that is out of range.
 fn range_text(alloc: Global, kind: IdKind, number: u64) -> Result<String, AllocError>
-    ensures { IfOk result (λ text. string_bytes text ≡ range_text kind number) }
+    ensures { IfOk result (λ text.
+        line (string_bytes text) ≡ range_line (numbered_of kind number)) }
 {
     match kind {
         IdKind::Node => format!(in alloc; "bad document: node {number} out of range"),
@@ -65,7 +67,8 @@ fn range_text(alloc: Global, kind: IdKind, number: u64) -> Result<String, AllocE
 
 // The text of a number that repeats.
 fn repeat_text(alloc: Global, kind: IdKind, number: u32) -> Result<String, AllocError>
-    ensures { IfOk result (λ text. string_bytes text ≡ repeat_text kind number) }
+    ensures { IfOk result (λ text.
+        line (string_bytes text) ≡ repeat_line (numbered_of kind number)) }
 {
     match kind {
         IdKind::Node => format!(in alloc; "bad document: repeated node {number}"),

@@ -9,6 +9,16 @@ use Rattle.model_commands.specs.Theories.{ProcedureOf, Theory}
 use Rattle.model_limits.specs.Limits.{standard_limits}
 use Rattle.model_answers.specs.Words.{decimal_of}
 
+-- the codes of characters that the rules name: of `#`, `%` and `-`
+abbrev pub number_sign : ℕ
+number_sign = 35
+
+abbrev pub percent : ℕ
+percent = 37
+
+abbrev pub minus : ℕ
+minus = 45
+
 -- a positive number of a node or a list
 abbrev pub positive_of : (ℕ → Value) → Option ℕ → Option Value
 positive_of named None = None
@@ -30,17 +40,19 @@ negative_of (Some (suc n)) = Some (int (negsuc n))
 -- an integer: a decimal, or `-` and a decimal that isn't 0
 abbrev pub integer_of : List ℕ → Option Value
 integer_of [] = None
-integer_of (first ∷ rest) = cond (first == 45) (negative_of (decimal_of standard_limits.integer rest))
+integer_of (first ∷ rest) =
+    cond (first == minus) (negative_of (decimal_of standard_limits.integer rest))
     (option_map (λ n. int (pos n)) (decimal_of standard_limits.integer (first ∷ rest)))
 
--- AN ARGUMENT: the value that a word reads as at a sort; 35 is `#`, 37 is `%`
+-- AN ARGUMENT: the value that a word reads as at a sort
 abbrev pub argument_of : ValueSort → List ℕ → Option Value
 argument_of node_sort word =
-    cond (bytes_eq word (codes "null")) (Some null) (marked 35 node_number word)
+    cond (bytes_eq word (codes "null")) (Some null) (marked number_sign node_number word)
 argument_of list_sort word =
-    cond (bytes_eq word (codes "nolist")) (Some nolist) (marked 37 list_number word)
+    cond (bytes_eq word (codes "nolist")) (Some nolist) (marked percent list_number word)
 argument_of int_sort word = integer_of word
-argument_of str_sort word = cond (nat_le (length word) standard_limits.text_bytes) (Some (str word)) None
+argument_of str_sort word =
+    cond (nat_le (length word) standard_limits.text_bytes) (Some (str word)) None
 argument_of bool_sort word = cond (bytes_eq word (codes "yes")) (Some (boolean true))
     (cond (bytes_eq word (codes "no")) (Some (boolean false)) None)
 
@@ -66,7 +78,7 @@ abbrev pub with_arguments : Option (ProcedureOf Named) → List (List ℕ)
 with_arguments None words = None
 with_arguments (Some f) words = option_map (λ values. (f, values)) (arguments_of f.params words)
 
--- WHAT IS RUN: a procedure of the theory, with the values of the arguments; nothing where it isn't in
--- the file, where the number of arguments differs, or where one doesn't read at its sort
+-- WHAT IS RUN: a procedure of the theory, with the values of the arguments; nothing where it isn't
+-- in the file, where the number of arguments differs, or where one doesn't read at its sort
 abbrev pub called : Theory → List ℕ → List (List ℕ) → Option (ProcedureOf Named × List Value)
 called theory name words = with_arguments (procedure_called name theory.procedures) words

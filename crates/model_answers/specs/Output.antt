@@ -7,6 +7,7 @@ use Rattle.model_terms.specs.Stores.{ProgVar, named}
 use Rattle.model_commands.specs.Theories.{Theory}
 use Rattle.model_machine.specs.Machine.{FaultKind, no_node, no_list, cycle, not_child}
 use Rattle.model_limits.specs.Limits.{LimitKind, file_limit, nesting_limit, text_limit, variables_limit, steps_limit, nodes_limit, identifier_limit, number_limit, depth_limit}
+use Rattle.model_text.specs.Tokens.{newline}
 use Rattle.model_documents.specs.Numbers.{Numbered, node_numbered, list_numbered}
 use Rattle.model_documents.specs.Roots.{sorted_roots}
 use Rattle.model_documents.specs.Printed.{quoted, grove_text}
@@ -14,12 +15,13 @@ use Rattle.model_files.specs.FileLimits.{step_count}
 
 -- a text with the newline that ends it
 abbrev pub line : List ℕ → List ℕ
-line text = text ++ 10 ∷ []
+line text = text ++ newline ∷ []
 
 -- `accepted: P procedures, N steps`
 abbrev pub accepted_text : ℕ → ℕ → List ℕ
 accepted_text procedures steps =
-    codes "accepted: " ++ (decimal procedures ++ (codes " procedures, " ++ (decimal steps ++ codes " steps")))
+    codes "accepted: " ++ (decimal procedures
+    ++ (codes " procedures, " ++ (decimal steps ++ codes " steps")))
 
 -- the line for an accepted theory
 abbrev pub accepted_line : Theory → List ℕ

@@ -26,7 +26,8 @@ check_of words = None
 -- the form `run FILE PROC DOC FUEL ARG*`
 abbrev pub run_of : List (List ℕ) → Option Request
 run_of (file ∷ procedure ∷ document ∷ fuel ∷ arguments) =
-    option_map (λ number. run file procedure document number arguments) (decimal_of standard_limits.fuel fuel)
+    option_map (λ number. run file procedure document number arguments)
+    (decimal_of standard_limits.fuel fuel)
 run_of words = None
 
 -- THE READING of the words; nothing else has one

@@ -1,4 +1,5 @@
--- What a tape is to its callers: the sink in memory, which tells all that it has taken.
+-- Needn't be believed: what a tape is to its callers, the sink in memory, which tells all that it
+-- has taken. The program writes to none.
 use Rattle.std.specs.Prelude.{◌⊎◌, ℕ, ◌+◌, ◌<◌, List, length, Contains}
 use Rattle.outside_io.specs.Causes.{next_count}
 

@@ -1,3 +1,4 @@
+// Books as files of the current folder.
 ghost use Rattle.std.specs.Prelude.{◌≡◌, ◌≤◌, None, length, IfOk, OnOk, OnErr};
 ghost use Rattle.std.specs.Io.{ReadsAtMost};
 ghost use Rattle.outside_io.specs.Causes.{next_count};

@@ -1,3 +1,4 @@
+// What a library is, and how a whole book is read from one.
 ghost use Rattle.std.specs.Prelude.{◌≡◌, ℕ, ◌<◌, ◌≤◌, List, Option, Some, length};
 ghost use Rattle.std.specs.Prelude.{IfOk, OnErr, IsErrOf};
 ghost use Rattle.outside_io.specs.Causes.{Rose, Told};

@@ -1,3 +1,4 @@
+// The sink that is standard output.
 ghost use Rattle.std.specs.Prelude.{◌≡◌, ◌<◌, ◌≤◌, None, length, IfOk, OnOk, OnErr};
 ghost use Rattle.std.specs.Io.{WritesAtMost};
 ghost use Rattle.outside_io.specs.Causes.{next_count};

@@ -1,3 +1,4 @@
+// The library in memory.
 ghost use Rattle.std.specs.Prelude.{◌≡◌, ◌≢◌, ◌↔◌, ◌≤◌, ◌++◌, ℕ, List, Some, None, [], ◌∷◌, length};
 ghost use Rattle.std.specs.Prelude.{IsErr, IsSome, IfOk, OnOk, OnErr, position};
 ghost use Rattle.outside_io.specs.Causes.{next_count, Rose, Told};

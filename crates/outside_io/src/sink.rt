@@ -1,3 +1,4 @@
+// What a sink is, and how a whole output is written to one.
 ghost use Rattle.std.specs.Prelude.{◌≡◌, ℕ, ◌<◌, ◌≤◌, List, Option, Some, length, take};
 ghost use Rattle.std.specs.Prelude.{IfOk, OnOk, OnErr};
 ghost use Rattle.outside_io.specs.Causes.{Rose, Told};

@@ -1,3 +1,4 @@
+// The sink in memory.
 ghost use Rattle.std.specs.Prelude.{◌≡◌, ◌↔◌, ◌≤◌, ◌++◌, ◌<◌, take, Some, [], ◌∷◌, length};
 ghost use Rattle.std.specs.Prelude.{IsErr, IfOk, OnOk, OnErr};
 ghost use Rattle.outside_io.specs.Causes.{next_count, Rose, Told};

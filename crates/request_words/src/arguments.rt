@@ -8,11 +8,9 @@ ghost use Rattle.dom_terms.specs.Values.{value_seen};
 ghost use Rattle.model_answers.specs.Arguments as model;
 
 use crate::decimals::{integer, marked};
+use dom_terms::limits::TEXT_BYTES;
 use dom_terms::{Copied, OutOfMemory, ProgVar, Text, Value, ValueSort, Values};
 use std::alloc::Global;
-
-// The most bytes of a text.
-const MOST_TEXT: usize = 4096;
 
 // The null node, or the number of a node.
 fn node(word: &str) -> Option<Value>
@@ -54,7 +52,7 @@ fn argument(alloc: Global, sort: ValueSort, word: &Text) -> Result<Option<Value>
         ValueSort::Node => Ok(node(word.as_str())),
         ValueSort::List => Ok(list(word.as_str())),
         ValueSort::Int => Ok(integer(word.as_str().as_bytes()).map(Value::Int)),
-        ValueSort::Str if word.len() > MOST_TEXT => Ok(None),
+        ValueSort::Str if word.len() > TEXT_BYTES => Ok(None),
         ValueSort::Str => Ok(Some(Value::Str(word.copy(alloc)?))),
         ValueSort::Bool => Ok(truth(word.as_str())),
     }

@@ -2,13 +2,12 @@
 ghost use Rattle.std.specs.Prelude.{◌≡◌, ℕ};
 ghost use Rattle.std.specs.Option.{option_map};
 ghost use Rattle.model_shapes.specs.Values.{Value, int};
+ghost use Rattle.model_limits.specs.Limits.{standard_limits};
 ghost use Rattle.model_answers.specs.Words.{decimal_of};
 ghost use Rattle.model_answers.specs.Arguments as model;
 
+use dom_terms::limits::{IDENTIFIER, INTEGER};
 use text_tokens::number_value;
-
-/// The greatest integer of an argument.
-const GREATEST: u64 = 9_223_372_036_854_775_807;
 
 /// The decimal number of at most so much that the bytes are, or none.
 pub fn decimal(bytes: &[u8], most: u64) -> Option<u64>
@@ -23,12 +22,12 @@ pub fn decimal(bytes: &[u8], most: u64) -> Option<u64>
     }
 }
 
-// The positive number of at most 32 bits that the bytes are, or none.
+// The positive number within the limit that the bytes are, or none.
 fn positive(bytes: &[u8]) -> Option<u32>
     ensures { (named : ℕ → Value) → option_map named result
-        ≡ model.positive_of named (decimal_of 4294967295 bytes.now) }
+        ≡ model.positive_of named (decimal_of standard_limits.identifier bytes.now) }
 {
-    match decimal(bytes, 4_294_967_295) {
+    match decimal(bytes, u64::from(IDENTIFIER)) {
         None | Some(0) => None,
         Some(number) => Some(number as u32),
     }
@@ -47,9 +46,9 @@ pub fn marked(bytes: &[u8], mark: u8) -> Option<u32>
 // The integer below 0 whose digits stand behind its sign, or none.
 fn negative(digits: &[u8]) -> Option<i64>
     ensures { option_map int result
-        ≡ model.negative_of (decimal_of 9223372036854775807 digits.now) }
+        ≡ model.negative_of (decimal_of standard_limits.integer digits.now) }
 {
-    match decimal(digits, GREATEST) {
+    match decimal(digits, INTEGER) {
         None | Some(0) => None,
         Some(number) => Some(-(number as i64)),
     }
@@ -61,6 +60,6 @@ pub fn integer(bytes: &[u8]) -> Option<i64>
 {
     match bytes {
         [b'-', digits @ ..] => negative(digits),
-        _ => Some(decimal(bytes, GREATEST)? as i64),
+        _ => Some(decimal(bytes, INTEGER)? as i64),
     }
 }

@@ -1,5 +1,5 @@
-//! What the words after the program's name ask for, and the values that the words of a run stand for.
-//! Promises that a reading is given exactly where the definition has one, and that reading.
+//! What the words after the program's name ask for, and the values that the words of a run stand
+//! for. Promises that a reading is given exactly where the definition has one, and that reading.
 //! Stands on the values of terms and on the numbers of tokens.
 #![tactic(auto)]
 

@@ -5,6 +5,7 @@ ghost use Rattle.request_words.specs.Requests.{Reads};
 ghost use Rattle.request_words.specs.declared.requests.WordFault.TheVariants.{OutOfMemory};
 
 use crate::decimals::decimal;
+use dom_terms::limits::FUEL;
 use dom_terms::{OutOfMemory, Text, Texts};
 use std::alloc::Global;
 
@@ -77,7 +78,7 @@ fn read_run(alloc: Global, words: &[String]) -> Result<Request, WordFault>
     let [file, procedure, document, fuel, arguments @ ..] = words else {
         return Err(WordFault::BadWords);
     };
-    let Some(fuel) = decimal(fuel.as_str().as_bytes(), 1_000_000) else {
+    let Some(fuel) = decimal(fuel.as_str().as_bytes(), u64::from(FUEL)) else {
         return Err(WordFault::BadWords);
     };
     Ok(Request::Run {
@@ -89,8 +90,8 @@ fn read_run(alloc: Global, words: &[String]) -> Result<Request, WordFault>
     })
 }
 
-/// The request that the words after the program's name are. `BadWords` comes exactly where they have
-/// none of the forms.
+/// The request that the words after the program's name are. `BadWords` comes exactly where they
+/// have none of the forms.
 pub fn read_words(alloc: Global, words: &[String]) -> Result<Request, WordFault>
     ensures { Reads result (reading_of (map string_bytes words.now)) }
 {

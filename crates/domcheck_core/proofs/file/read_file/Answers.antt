@@ -1,44 +1,46 @@
-use Rattle.std.proofs.Common.{◌≡◌, ◌∙◌, ℕ, sym, subst, refl, List, map, true, false, Bool, ◌&&◌, ap}
+use Rattle.std.proofs.Common.{◌≡◌, sym, subst, refl, List, true, false, Bool, arith}
+use Rattle.std.proofs.lemmas.Bool.{and_parts}
 use Rattle.model_text.specs.Lexemes.{Lexeme}
-use Rattle.model_text.specs.Tokens.{tokens_of}
-use Rattle.text_tokens.specs.declared.tokens.Token.{Token}
-use Rattle.text_tokens.specs.Tokens.{token_of}
-use Rattle.token_readers.specs.Leaves.{lexemes_in}
-use Rattle.model_commands.specs.Theories.{Theory}
 use Rattle.model_grammar.specs.Grammar.{SpellsTheory}
 use Rattle.model_grammar.specs.Files.{IsOfForm}
-use Rattle.model_text.specs.Nesting.{lexemes_of, nests_within, texts_within}
 use Rattle.dom_syntax.specs.Theories.{theory_of}
 use Rattle.proof_text.proofs.Exact.{one_theory}
 use Rattle.domcheck_core.proofs.Spelling.{same_lexemes}
-use Rattle.domcheck_core.proofs.Tested.{both, neither, tested}
+use Rattle.domcheck_core.proofs.Tested.{neither, tested}
 use Rattle.domcheck_core.proofs.file.read_file.Goals as goal
 
 not_both : (b : Bool) → b ≡ false → b ≡ true → ⊥
 not_both b e f = cc
 
 pub returns-then-branch : goal.returns-then-branch
-returns-then-branch c = record {
-  small = c.requires;
-  nesting = (both _ _ (tested 100 c.args.bytes.now _ _ _ true c.as_slice.ensures c.in_ok-tokens.ensures c.are_within.ensures c.if-not-are_within.false)).0;
-  texts = (both _ _ (tested 100 c.args.bytes.now _ _ _ true c.as_slice.ensures c.in_ok-tokens.ensures c.are_within.ensures c.if-not-are_within.false)).1;
-  spelled = subst (λ (z : List Lexeme). SpellsTheory (theory_of c.in-Ok.theory) z) (same_lexemes c.args.bytes.now _ c.in_ok-tokens.ensures) c.in-Ok.ensures.found;
-  of_form = c.in_ok-is_of_form-in-Ok.ensures.0 c.if-branch.true;
-}
+returns-then-branch c =
+    let within = and_parts _ _ (tested 100 c.args.bytes.now _ _ _ true c.as_slice.ensures
+    c.in_ok-tokens.ensures c.are_within.ensures c.if-not-are_within.false) in record {
+      small = omega arith;
+      nesting = within.0;
+      texts = within.1;
+      spelled = subst (λ (z : List Lexeme). SpellsTheory (theory_of c.in-Ok.theory) z)
+          (same_lexemes c.args.bytes.now _ c.in_ok-tokens.ensures) c.in-Ok.ensures.found;
+      of_form = c.in_ok-is_of_form-in-Ok.ensures.0 c.if-branch.true;
+    }
 
 pub returns-in-Ok : goal.returns-in-Ok
 returns-in-Ok c = λ t spells.
     let same : t ≡ theory_of c.in-Ok.theory =
     one_theory _ t (theory_of c.in-Ok.theory) spells.spelled
-    (subst (λ (z : List Lexeme). SpellsTheory (theory_of c.in-Ok.theory) z) (same_lexemes c.args.bytes.now _ c.in_ok-tokens.ensures) c.in-Ok.ensures.found) in
-    not_both _ c.if-branch.false (c.in_ok-is_of_form-in-Ok.ensures.1 (subst IsOfForm same spells.of_form))
+    (subst (λ (z : List Lexeme). SpellsTheory (theory_of c.in-Ok.theory) z)
+    (same_lexemes c.args.bytes.now _ c.in_ok-tokens.ensures) c.in-Ok.ensures.found) in
+    not_both _ c.if-branch.false
+    (c.in_ok-is_of_form-in-Ok.ensures.1 (subst IsOfForm same spells.of_form))
 
 pub returns-in-Err-BadText : goal.returns-in-Err-BadText
 returns-in-Err-BadText c = λ t spells.
     (rw c.in-Err-BadText.field-0-is at c.in-Err-BadText.ensures.bad_text) refl t
-    (subst (λ (z : List Lexeme). SpellsTheory t z) (sym (same_lexemes c.args.bytes.now _ c.in_ok-tokens.ensures)) spells.spelled)
+    (subst (λ (z : List Lexeme). SpellsTheory t z)
+    (sym (same_lexemes c.args.bytes.now _ c.in_ok-tokens.ensures)) spells.spelled)
 
 pub returns-then-not-are_within : goal.returns-then-not-are_within
 returns-then-not-are_within c = λ t spells.
     neither _ _ spells.nesting spells.texts
-    (tested 100 c.args.bytes.now _ _ _ false c.as_slice.ensures c.in_ok-tokens.ensures c.are_within.ensures c.if-not-are_within.true)
+    (tested 100 c.args.bytes.now _ _ _ false c.as_slice.ensures c.in_ok-tokens.ensures
+    c.are_within.ensures c.if-not-are_within.true)

@@ -5,7 +5,8 @@ use Rattle.domcheck_core.proofs.limits.count_steps.Given as goal
 
 abbrev pub invariant-procedures : goal.invariant-procedures
 invariant-procedures l = record {
-  same : step_count (map procedure_of l.procedures) ≡ l.count + step_count (map procedure_of l.rest);
+  same : step_count (map procedure_of l.procedures) ≡ l.count + step_count
+      (map procedure_of l.rest);
   few : l.count ≤ 65535;
 }
 

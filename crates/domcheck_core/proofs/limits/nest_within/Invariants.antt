@@ -5,7 +5,8 @@ use Rattle.domcheck_core.proofs.limits.nest_within.Given as goal
 
 abbrev pub invariant-tokens : goal.invariant-tokens
 invariant-tokens l = record {
-  same : nests_within l.most 0 (lexemes_in l.tokens) ≡ nests_within l.most l.depth (lexemes_in l.rest);
+  same : nests_within l.most 0 (lexemes_in l.tokens) ≡ nests_within l.most l.depth
+      (lexemes_in l.rest);
   few : l.depth ≤ l.most;
 }
 

@@ -5,7 +5,8 @@ use Rattle.domcheck_core.proofs.limits.variables_within.Given as goal
 
 abbrev pub invariant-procedures : goal.invariant-procedures
 invariant-procedures l = record {
-  same : variables_within (map procedure_of l.procedures) ≡ variables_within (map procedure_of l.rest);
+  same : variables_within (map procedure_of l.procedures) ≡ variables_within
+      (map procedure_of l.rest);
 }
 
 abbrev pub decreases-procedures : goal.decreases-procedures

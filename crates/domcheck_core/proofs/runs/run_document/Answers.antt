@@ -1,12 +1,23 @@
-use Rattle.std.proofs.Common.{ap}
-use Rattle.domcheck_core.proofs.Running.{on_document, no_document}
+use Rattle.std.proofs.lemmas.Result.{IfOk-weaker}
+use Rattle.logic_text.specs.RawGroves.{raw_forest_of}
+use Rattle.domcheck_core.specs.Calls.{CallAnswer}
+use Rattle.domcheck_core.specs.Answers.{document_unread, document_read}
+use Rattle.domcheck_core.proofs.Judged.{said}
+use Rattle.domcheck_core.proofs.Running.{of_call}
 use Rattle.domcheck_core.proofs.runs.run_document.Goals as goal
 
-pub returns-in_ok-run_on-in-Some-clause-answer : goal.returns-in_ok-run_on-in-Some-clause-answer
-returns-in_ok-run_on-in-Some-clause-answer g c = λ p e.
-    on_document _ _ _ c.args.fuel _ _ _ _ (rw (c.in-Some.is, c.as_str.ensures) at c.in_ok-raw.ensures.found) (c.in_ok-run_on-in-Some.ensures p e)
+pub returns-in-Some : goal.returns-in-Some
+returns-in-Some c =
+    of_call c.args.theory.now c.args.call c.args.fuel c.args.document.now
+    (λ r. r.status) (λ r. r.output) c.run_on.result
+    (λ p e. IfOk-weaker c.run_on.result _ _
+    (λ r h. document_read (raw_forest_of c.in-Some.raw) (rw c.in-Some.is at c.in_ok-raw.ensures) h)
+    (c.run_on.ensures p e))
 
-pub returns-in_ok-reported-in-None-clause-answer : goal.returns-in_ok-reported-in-None-clause-answer
-returns-in_ok-reported-in-None-clause-answer g c = λ p e.
-    no_document _ _ _ c.args.fuel _ _ _ (rw (c.in-None.is, c.as_str.ensures) at c.in_ok-raw.ensures.found)
-    c.in_ok-reported-in-None.ensures.status c.in_ok-reported-in-None.ensures.output
+pub returns-in-None : goal.returns-in-None
+returns-in-None c =
+    said (λ r. r.status) (λ r. r.output)
+    (CallAnswer c.args.theory.now c.args.call c.args.fuel c.args.document.now)
+    _ _ c.reported.result
+    (λ p e. document_unread (rw c.in-None.is at c.in_ok-raw.ensures))
+    c.reported.ensures.status c.reported.ensures.output

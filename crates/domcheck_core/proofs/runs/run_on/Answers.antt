@@ -1,20 +1,22 @@
 use Rattle.std.proofs.Common.{◌≡◌, ◌∙◌, ap, sym, map, Some}
+use Rattle.std.proofs.lemmas.Bool.{and_parts}
 use Rattle.std.specs.List.{list_all}
 use Rattle.model_grammar.specs.FirstForm.{declares_none, is_first_procedure}
 use Rattle.dom_terms.specs.Terms.{prog_var_of}
 use Rattle.dom_terms.specs.Values.{value_seen}
 use Rattle.dom_syntax.specs.declared.theories.Procedure.{Procedure}
 use Rattle.dom_syntax.specs.Theories.{procedure_of, theory_of}
-use Rattle.domcheck_core.proofs.Tested.{both}
-use Rattle.domcheck_core.proofs.Outcomes.{built_at, whole, ran, on_grove}
+use Rattle.domcheck_core.proofs.Outcomes.{built_at, whole, ran, on_grove, refused}
 use Rattle.domcheck_core.proofs.runs.run_on.Goals as goal
 
 pub run_plain-outcome-requires-clause-runnable : goal.run_plain-outcome-requires-clause-runnable
 run_plain-outcome-requires-clause-runnable c =
+    let theory = theory_of c.args.theory.now in
+    let all = and_parts (declares_none theory.logic) (list_all is_first_procedure theory.procedures)
+    c.requires.of_form.first_form in
     c.in_ok-config-in-Ok.ensures.runnable c.requires.procedure c.requires.stands
     (built_at c.args.theory.now.procedures c.args.call.procedure c.requires.procedure
-    (both (declares_none (theory_of c.args.theory.now).logic) (list_all is_first_procedure (theory_of c.args.theory.now).procedures)
-    c.requires.of_form.first_form).1 c.requires.stands)
+    all.1 c.requires.stands)
 
 pub outcome_reply-requires : goal.outcome_reply-requires
 outcome_reply-requires c =
@@ -27,8 +29,14 @@ same a b e = cc
 
 pub returns-in-Ok : goal.returns-in-Ok
 returns-in-Ok c = λ p e.
-    let q = ap (map prog_var_of) (c.as_slice.ensures ∙ ap (λ (z : Procedure). z.results) (same c.in-Some.called.now p (c.in-Some.ensures.item ∙ e))) in
-    on_grove (theory_of c.args.theory.now) (procedure_of p) (map value_seen c.args.call.values) c.args.fuel _ _ (λ r. (r.status, r.output))
+    let theory = theory_of c.args.theory.now in
+    let values = map value_seen c.args.call.values in
+    let here = same c.in-Some.called.now p (c.in-Some.ensures.item ∙ e) in
+    let q = ap (map prog_var_of)
+    (c.as_slice.ensures ∙ ap (λ (z : Procedure). z.results) here) in
+    on_grove theory (procedure_of p) values c.args.fuel _ (λ r. (r.status, r.output)) _
     c.outcome_reply.result c.in-Ok.ensures.passes q
-    (c.outcome_reply.ensures _ (ran (theory_of c.args.theory.now) (procedure_of p) (map value_seen c.args.call.values) c.args.fuel _ _
-    c.in_ok-config-in-Ok.config _ c.run_plain-outcome.result (c.in_ok-config-in-Ok.ensures.begins p e) c.in-Ok.ensures.same q c.run_plain-outcome.ensures.outcome))
+    (c.outcome_reply.ensures _ (ran theory (procedure_of p) values c.args.fuel _ _
+    c.in_ok-config-in-Ok.config _ c.run_plain-outcome.result
+    (c.in_ok-config-in-Ok.ensures.begins p e) c.in-Ok.ensures.same q
+    c.run_plain-outcome.ensures.outcome))
