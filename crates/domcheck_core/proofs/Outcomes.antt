@@ -11,20 +11,20 @@ use Rattle.model_commands.specs.Commands.{Command, skip, block, assign, create_n
 use Rattle.model_commands.specs.CommandParts.{commands_in}
 use Rattle.model_commands.specs.Theories.{ProcedureOf, Theory, Procedures, procedures_of}
 use Rattle.model_files.specs.FileFaults.{IsWellFormedTheory}
-use Rattle.model_machine.specs.Fitting.{FitsConfig, Fine}
-use Rattle.model_machine.specs.LocalTriples.{Ends}
+use Rattle.model_machine.specs.Fitting.{FitsConfig}
 use Rattle.model_machine.specs.Behind.{Behind}
 use Rattle.model_machine.specs.Machine as machine
 use Rattle.model_machine.specs.Outcomes as model
 use Rattle.model_limits.specs.Limits.{standard_limits}
 use Rattle.model_machine.proofs.Picks.{outcome-behind}
-use Rattle.model_machine.proofs.Fine.{runs-fine}
+use Rattle.model_machine.proofs.Fine.{ends-fine}
 use Rattle.model_files.proofs.WellFormedTheories.{well-formed-bodies}
 use Rattle.model_grammar.specs.FirstForm.{is_first_kind, is_first_command, is_first_formula, is_first_step, is_first_procedure}
 use Rattle.dom_syntax.specs.declared.theories.Procedure.{Procedure}
 use Rattle.dom_syntax.specs.Theories.{procedure_of}
 use Rattle.dom_meaning.specs.Built.{is_built_kind, is_built}
-use Rattle.dom_meaning.specs.Runs.{outcome_from, IsOutcome}
+use Rattle.model_machine.specs.Outcomes.{outcome}
+use Rattle.dom_meaning.specs.Runs.{IsOutcome}
 use Rattle.dom_meaning.specs.Starts.{Begins}
 use Rattle.dom_meaning.specs.Configs.{config_of}
 use Rattle.dom_meaning.specs.declared.configurations.Config.{Config}
@@ -86,26 +86,21 @@ built_at (x ∷ xs) (suc k) p e h =
         (list_all is_first_procedure (map procedure_of xs)) e).1 h
 
 -- where a run ends, the grove is well formed
-ends_whole : (theory : Theory) → IsWellFormedTheory theory
-    → (results : List ProgVar) (fuel : ℕ) (config : machine.Config)
-    → FitsConfig (procedures_of theory) config → (n : ℕ) (values : List Value) (g : Trees)
-    → outcome_from (procedures_of theory) results fuel 0 config ≡ model.ends n values g
-        → WellFormed g
+ends_whole : (theory : Theory) → IsWellFormedTheory theory → (results : List ProgVar) (fuel : ℕ)
+    (config : machine.Config) → FitsConfig (procedures_of theory) config
+    → (n : ℕ) (values : List Value) (g : Trees)
+    → outcome standard_limits (procedures_of theory) results fuel 0 config ≡ model.ends n values g
+    → WellFormed g
 ends_whole theory w results fuel config fits n values g e =
     let ps = procedures_of theory in
-    let b : Behind ps results 0 config.pending config.store config.grove (model.ends n values g) =
-    subst (Behind ps results 0 config.pending config.store config.grove) e
-    (outcome-behind standard_limits ps results fuel 0 config.pending config.store config.grove) in
-    let f : Ends Unit Fine (machine.ended b.1 g) =
-    subst (Ends Unit Fine) b.3 (runs-fine ps (well-formed-bodies theory w) b.0 config.pending
-        config.store config.grove fits.pieces fits.fine) in
-    f.whole.well_formed
+    let b : Behind ps results 0 config (model.ends n values g) =
+    subst (Behind ps results 0 config) e (outcome-behind standard_limits ps results fuel 0 config) in
+    (ends-fine ps (well-formed-bodies theory w) b.0 config b.1 g fits b.3).whole.well_formed
 
-pub whole : (theory : Theory) → IsWellFormedTheory theory
-    → (results : List ProgVar) (fuel : ℕ) (config : machine.Config)
-    → FitsConfig (procedures_of theory) config → (r : Outcome)
-        → IsOutcome results fuel r (outcome_from (procedures_of theory) results fuel 0 config)
-        → IsWhole r
+pub whole : (theory : Theory) → IsWellFormedTheory theory → (results : List ProgVar) (fuel : ℕ)
+    (config : machine.Config) → FitsConfig (procedures_of theory) config → (r : Outcome)
+    → IsOutcome results fuel r
+    (outcome standard_limits (procedures_of theory) results fuel 0 config) → IsWhole r
 whole theory w results fuel config fits (o.Ended steps values g) e =
     ends_whole theory w results fuel config fits steps _ _ e
 whole theory w results fuel config fits (o.Fault kind steps command) e = tt
@@ -118,22 +113,20 @@ pub ran : (theory : Theory) (f : ProcedureOf Named) (values : List Value) (fuel 
     (document roots : Trees) (config : Config) (results : List ProgVar) (r : Outcome)
     → Begins f values roots config → roots ≡ document → results ≡ f.results
     → IsOutcome (map prog_var_of config.results) fuel r
-        (outcome_from (procedures_of theory) (map prog_var_of config.results) fuel 0
-        (config_of config))
+    (outcome standard_limits (procedures_of theory) (map prog_var_of config.results) fuel 0
+    (config_of config))
     → IsOutcome results fuel r (outcome_on theory f values fuel document)
 ran theory f values fuel document roots config results r begins e q h =
-    let ps = procedures_of theory in
-    let a : IsOutcome f.results fuel r (outcome_from ps f.results fuel 0 (config_of config)) =
-    subst (λ (z : List ProgVar). IsOutcome z fuel r (outcome_from ps z fuel 0 (config_of config)))
-        begins.results h in
-    let b : IsOutcome f.results fuel r
-        (outcome_from ps f.results fuel 0 (machine.start f values roots)) =
-    subst (λ (z : machine.Config). IsOutcome f.results fuel r (outcome_from ps f.results fuel 0 z))
-        begins.configuration a in
-    let c : IsOutcome f.results fuel r (outcome_on theory f values fuel document) =
-    subst (λ (z : Trees). IsOutcome f.results fuel r (outcome_on theory f values fuel z)) e b in
+    let came_out = λ (xs : List ProgVar) (c : machine.Config).
+    IsOutcome xs fuel r (outcome standard_limits (procedures_of theory) xs fuel 0 c) in
+    let a : came_out f.results (config_of config) =
+    subst (λ (z : List ProgVar). came_out z (config_of config)) begins.results h in
+    let b : came_out f.results (machine.start f values roots) =
+    subst (came_out f.results) begins.configuration a in
+    let c : came_out f.results (machine.start f values document) =
+    subst (λ (z : Trees). came_out f.results (machine.start f values z)) e b in
     subst (λ (z : List ProgVar). IsOutcome z fuel r (outcome_on theory f values fuel document))
-        (sym q) c
+    (sym q) c
 
 -- the answer of the outcome is the answer on the document, and so is what is refused
 module _ {A E : Type 0} (theory : Theory) (f : ProcedureOf Named) (values : List Value) (fuel : ℕ)

@@ -51,7 +51,7 @@ unless_of_called false answer h = h
 
 outcome_of_called : (results : List ProgVar) (o : Outcome) → AllOfCalled (outcome_answer results o)
 outcome_of_called results (ends steps values grove) = refl
-outcome_of_called results (has_fault kind steps piece) = refl
+outcome_of_called results (has_fault kind steps command) = refl
 outcome_of_called results (spends steps config) = refl
 outcome_of_called results (passes_limit kind) = refl
 outcome_of_called results no_pick = tt

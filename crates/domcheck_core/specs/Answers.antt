@@ -7,8 +7,8 @@ use Rattle.model_terms.specs.Stores.{ProgVar}
 use Rattle.model_terms.specs.TermLimits.{or_else, unless}
 use Rattle.model_commands.specs.Theories.{ProcedureOf, Theory, procedures_of}
 use Rattle.model_machine.specs.Machine.{start}
-use Rattle.model_machine.specs.Outcomes as outcomes
 use Rattle.model_machine.specs.Outcomes.{Outcome, ends, spends, passes_limit, has_fault, no_pick, outcome}
+use Rattle.model_limits.specs.Limits as limits
 use Rattle.model_limits.specs.Limits.{standard_limits}
 use Rattle.model_groves.specs.Sizes.{size}
 use Rattle.model_rules.specs.Accepted.{IsAccepted}
@@ -38,29 +38,29 @@ pub data CheckAnswer (bytes : List ℕ) : Status → List ℕ → Type 0 where
 
 -- RUN
 -- the status that names a limit
-abbrev pub limit_named : outcomes.LimitKind → LimitKind
-limit_named outcomes.file_limit = l.File
-limit_named outcomes.nesting_limit = l.Nesting
-limit_named outcomes.text_limit = l.Text
-limit_named outcomes.variables_limit = l.Variables
-limit_named outcomes.steps_limit = l.Steps
-limit_named outcomes.nodes_limit = l.Nodes
-limit_named outcomes.identifier_limit = l.Identifier
-limit_named outcomes.number_limit = l.Number
-limit_named outcomes.depth_limit = l.Depth
+abbrev pub limit_named : limits.LimitKind → LimitKind
+limit_named limits.file_limit = l.File
+limit_named limits.nesting_limit = l.Nesting
+limit_named limits.text_limit = l.Text
+limit_named limits.variables_limit = l.Variables
+limit_named limits.steps_limit = l.Steps
+limit_named limits.nodes_limit = l.Nodes
+limit_named limits.identifier_limit = l.Identifier
+limit_named limits.number_limit = l.Number
+limit_named limits.depth_limit = l.Depth
 
 -- a status and the output with it
 abbrev pub Answer : Type 0
 Answer = Status × List ℕ
 
-abbrev pub limit_answer : outcomes.LimitKind → Answer
+abbrev pub limit_answer : limits.LimitKind → Answer
 limit_answer kind = (status.Limit (limit_named kind), limit_line kind)
 
 -- the answer of an outcome; the last never comes, since the next pick is free
 abbrev pub outcome_answer : List ProgVar → Outcome → Option Answer
 outcome_answer results (ends steps values grove) =
     Some (status.Done, ended_lines steps results values grove)
-outcome_answer results (has_fault kind steps piece) = Some (status.Faulted, fault_line kind steps)
+outcome_answer results (has_fault kind steps command) = Some (status.Faulted, fault_line kind steps)
 outcome_answer results (spends steps config) = Some (status.FuelSpent, spent_line steps)
 outcome_answer results (passes_limit kind) = Some (limit_answer kind)
 outcome_answer results no_pick = None
@@ -68,9 +68,7 @@ outcome_answer results no_pick = None
 -- the outcome of the procedure on these values and this document within the fuel
 abbrev pub outcome_on : Theory → ProcedureOf Named → List Value → ℕ → Trees → Outcome
 outcome_on theory f values fuel document =
-    let begun = start f values document in
-    outcome standard_limits (procedures_of theory) f.results fuel 0
-    begun.pending begun.store begun.grove
+    outcome standard_limits (procedures_of theory) f.results fuel 0 (start f values document)
 
 -- why nothing is run on a document: a number out of range, one that repeats, too many nodes
 abbrev pub range_refusal : Trees → Option Answer
@@ -83,7 +81,7 @@ repeat_refusal document =
 
 abbrev pub size_refusal : Trees → Option Answer
 size_refusal document =
-    unless (nat_le (size document) standard_limits.nodes) (limit_answer outcomes.nodes_limit)
+    unless (nat_le (size document) standard_limits.nodes) (limit_answer limits.nodes_limit)
 
 -- the first of these
 abbrev pub refusal : Trees → Option Answer
