@@ -25,9 +25,10 @@ mod runs;
 mod status;
 
 use answers::answer_words;
-pub use checks::check_bytes;
 use outside_io::{Library, Sink, write_all_of};
 use replies::Refusal;
+
+pub use checks::check_bytes;
 pub use replies::Reply;
 pub use request_words::{Request, WordFault, read_words};
 pub use runs::run_bytes;

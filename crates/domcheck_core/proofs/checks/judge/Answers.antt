@@ -20,9 +20,9 @@ returns-then-branch c = λ bytes spells.
     (says_yes (theory_of c.args.theory.now) spells (c.in_ok-is_accepted.ensures.0 c.if-branch.true))
     c.accepted.ensures.status c.accepted.ensures.output
 
-pub returns : goal.returns
-returns c = λ bytes spells.
-    said (λ r. r.status) (λ r. r.output) (CheckAnswer bytes) _ _ c.reported-else-branch.result
+pub returns-else-branch : goal.returns-else-branch
+returns-else-branch c = λ bytes spells.
+    said (λ r. r.status) (λ r. r.output) (CheckAnswer bytes) _ _ c.reported.result
     (says_no (theory_of c.args.theory.now) spells
     (λ a. not_both _ c.if-branch.false (c.in_ok-is_accepted.ensures.1 a)))
-    c.reported-else-branch.ensures.status c.reported-else-branch.ensures.output
+    c.reported.ensures.status c.reported.ensures.output
