@@ -32,7 +32,8 @@ module _ (theory : Theory) (place : ℕ) (started : Procedure) (values : List Va
   begun_fits =
       subst (FitsConfig (procedures_of (theory_of theory))) (sym begins.configuration)
       (start-fits (procedures_of (theory_of theory)) (nameless_procedure (procedure_of started))
-      values roots (body-sorted (theory_of theory) theory.procedures place started refl well_formed is)
+      values roots (body-sorted (theory_of theory) theory.procedures place started refl well_formed
+      is)
       arguments shaped)
 
   -- and the machine runs it, where the body is built

@@ -25,8 +25,8 @@ module _ (name : List ℕ) where
       first_seen : (b : Bool) → procedure_called name (map procedure_of xs) ≡ option_map
           procedure_of (find has_name xs)
           → cond b (Some (procedure_of x))
-              (procedure_called name (map procedure_of xs)) ≡ option_map procedure_of
-              (cond b (Some x) (find has_name xs))
+          (procedure_called name (map procedure_of xs)) ≡ option_map procedure_of
+          (cond b (Some x) (find has_name xs))
       first_seen true h = refl
       first_seen false h = h
 
@@ -59,16 +59,23 @@ module _ (name : List ℕ) where
   pub placed : (xs : List Procedure) (k : ℕ) → position has_name xs ≡ Some k → IsPlaceOf name xs k
   placed xs k e =
       let at = place (nat_lt (position_or_len has_name xs) (length xs)) refl e in
-      let lt : k < length xs = omega (arith, at.0, ltb-true (position_or_len has_name xs)
-          (length xs) at.1) in
-      let f = within xs k lt in
-      (f.0, f.1, seen xs ∙ ap (option_map procedure_of)
-          (find_at has_name xs ∙ ap (slice_get xs) at.0 ∙ f.1))
+      let lt : k < length xs = omega (
+        arith,
+        at.0,
+        ltb-true (position_or_len has_name xs)
+            (length xs) at.1,
+      ) in
+      let f = within xs k lt in (
+        f.0,
+        f.1,
+        seen xs ∙ ap (option_map procedure_of)
+            (find_at has_name xs ∙ ap (slice_get xs) at.0 ∙ f.1),
+      )
     where
       place : (b : Bool) → nat_lt (position_or_len has_name xs) (length xs) ≡ b
           → cond b (Some (position_or_len has_name xs)) None ≡ Some k
           → (position_or_len has_name xs ≡ k)
-              × (nat_lt (position_or_len has_name xs) (length xs) ≡ true)
+          × (nat_lt (position_or_len has_name xs) (length xs) ≡ true)
       place true l q = (cc, l)
       place false l q = absurd cc
 
@@ -82,10 +89,10 @@ module _ (name : List ℕ) where
 pub reads : (name : List ℕ) (xs : List Procedure) (k : ℕ) → IsPlaceOf name xs k → (g : Procedure)
     → Some g ≡ slice_get xs k
     → (words : List (List ℕ)) (values : List Value) → Some values ≡ arguments_of
-        (procedure_of g).params words
+    (procedure_of g).params words
     → (f : Procedure) × (slice_get xs k ≡ Some f)
-        × (with_arguments (procedure_called name (map procedure_of xs)) words ≡ Some
-        (procedure_of f, values))
+    × (with_arguments (procedure_called name (map procedure_of xs)) words ≡ Some
+    (procedure_of f, values))
 reads name xs k p g e words values h =
     let same : Some p.0 ≡ Some g = sym p.1 ∙ sym e in
     let here : p.0 ≡ g = cc in (

@@ -35,7 +35,7 @@ module _ (s : ValueSort) (name : ℕ → Value) (fits : (n : ℕ) → FitsValue 
   marked_fits mark [] = none_fits s
   marked_fits mark (first ∷ digits) =
       cond_fits s (first == mark) (positive_of name (decimal_of standard_limits.identifier digits))
-          None (positive_fits (decimal_of standard_limits.identifier digits)) (none_fits s)
+      None (positive_fits (decimal_of standard_limits.identifier digits)) (none_fits s)
 
 negative_fits : (o : Option ℕ) → Fits int_sort (negative_of o)
 negative_fits None = none_fits int_sort
@@ -50,28 +50,28 @@ integer_fits : (word : List ℕ) → Fits int_sort (integer_of word)
 integer_fits [] = none_fits int_sort
 integer_fits (first ∷ rest) =
     cond_fits int_sort (first == minus) (negative_of (decimal_of standard_limits.integer rest))
-        (option_map (λ n. int (pos n)) (decimal_of standard_limits.integer (first ∷ rest)))
+    (option_map (λ n. int (pos n)) (decimal_of standard_limits.integer (first ∷ rest)))
     (negative_fits (decimal_of standard_limits.integer rest))
-        (plain_fits (decimal_of standard_limits.integer (first ∷ rest)))
+    (plain_fits (decimal_of standard_limits.integer (first ∷ rest)))
 
 argument_fits : (s : ValueSort) (word : List ℕ) → Fits s (argument_of s word)
 argument_fits node_sort word =
     cond_fits node_sort (bytes_eq word (codes "null")) (Some null)
-        (marked number_sign node_number word) (some_fits node_sort null tt)
+    (marked number_sign node_number word) (some_fits node_sort null tt)
     (marked_fits node_sort node_number (λ n. omega arith) number_sign word)
 argument_fits list_sort word =
     cond_fits list_sort (bytes_eq word (codes "nolist")) (Some nolist)
-        (marked percent list_number word) (some_fits list_sort nolist tt)
+    (marked percent list_number word) (some_fits list_sort nolist tt)
     (marked_fits list_sort list_number (λ n. omega arith) percent word)
 argument_fits int_sort word = integer_fits word
 argument_fits str_sort word = cond_fits str_sort (nat_le (length word) standard_limits.text_bytes)
     (Some (str word)) None (some_fits str_sort (str word) tt) (none_fits str_sort)
 argument_fits bool_sort word =
     cond_fits bool_sort (bytes_eq word (codes "yes")) (Some (boolean true))
-        (cond (bytes_eq word (codes "no")) (Some (boolean false)) None)
+    (cond (bytes_eq word (codes "no")) (Some (boolean false)) None)
     (some_fits bool_sort (boolean true) tt)
     (cond_fits bool_sort (bytes_eq word (codes "no")) (Some (boolean false)) None
-        (some_fits bool_sort (boolean false) tt) (none_fits bool_sort))
+    (some_fits bool_sort (boolean false) tt) (none_fits bool_sort))
 
 before_fits : (x : ProgVar) (xs : List ProgVar) (v : Option Value) (vs : Option (List Value))
     → Fits (sort_of x) v → ((us : List Value) → vs ≡ Some us → ValuesFit xs us)
@@ -89,12 +89,12 @@ arguments_fit [] (w ∷ ws) us e = absurd cc
 arguments_fit (x ∷ xs) [] us e = absurd cc
 arguments_fit (x ∷ xs) (w ∷ ws) us e =
     before_fits x xs (argument_of (sort_of x) w) (arguments_of xs ws) (argument_fits (sort_of x) w)
-        (arguments_fit xs ws) us e
+    (arguments_fit xs ws) us e
 
 with_fits : (g : ProcedureOf Named) (vs : Option (List Value))
     → ((us : List Value) → vs ≡ Some us → ValuesFit g.params us)
     → (f : ProcedureOf Named) (us : List Value) → option_map {U = ProcedureOf Named × List Value}
-        (λ us. (g, us)) vs ≡ Some (f, us) → ValuesFit f.params us
+    (λ us. (g, us)) vs ≡ Some (f, us) → ValuesFit f.params us
 with_fits g (Some vs) h f us e =
     let pair : (g, vs) ≡ (f, us) = cc in
     subst (λ (z : ProcedureOf Named × List Value). ValuesFit z.0.params z.1) pair (h vs refl)

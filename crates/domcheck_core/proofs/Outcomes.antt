@@ -61,15 +61,15 @@ all_kinds (c ∷ cs) = λ i. same_kinds c i && all_kinds cs i
 built_body : (f : ProcedureOf Named) → is_first_procedure f ≡ true → is_built f.body ≡ true
 built_body f e =
     let a = and_parts (same_data_sort f.sort grove)
-        (is_first_formula f.pre && (is_first_formula
-        f.post && (is_first_command f.body && list_all is_first_step f.proof))) e in
+    (is_first_formula f.pre && (is_first_formula
+    f.post && (is_first_command f.body && list_all is_first_step f.proof))) e in
     let b = and_parts (is_first_formula f.pre)
-        (is_first_formula f.post && (is_first_command f.body && list_all is_first_step f.proof)) a.1
-        in
+    (is_first_formula f.post && (is_first_command f.body && list_all is_first_step f.proof)) a.1
+    in
     let c = and_parts (is_first_formula f.post)
-        (is_first_command f.body && list_all is_first_step f.proof) b.1 in
+    (is_first_command f.body && list_all is_first_step f.proof) b.1 in
     sym (all_kinds (commands_in f.body))
-        ∙ (and_parts (is_first_command f.body) (list_all is_first_step f.proof) c.1).0
+    ∙ (and_parts (is_first_command f.body) (list_all is_first_step f.proof) c.1).0
 
 -- of the procedure at a place
 pub built_at : (xs : List Procedure) (k : ℕ) (p : Procedure)
@@ -80,10 +80,10 @@ built_at (x ∷ xs) zero p e h =
     let same : x ≡ p = cc in
     subst (λ (z : Procedure). is_built (procedure_of z).body ≡ true) same
     (built_body (procedure_of x) (and_parts (is_first_procedure (procedure_of x))
-        (list_all is_first_procedure (map procedure_of xs)) e).0)
+    (list_all is_first_procedure (map procedure_of xs)) e).0)
 built_at (x ∷ xs) (suc k) p e h =
     built_at xs k p (and_parts (is_first_procedure (procedure_of x))
-        (list_all is_first_procedure (map procedure_of xs)) e).1 h
+    (list_all is_first_procedure (map procedure_of xs)) e).1 h
 
 -- where a run ends, the grove is well formed
 ends_whole : (theory : Theory) → IsWellFormedTheory theory → (results : List ProgVar) (fuel : ℕ)
@@ -94,7 +94,8 @@ ends_whole : (theory : Theory) → IsWellFormedTheory theory → (results : List
 ends_whole theory w results fuel config fits n values g e =
     let ps = procedures_of theory in
     let b : Behind ps results 0 config (model.ends n values g) =
-    subst (Behind ps results 0 config) e (outcome-behind standard_limits ps results fuel 0 config) in
+    subst (Behind ps results 0 config) e (outcome-behind standard_limits ps results fuel 0 config)
+    in
     (ends-fine ps (well-formed-bodies theory w) b.0 config b.1 g fits b.3).whole.well_formed
 
 pub whole : (theory : Theory) → IsWellFormedTheory theory → (results : List ProgVar) (fuel : ℕ)
@@ -138,7 +139,7 @@ module _ {A E : Type 0} (theory : Theory) (f : ProcedureOf Named) (values : List
       → IfOk reply (λ x. grove_answer theory f values fuel document ≡ Some (of x))
   on_grove results (Ok x) passes e h =
       let answer = λ (z : List ProgVar). outcome_answer z
-          (outcome_on theory f values fuel document) in
+      (outcome_on theory f values fuel document) in
       ap (λ (z : Option Answer). or_else z (answer f.results)) passes
       ∙ subst (λ (z : List ProgVar). answer z ≡ Some (of x)) e h
   on_grove results (Err x) passes e h = tt

@@ -72,7 +72,7 @@ module _ (book : Option (List ℕ)) (name : List ℕ) (arguments : List (List �
 
   pub replied : (document : Option (List ℕ)) (s : Status) (output : List ℕ)
       → ReadFrom book (λ bytes. AnswersAll bytes name arguments s output)
-          → Replies document s output
+      → Replies document s output
   replied document s output a = (
     a.0,
     unread_book (λ read. RunAnswer (Some read) a.0 name fuel arguments s output) document

@@ -17,8 +17,14 @@ formula_parts empty_grove = omega arith
 formula_parts (equation {s = s} {t = t} la lb) = omega
     (arith, length-append s (terminal (codes "=") ∷ t))
 formula_parts (both {s = s} {t = t} lp lq) =
-    omega (arith, formula_parts lp, formula_parts lq, length-append s
-        (terminal (codes "and") ∷ (t ++ one (codes ")"))), length-append t (one (codes ")")))
+    omega (
+      arith,
+      formula_parts lp,
+      formula_parts lq,
+      length-append s
+          (terminal (codes "and") ∷ (t ++ one (codes ")"))),
+      length-append t (one (codes ")")),
+    )
 
 -- few lexemes
 abbrev Few : List Lexeme → Type 0
@@ -51,8 +57,12 @@ procedure_small : {f : ProcedureOf Named} {s : List Lexeme} → SpellsProcedure 
     → ProcedureIsSmall f
 procedure_small (procedure lf lps lrs ld lp lq lc lxs) h =
     let k = simp length-append at h in
-    record { pre = formula_small lp (omega arith); post = formula_small lq (omega arith); proof =
-        steps_small lxs (omega arith) }
+    record {
+      pre = formula_small lp (omega arith);
+      post = formula_small lq (omega arith);
+      proof =
+          steps_small lxs (omega arith);
+    }
 
 procedures_small : {fs : List (ProcedureOf Named)} {s : List Lexeme} → SpellsProcedures fs s → Few s
     → ProceduresAreSmall fs

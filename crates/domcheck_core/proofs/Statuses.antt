@@ -60,14 +60,14 @@ grove_of_called : (theory : Theory) (f : ProcedureOf Named) (values : List Value
     (document : Trees) → AllOfCalled (grove_answer theory f values fuel document)
 grove_of_called theory f values fuel document =
     first_of_called (refusal document)
-        (outcome_answer f.results (outcome_on theory f values fuel document))
+    (outcome_answer f.results (outcome_on theory f values fuel document))
     (first_of_called (range_refusal document)
-        (or_else (repeat_refusal document) (size_refusal document))
+    (or_else (repeat_refusal document) (size_refusal document))
     (refused_of_called range_line (first_out_of_range document))
     (first_of_called (repeat_refusal document) (size_refusal document)
     (refused_of_called repeat_line (first_repeat document))
     (unless_of_called (nat_le (size document) standard_limits.nodes)
-        (limit_answer nodes_limit) refl)))
+    (limit_answer nodes_limit) refl)))
     (outcome_of_called f.results (outcome_on theory f values fuel document))
 
 pub document_status : (theory : Theory) (f : ProcedureOf Named) (values : List Value) (fuel : ℕ)

@@ -40,11 +40,7 @@ fn read_book<L: Library>(
 }
 
 /// The answer of `check` on the file of this name.
-pub fn check_book<L: Library>(
-    alloc: Global,
-    library: &mut L,
-    file: &Text,
-) -> Result<Reply, Refusal>
+pub fn check_book<L: Library>(alloc: Global, library: &mut L, file: &Text) -> Result<Reply, Refusal>
     ensures answer { IfOk result (λ r. ReadFrom (L.book library.old file.now)
         (λ bytes. CheckAnswer bytes r.status r.output)) }
     ensures cause { IsErrOf result Refusal.ReadFault

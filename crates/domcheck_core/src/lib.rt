@@ -1,8 +1,8 @@
 //! Checks annotated program files, and runs their procedures on documents. `check_bytes` and
-//! `run_bytes` give the answer to bytes in hand, and `domcheck` is the thin layer over them: it reads
-//! the words, fetches what they name and writes the answer. Its contract says what each answer
-//! means, when it comes and what is written, for every library and every sink. Stands on the readers
-//! of words, files and documents, the checker of theories, the machine and the outside.
+//! `run_bytes` give the answer to bytes in hand, and `domcheck` is the thin layer over them: it
+//! reads the words, fetches what they name and writes the answer. Its contract says what each
+//! answer means, when it comes and what is written, for every library and every sink. Stands on the
+//! readers of words, files and documents, the checker of theories, the machine and the outside.
 #![tactic(auto)]
 
 ghost use Rattle.std.specs.Prelude.{◌≡◌, ◌≤◌, ◌⊎◌, ℕ, List, Contains, None, Some};
@@ -25,10 +25,9 @@ mod runs;
 mod status;
 
 use answers::answer_words;
+pub use checks::check_bytes;
 use outside_io::{Library, Sink, write_all_of};
 use replies::Refusal;
-
-pub use checks::check_bytes;
 pub use replies::Reply;
 pub use request_words::{Request, WordFault, read_words};
 pub use runs::run_bytes;

@@ -28,7 +28,8 @@ and-and true b c = refl
 and-and false b c = refl
 
 -- LISTS
-pub all-join : {A : Type 0} (p : A → Bool) (xs ys : List A) → list_all p xs ≡ true → list_all p ys ≡ true
+pub all-join : {A : Type 0} (p : A → Bool) (xs ys : List A) → list_all p xs ≡ true
+    → list_all p ys ≡ true
     → list_all p (xs ++ ys) ≡ true
 all-join p xs ys e f = list_all-append p xs ys ∙ join (list_all p xs) (list_all p ys) e f
 
@@ -59,7 +60,8 @@ all-flat p f (x ∷ xs) =
 declared-append : (ps rs : List ProgVar) (name : List ℕ)
     → declared_sort (ps ++ rs) name ≡ sort_in ps rs name
 declared-append [] rs name = refl
-declared-append (named first s ∷ ps) rs name = at_first (bytes_eq name first) (declared-append ps rs name)
+declared-append (named first s ∷ ps) rs name =
+    at_first (bytes_eq name first) (declared-append ps rs name)
   where
     at_first : (b : Bool) → declared_sort (ps ++ rs) name ≡ sort_in ps rs name
         → cond b (Some s) (declared_sort (ps ++ rs) name)
@@ -99,7 +101,8 @@ agreed-sort (named first u ∷ vs) name s = at_first (bytes_eq name first) (agre
     at_first true rec = refl
     at_first false rec = rec
 
-unknown : (vs : List ProgVar) (x : Var) → is_program x ≡ false → is_known (map as_var vs) x ≡ true → ⊥
+unknown : (vs : List ProgVar) (x : Var) → is_program x ≡ false → is_known (map as_var vs) x ≡ true
+    → ⊥
 unknown [] x p e = false≢true e
 unknown (named first u ∷ vs) (prog name s) p e = false≢true (sym p)
 unknown (named first u ∷ vs) (logic name s) p e = unknown vs (logic name s) p e
@@ -139,7 +142,8 @@ module _ (ps rs : List ProgVar) where
       × (list_all (is_as_declared (form_scope ps rs)) xs ≡ true)
   all-known xs e = (
     all-weaker (is_declared ps rs) (is_known (form_scope ps rs)) (λ x h. (declared-is x h).0) xs e,
-    all-weaker (is_declared ps rs) (is_as_declared (form_scope ps rs)) (λ x h. (declared-is x h).1) xs e,
+    all-weaker (is_declared ps rs) (is_as_declared (form_scope ps rs)) (λ x h. (declared-is x h).1)
+        xs e,
   )
 
   pub known-all : (xs : List Var) → list_all (is_known (form_scope ps rs)) xs ≡ true
@@ -150,7 +154,8 @@ module _ (ps rs : List ProgVar) where
       (is_declared ps rs) is-declared xs k e
 
 -- a declared variable is one of the program
-declared-program : (ps rs : List ProgVar) (x : Var) → is_declared ps rs x ≡ true → is_program x ≡ true
+declared-program : (ps rs : List ProgVar) (x : Var) → is_declared ps rs x ≡ true
+    → is_program x ≡ true
 declared-program ps rs (prog name s) e = refl
 declared-program ps rs (logic name s) e = false≢true e
 declared-program ps rs (bound i s) e = false≢true e
@@ -199,7 +204,8 @@ found-among (named first u ∷ vs) name s e = at_first (bytes_eq name first) e (
     at_first true e rec = or-true (same_value_sort s u) (is_among vs (named name s)) (turned u s e)
     at_first false e rec = rec e
 
-among-named : (vs : List ProgVar) (name : List ℕ) (s : ValueSort) → is_among vs (named name s) ≡ true
+among-named : (vs : List ProgVar) (name : List ℕ) (s : ValueSort) → is_among vs (named name s)
+    ≡ true
     → is_some (declared_sort vs name) ≡ true
 among-named [] name s e = false≢true e
 among-named (named first u ∷ vs) name s e = at_first (bytes_eq name first) e (among-named vs name s)
@@ -251,7 +257,8 @@ params-only ps rs xs e = (
   all-weaker (is_declared ps []) (is_declared ps rs) (declared-wider ps rs) xs e,
   only-from ps (is_declared ps [])
       (λ name s h. found-among ps name s
-      (subst (λ (z : Option ValueSort). is_sort_found z s ≡ true) (or-none (declared_sort ps name)) h)) xs e,
+      (subst (λ (z : Option ValueSort). is_sort_found z s ≡ true) (or-none (declared_sort ps name))
+      h)) xs e,
 )
 
 pub only-params : (ps rs : List ProgVar) (xs : List Var) → list_all (is_declared ps rs) xs ≡ true
@@ -274,7 +281,8 @@ pub declared-only : (ps rs : List ProgVar) (xs : List Var) → list_all (is_decl
 declared-only ps rs xs e =
     only-from (ps ++ rs) (is_declared ps rs)
     (λ name s h. found-among (ps ++ rs) name s
-    (subst (λ (z : Option ValueSort). is_sort_found z s ≡ true) (sym (declared-append ps rs name)) h)) xs e
+    (subst (λ (z : Option ValueSort). is_sort_found z s ≡ true) (sym (declared-append ps rs name))
+    h)) xs e
 
 -- NAMES THAT DIFFER
 none-any : (vs : List ProgVar) (name : List ℕ) (s : ValueSort)
@@ -283,7 +291,8 @@ none-any [] name s = refl
 none-any (named first u ∷ vs) name s = at_first (bytes_eq name first) (none-any vs name s)
   where
     at_first : (b : Bool)
-        → not (list_any (share_name (prog name s)) (map as_var vs)) ≡ is_none (declared_sort vs name)
+        → not (list_any (share_name (prog name s)) (map as_var vs))
+        ≡ is_none (declared_sort vs name)
         → not (b || list_any (share_name (prog name s)) (map as_var vs))
         ≡ is_none (cond b (Some u) (declared_sort vs name))
     at_first true rec = refl
@@ -296,7 +305,8 @@ none-or (Some u) r = refl
 apart-alone : (rs : List ProgVar) → distinct_by share_name (map as_var rs) ≡ are_apart rs []
 apart-alone [] = refl
 apart-alone (named name s ∷ rs) =
-    λ j. (none-any rs name s ∙ sym (and-true (is_none (declared_sort rs name)))) j && apart-alone rs j
+    λ j. (none-any rs name s ∙ sym (and-true (is_none (declared_sort rs name)))) j
+    && apart-alone rs j
 
 pub distinct-apart : (ps rs : List ProgVar)
     → distinct_by share_name (map as_var (ps ++ rs)) ≡ (are_apart ps rs && are_apart rs [])
@@ -307,4 +317,5 @@ distinct-apart (named name s ∷ ps) rs =
     none-any (ps ++ rs) name s ∙ ap is_none (declared-append ps rs name)
     ∙ none-or (declared_sort ps name) (declared_sort rs name) in
     (λ j. here j && distinct-apart ps rs j)
-    ∙ and-and (is_none (declared_sort ps name) && is_none (declared_sort rs name)) (are_apart ps rs) (are_apart rs [])
+    ∙ and-and (is_none (declared_sort ps name) && is_none (declared_sort rs name))
+    (are_apart ps rs) (are_apart rs [])

@@ -33,7 +33,8 @@ mutual
   command-list ps rs skip = refl
   command-list ps rs (block b) = ap (λ z. has_command b && z) (block-list ps rs b)
   command-list ps rs (assign x e) = sym (and-true (does_setting_fit ps rs x (sort_of x) e))
-  command-list ps rs (create_node x e) = sym (and-true (does_query_fit ps rs node_sort x str_sort e))
+  command-list ps rs (create_node x e) =
+      sym (and-true (does_query_fit ps rs node_sort x str_sort e))
   command-list ps rs (node_name x e) = sym (and-true (does_query_fit ps rs str_sort x node_sort e))
   command-list ps rs c = refl
 
@@ -51,7 +52,8 @@ pub record Sets (ps rs : List ProgVar) (x : ProgVar) (s : ValueSort) (e : Term) 
   pub declared : is_term_declared ps rs e ≡ true
   pub sorted : has_sort s e ≡ true
 
-sets : (ps rs : List ProgVar) (x : ProgVar) (s : ValueSort) (e : Term) → does_setting_fit ps rs x s e ≡ true
+sets : (ps rs : List ProgVar) (x : ProgVar) (s : ValueSort) (e : Term)
+    → does_setting_fit ps rs x s e ≡ true
     → Sets ps rs x s e
 sets ps rs x s e h =
     let a = both_true (is_declared ps rs (as_var x)) (not (is_among ps x)
@@ -62,7 +64,8 @@ sets ps rs x s e h =
 
 -- the variable of a query, and its setting
 asks : (ps rs : List ProgVar) (u : ValueSort) (x : ProgVar) (s : ValueSort) (e : Term)
-    → does_query_fit ps rs u x s e ≡ true → (same_value_sort (sort_of x) u ≡ true) × Sets ps rs x s e
+    → does_query_fit ps rs u x s e ≡ true → (same_value_sort (sort_of x) u ≡ true)
+    × Sets ps rs x s e
 asks ps rs u x s e h =
     let a = both_true (same_value_sort (sort_of x) u) (does_setting_fit ps rs x s e) h in
     (a.0, sets ps rs x s e a.1)
@@ -74,7 +77,8 @@ module _ (ps rs : List ProgVar) (x : ProgVar) (s : ValueSort) (e : Term) where
 
   set-declared : Sets ps rs x s e → own ≡ true
   set-declared a =
-      join (is_declared ps rs (as_var x)) (list_all (is_declared ps rs) (flat_map variables_of_term (e ∷ []))) a.target
+      join (is_declared ps rs (as_var x))
+      (list_all (is_declared ps rs) (flat_map variables_of_term (e ∷ []))) a.target
       (list_all-append (is_declared ps rs) (variables_of_term e) []
       ∙ and-true (list_all (is_declared ps rs) (variables_of_term e))
       ∙ sym (term-declared ps rs e) ∙ a.declared)
@@ -92,7 +96,8 @@ module _ (ps rs : List ProgVar) (x : ProgVar) (s : ValueSort) (e : Term) where
   set-fits d p q =
       let d' : (is_declared ps rs (as_var x) ≡ true)
       × (list_all (is_declared ps rs) (flat_map variables_of_term (e ∷ [])) ≡ true) =
-      both_true (is_declared ps rs (as_var x)) (list_all (is_declared ps rs) (flat_map variables_of_term (e ∷ []))) d in
+      both_true (is_declared ps rs (as_var x))
+      (list_all (is_declared ps rs) (flat_map variables_of_term (e ∷ []))) d in
       let spared : not (is_among ps x) ≡ true = sym (and-true (not (is_among ps x))) ∙ q in
       let declared : is_term_declared ps rs e ≡ true =
       term-declared ps rs e ∙ (all-append (is_declared ps rs) (variables_of_term e) [] d'.1).0 in
@@ -113,8 +118,10 @@ module _ (ps rs : List ProgVar) (th : Procedures) where
   own-declared skip h = refl
   own-declared (block b) h = refl
   own-declared (assign x e) h = set-declared ps rs x (sort_of x) e (sets ps rs x (sort_of x) e h)
-  own-declared (create_node x e) h = set-declared ps rs x str_sort e (asks ps rs node_sort x str_sort e h).1
-  own-declared (node_name x e) h = set-declared ps rs x node_sort e (asks ps rs str_sort x node_sort e h).1
+  own-declared (create_node x e) h =
+      set-declared ps rs x str_sort e (asks ps rs node_sort x str_sort e h).1
+  own-declared (node_name x e) h =
+      set-declared ps rs x node_sort e (asks ps rs str_sort x node_sort e h).1
   own-declared c h = false≢true h
 
   own-parts : (c : Command) → does_own_fit ps rs c ≡ true → parts_fit th c ≡ true
@@ -123,18 +130,22 @@ module _ (ps rs : List ProgVar) (th : Procedures) where
   own-parts (assign x e) h = set-evaluates ps rs x (sort_of x) e (sets ps rs x (sort_of x) e h)
   own-parts (create_node x e) h =
       let a = asks ps rs node_sort x str_sort e h in
-      join (same_value_sort (sort_of x) node_sort) (evaluates str_sort e) a.0 (set-evaluates ps rs x str_sort e a.1)
+      join (same_value_sort (sort_of x) node_sort) (evaluates str_sort e) a.0
+      (set-evaluates ps rs x str_sort e a.1)
   own-parts (node_name x e) h =
       let a = asks ps rs str_sort x node_sort e h in
-      join (same_value_sort (sort_of x) str_sort) (evaluates node_sort e) a.0 (set-evaluates ps rs x node_sort e a.1)
+      join (same_value_sort (sort_of x) str_sort) (evaluates node_sort e) a.0
+      (set-evaluates ps rs x node_sort e a.1)
   own-parts c h = false≢true h
 
   own-spares : (c : Command) → does_own_fit ps rs c ≡ true → spares ps c ≡ true
   own-spares skip h = refl
   own-spares (block b) h = refl
   own-spares (assign x e) h = set-spares ps rs x (sort_of x) e (sets ps rs x (sort_of x) e h)
-  own-spares (create_node x e) h = set-spares ps rs x str_sort e (asks ps rs node_sort x str_sort e h).1
-  own-spares (node_name x e) h = set-spares ps rs x node_sort e (asks ps rs str_sort x node_sort e h).1
+  own-spares (create_node x e) h =
+      set-spares ps rs x str_sort e (asks ps rs node_sort x str_sort e h).1
+  own-spares (node_name x e) h = set-spares ps rs x node_sort e
+      (asks ps rs str_sort x node_sort e h).1
   own-spares c h = false≢true h
 
   own-fits : (c : Command) → is_first_kind c ≡ true
@@ -145,10 +156,12 @@ module _ (ps rs : List ProgVar) (th : Procedures) where
   own-fits (assign x e) k d p s = set-fits ps rs x (sort_of x) e d p s
   own-fits (create_node x e) k d p s =
       let a = both_true (same_value_sort (sort_of x) node_sort) (evaluates str_sort e) p in
-      join (same_value_sort (sort_of x) node_sort) (does_setting_fit ps rs x str_sort e) a.0 (set-fits ps rs x str_sort e d a.1 s)
+      join (same_value_sort (sort_of x) node_sort) (does_setting_fit ps rs x str_sort e) a.0
+      (set-fits ps rs x str_sort e d a.1 s)
   own-fits (node_name x e) k d p s =
       let a = both_true (same_value_sort (sort_of x) str_sort) (evaluates node_sort e) p in
-      join (same_value_sort (sort_of x) str_sort) (does_setting_fit ps rs x node_sort e) a.0 (set-fits ps rs x node_sort e d a.1 s)
+      join (same_value_sort (sort_of x) str_sort) (does_setting_fit ps rs x node_sort e) a.0
+      (set-fits ps rs x node_sort e d a.1 s)
   own-fits c k d p s = false≢true k
 
   -- commands each of which fits
@@ -162,7 +175,8 @@ module _ (ps rs : List ProgVar) (th : Procedures) where
   commands-stand cs h = record {
     kinds = all-weaker (does_own_fit ps rs) is_first_kind own-kind cs h;
     declared = all-flat (is_declared ps rs) own_variables cs
-        ∙ all-weaker (does_own_fit ps rs) (λ c. list_all (is_declared ps rs) (own_variables c)) own-declared cs h;
+        ∙ all-weaker (does_own_fit ps rs) (λ c. list_all (is_declared ps rs) (own_variables c))
+        own-declared cs h;
     parts = all-weaker (does_own_fit ps rs) (parts_fit th) own-parts cs h;
     spared = all-weaker (does_own_fit ps rs) (spares ps) own-spares cs h;
   }
@@ -173,13 +187,17 @@ module _ (ps rs : List ProgVar) (th : Procedures) where
       let both : Command → Bool = λ c. is_first_kind c && declares c in
       let rest : Command → Bool = λ c. parts_fit th c && spares ps c in
       let left : list_all both cs ≡ true =
-      all-both is_first_kind declares both (λ c k d. join (is_first_kind c) (declares c) k d) cs h.kinds
+      all-both is_first_kind declares both (λ c k d. join (is_first_kind c) (declares c) k d) cs
+      h.kinds
       (sym (all-flat (is_declared ps rs) own_variables cs) ∙ h.declared) in
       let right : list_all rest cs ≡ true =
-      all-both (parts_fit th) (spares ps) rest (λ c p s. join (parts_fit th c) (spares ps c) p s) cs h.parts h.spared in
+      all-both (parts_fit th) (spares ps) rest (λ c p s. join (parts_fit th c) (spares ps c) p s)
+      cs h.parts h.spared in
       all-both both rest (does_own_fit ps rs)
-      (λ c l r. own-fits c (both_true (is_first_kind c) (declares c) l).0 (both_true (is_first_kind c) (declares c) l).1
-      (both_true (parts_fit th c) (spares ps c) r).0 (both_true (parts_fit th c) (spares ps c) r).1) cs left right
+      (λ c l r. own-fits c (both_true (is_first_kind c) (declares c) l).0
+      (both_true (is_first_kind c) (declares c) l).1
+      (both_true (parts_fit th c) (spares ps c) r).0
+      (both_true (parts_fit th c) (spares ps c) r).1) cs left right
 
 -- first commands call nothing
 kind-callee : (th : Procedures) (c : Command) → is_first_kind c ≡ true → callee_known th c ≡ true
@@ -202,7 +220,8 @@ pub kinds-callee : (th : Procedures) (cs : List Command) → list_all is_first_k
     → list_all (callee_known th) cs ≡ true
 kinds-callee th cs k = all-weaker is_first_kind (callee_known th) (kind-callee th) cs k
 
-pub kinds-apart : (cs : List Command) → list_all is_first_kind cs ≡ true → list_all results_apart cs ≡ true
+pub kinds-apart : (cs : List Command) → list_all is_first_kind cs ≡ true
+    → list_all results_apart cs ≡ true
 kinds-apart cs k = all-weaker is_first_kind results_apart kind-apart cs k
 
 -- and declare nothing

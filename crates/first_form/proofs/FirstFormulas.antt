@@ -23,7 +23,8 @@ drop-last n l i s true c e = refl
 drop-last n l i s false c e = ap (λ z. n || (l || (i || (s || z)))) e
 
 -- two program variables are none of a data sort
-alike-false : (ps rs : List ProgVar) (a b : Term) → is_term_declared ps rs a ≡ true → both_logic_of_one_sort a b ≡ false
+alike-false : (ps rs : List ProgVar) (a b : Term) → is_term_declared ps rs a ≡ true
+    → both_logic_of_one_sort a b ≡ false
 alike-false ps rs (variable (prog x u)) (variable y) e = refl
 alike-false ps rs (variable (logic x u)) (variable y) e = false≢true e
 alike-false ps rs (variable (bound i u)) (variable y) e = false≢true e
@@ -40,7 +41,8 @@ pub one-alike : (ps rs : List ProgVar) (a b : Term) → is_term_declared ps rs a
     → one_sort a b ≡ are_alike a b
 one-alike ps rs a b e =
     drop-last (both_have node_sort a b) (both_have list_sort a b) (both_have int_sort a b)
-    (both_have str_sort a b) (both_have bool_sort a b) (both_logic_of_one_sort a b) (alike-false ps rs a b e)
+    (both_have str_sort a b) (both_have bool_sort a b) (both_logic_of_one_sort a b)
+    (alike-false ps rs a b e)
 
 own-none : (b : Bool) (n : ℕ) → own b n None ≡ None → b ≡ true
 own-none true n e = refl
@@ -54,7 +56,8 @@ first-none (Some x) b e = absurd cc
 equation-parts : (ps rs : List ProgVar) (a b : Term) → does_formula_fit ps rs (equality a b) ≡ true
     → (is_term_declared ps rs a ≡ true) × (is_term_declared ps rs b ≡ true) × (are_alike a b ≡ true)
 equation-parts ps rs a b e =
-    let g : (is_term_declared ps rs a ≡ true) × ((is_term_declared ps rs b && are_alike a b) ≡ true) =
+    let g : (is_term_declared ps rs a ≡ true)
+    × ((is_term_declared ps rs b && are_alike a b) ≡ true) =
     both_true (is_term_declared ps rs a) (is_term_declared ps rs b && are_alike a b) e in
     let h : (is_term_declared ps rs b ≡ true) × (are_alike a b ≡ true) =
     both_true (is_term_declared ps rs b) (are_alike a b) g.1 in
@@ -114,7 +117,8 @@ module _ (ps rs : List ProgVar) where
       both_true (is_first_formula p) (is_first_formula q) f in
       let w' : (first_fault p (shape grove) (n + 1) ≡ None)
       × (first_fault q (shape grove) (n + 1 + parts p) ≡ None) =
-      first-none (first_fault p (shape grove) (n + 1)) (first_fault q (shape grove) (n + 1 + parts p)) w in
+      first-none (first_fault p (shape grove) (n + 1))
+      (first_fault q (shape grove) (n + 1 + parts p)) w in
       let d' = all-append (is_declared ps rs) (variables_of p) (variables_of q) d in
       join (does_formula_fit ps rs p) (does_formula_fit ps rs q)
       (formula-fits p (n + 1) f'.0 w'.0 d'.0) (formula-fits q (n + 1 + parts p) f'.1 w'.1 d'.1)

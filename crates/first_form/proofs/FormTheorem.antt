@@ -37,7 +37,14 @@ head-fits f e =
     let b = both_true (are_apart f.params f.results && are_apart f.results []) _ a.1 in
     let c = both_true (does_formula_fit f.params [] f.pre) _ b.1 in
     let d = both_true (does_formula_fit f.params f.results f.post) _ c.1 in
-    record { sort = same_data_sort-is f.sort grove a.0; apart = b.0; pre = c.0; post = d.0; body = d.1 }
+    record {
+      sort = same_data_sort-is f.sort grove a.0;
+      apart = b.0;
+      pre = c.0;
+      post = d.0;
+      body =
+          d.1;
+    }
 
 -- what the definition asks of a header
 pub record HeadIsFirst (f : ProcedureOf Named) : Type 0 where
@@ -85,14 +92,17 @@ module _ (theory : Theory) (none : theory.logic ≡ []) where
       let st : Stand f.params f.results (procedures_of theory) (commands_in f.body) =
       commands-stand f.params f.results (procedures_of theory) (commands_in f.body)
       (sym (command-list f.params f.results f.body) ∙ h.body) in
-      let pre = params-only f.params f.results (variables_of f.pre) (formula-declared f.params [] f.pre h.pre) in
+      let pre = params-only f.params f.results (variables_of f.pre)
+      (formula-declared f.params [] f.pre h.pre) in
       let post = formula-declared f.params f.results f.post h.post in
       let fine : Fine f.params f.results (procedures_of theory)
-      (variables_of f.pre ++ (variables_of f.post ++ variables_of_command f.body)) (commands_in f.body) =
+      (variables_of f.pre ++ (variables_of f.post ++ variables_of_command f.body))
+      (commands_in f.body) =
       record {
         declared = all-join (is_declared f.params f.results) (variables_of f.pre)
             (variables_of f.post ++ variables_of_command f.body) pre.0
-            (all-join (is_declared f.params f.results) (variables_of f.post) (variables_of_command f.body) post st.declared);
+            (all-join (is_declared f.params f.results) (variables_of f.post)
+            (variables_of_command f.body) post st.declared);
         parts = st.parts;
         spared = st.spared;
       } in
@@ -114,7 +124,8 @@ module _ (theory : Theory) (none : theory.logic ≡ []) where
           → (k : FileKind) → header theory earlier f k ≡ true
       head-passes here once sorted scoped twice_kind = once
       head-passes here once sorted scoped sort_kind =
-          join (is_judged_at (shape f.sort) f.pre && is_judged_at (shape f.sort) f.post) _ sorted (here sort_kind)
+          join (is_judged_at (shape f.sort) f.pre && is_judged_at (shape f.sort) f.post) _ sorted
+          (here sort_kind)
       head-passes here once sorted scoped scope_kind = scoped
       head-passes here once sorted scoped k = here k
 
@@ -123,16 +134,19 @@ module _ (theory : Theory) (none : theory.logic ≡ []) where
       → (does_head_fit f ≡ true) × (not (list_any (λ g. bytes_eq f.name g.name) earlier) ≡ true)
   none-head earlier f h w =
       let passes = passes-each (header theory earlier f) w in
-      let b = both_true (not (list_any (λ g. bytes_eq f.name g.name) earlier)) _ (passes twice_kind) in
+      let b = both_true (not (list_any (λ g. bytes_eq f.name g.name) earlier)) _
+      (passes twice_kind) in
       let t = both_true (is_judged_at (shape f.sort) f.pre && is_judged_at (shape f.sort) f.post) _
       (passes sort_kind) in
-      let s = both_true (is_judged_at (shape f.sort) f.pre) (is_judged_at (shape f.sort) f.post) t.0 in
+      let s = both_true (is_judged_at (shape f.sort) f.pre) (is_judged_at (shape f.sort) f.post)
+      t.0 in
       let fine = inside-fine theory f (scope-is f h.body)
       (variables_of f.pre ++ (variables_of f.post ++ variables_of_command f.body))
       (commands_in f.body) (passes unknown_kind) t.1 (passes constant_kind) in
       let d = all-append (is_declared f.params f.results) (variables_of f.pre)
       (variables_of f.post ++ variables_of_command f.body) fine.declared in
-      let d' = all-append (is_declared f.params f.results) (variables_of f.post) (variables_of_command f.body) d.1 in
+      let d' = all-append (is_declared f.params f.results) (variables_of f.post)
+      (variables_of_command f.body) d.1 in
       let o = both_true (only_among f.params (variables_of f.pre))
       (only_among (f.params ++ f.results) (variables_of f.post)) (passes scope_kind) in
       let sort : same_data_sort f.sort grove ≡ true = ap (λ z. same_data_sort z grove) h.sort in
@@ -153,15 +167,18 @@ module _ (theory : Theory) (none : theory.logic ≡ []) where
   -- STEPS
   steps-none : (f : ProcedureOf Named)
       → scope_of theory f ≡ form_scope f.params f.results
-      → (n place : ℕ) (steps : List (StepOf Named)) → do_steps_fit f.params f.results place steps ≡ true
-      → (first_fault_at (steps_from theory n f place steps) ≡ None) × (list_all is_first_step steps ≡ true)
+      → (n place : ℕ) (steps : List (StepOf Named)) → do_steps_fit f.params f.results place steps
+      ≡ true
+      → (first_fault_at (steps_from theory n f place steps) ≡ None)
+      × (list_all is_first_step steps ≡ true)
   steps-none f e n place [] h = (refl, refl)
   steps-none f e n place (step ∷ steps) h =
       let a = both_true (does_step_fit f.params f.results place step)
       (do_steps_fit f.params f.results (place + 1) steps) h in
       let b = step-none theory f e place step a.0 in
       let c = steps-none f e n (place + 1) steps a.1 in (
-        none-first n place (proof_step theory f place step) (steps_from theory n f (place + 1) steps)
+        none-first n place (proof_step theory f place step)
+            (steps_from theory n f (place + 1) steps)
             b.0 c.0,
         join (is_first_step step) (list_all is_first_step steps) b.1 c.1,
       )
@@ -176,13 +193,15 @@ module _ (theory : Theory) (none : theory.logic ≡ []) where
       let a = first-none n place (proof_step theory f place step)
       (steps_from theory n f (place + 1) steps) w in
       let b = both_true (is_first_step step) (list_all is_first_step steps) h in
-      join (does_step_fit f.params f.results place step) (do_steps_fit f.params f.results (place + 1) steps)
+      join (does_step_fit f.params f.results place step)
+      (do_steps_fit f.params f.results (place + 1) steps)
       (none-step theory f e place step a.0 b.0)
       (none-steps f e n (place + 1) steps a.1 b.1)
 
   -- PROCEDURES
   name-any : (name : List ℕ) (earlier : List (ProcedureOf Named))
-      → list_any (λ g. bytes_eq name g.name) earlier ≡ is_name_among name (map (λ g. g.name) earlier)
+      → list_any (λ g. bytes_eq name g.name) earlier
+      ≡ is_name_among name (map (λ g. g.name) earlier)
   name-any name [] = refl
   name-any name (g ∷ earlier) = ap (λ z. bytes_eq name g.name || z) (name-any name earlier)
 
@@ -203,10 +222,12 @@ module _ (theory : Theory) (none : theory.logic ≡ []) where
 
   procedures-none : (earlier : List (ProcedureOf Named)) (n : ℕ) (fs : List (ProcedureOf Named))
       → do_procedures_fit fs ≡ true → do_names_differ (map (λ g. g.name) earlier) fs ≡ true
-      → (first_fault_at (procedures_from theory earlier n fs) ≡ None) × (list_all is_first_procedure fs ≡ true)
+      → (first_fault_at (procedures_from theory earlier n fs) ≡ None)
+      × (list_all is_first_procedure fs ≡ true)
   procedures-none earlier n [] e d = (refl, refl)
   procedures-none earlier n (f ∷ fs) e d =
-      let a = both_true (does_head_fit f && do_steps_fit f.params f.results 1 f.proof) (do_procedures_fit fs) e in
+      let a = both_true (does_head_fit f && do_steps_fit f.params f.results 1 f.proof)
+      (do_procedures_fit fs) e in
       let b = both_true (does_head_fit f) (do_steps_fit f.params f.results 1 f.proof) a.0 in
       let c = both_true (not (is_name_among f.name (map (λ g. g.name) earlier)))
       (do_names_differ (f.name ∷ map (λ g. g.name) earlier) fs) d in
@@ -220,11 +241,13 @@ module _ (theory : Theory) (none : theory.logic ≡ []) where
             ++ procedures_from theory (f ∷ earlier) (n + 1) fs) here
             (none-both (steps_from theory n f 1 f.proof)
             (procedures_from theory (f ∷ earlier) (n + 1) fs) s.0 later.0),
-        join (is_first_procedure f) (list_all is_first_procedure fs) (first-procedure f k s.1) later.1,
+        join (is_first_procedure f) (list_all is_first_procedure fs) (first-procedure f k s.1)
+            later.1,
       )
 
   none-procedures : (earlier : List (ProcedureOf Named)) (n : ℕ) (fs : List (ProcedureOf Named))
-      → first_fault_at (procedures_from theory earlier n fs) ≡ None → list_all is_first_procedure fs ≡ true
+      → first_fault_at (procedures_from theory earlier n fs) ≡ None
+      → list_all is_first_procedure fs ≡ true
       → (do_procedures_fit fs ≡ true) × (do_names_differ (map (λ g. g.name) earlier) fs ≡ true)
   none-procedures earlier n [] w e = (refl, refl)
   none-procedures earlier n (f ∷ fs) w e =
@@ -260,7 +283,8 @@ pub fitting_is : (theory : Theory) → does_theory_fit theory ≡ true
 fitting_is theory e =
     let a = both_true ((theory.version == 1) && declares_none theory.logic) _ e in
     let b = both_true (theory.version == 1) (declares_none theory.logic) a.0 in
-    let c = both_true (do_procedures_fit theory.procedures) (do_names_differ [] theory.procedures) a.1 in
+    let c = both_true (do_procedures_fit theory.procedures) (do_names_differ [] theory.procedures)
+    a.1 in
     let none : theory.logic ≡ [] = no-logic theory.logic b.1 in
     let p = procedures-none theory none [] 1 theory.procedures c.0 c.1 in (
       none-first 0 0 (declarations theory) (procedures_from theory [] 1 theory.procedures)
@@ -271,8 +295,10 @@ fitting_is theory e =
 pub is_fitting : (theory : Theory) → IsWellFormedTheory theory → is_first_form theory ≡ true
     → does_theory_fit theory ≡ true
 is_fitting theory w e =
-    let a = first-none 0 0 (declarations theory) (procedures_from theory [] 1 theory.procedures) w in
-    let b = both_true (declares_none theory.logic) (list_all is_first_procedure theory.procedures) e in
+    let a = first-none 0 0 (declarations theory) (procedures_from theory [] 1 theory.procedures) w
+    in
+    let b = both_true (declares_none theory.logic) (list_all is_first_procedure theory.procedures)
+    e in
     let version = passes-each (declarations theory) a.0 version_kind in
     let none : theory.logic ≡ [] = no-logic theory.logic b.0 in
     let p = none-procedures theory none [] 1 theory.procedures a.1 b.1 in

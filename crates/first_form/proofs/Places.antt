@@ -36,35 +36,36 @@ pub record Fine (ps rs : List ProgVar) (th : Procedures) (vars : List Var) (cs :
   pub spared : list_all (spares ps) cs ≡ true
 
 module _ (theory : Theory) (f : ProcedureOf Named)
-    (e : scope_of theory f ≡ form_scope f.params f.results) (vars : List Var) (cs : List Command) where
-  pub fine-inside : list_all is_first_kind cs ≡ true
-      → Fine f.params f.results (procedures_of theory) vars cs
-      → (k : FileKind) → inside theory f vars cs k ≡ true
-  fine-inside first h unknown_kind =
-      join (list_all (is_known (scope_of theory f)) vars) _
-      (ap (λ z. list_all (is_known z) vars) e ∙ (all-known f.params f.results vars h.declared).0)
-      (kinds-callee (procedures_of theory) cs first)
-  fine-inside first h sort_kind =
-      join (list_all (is_as_declared (scope_of theory f)) vars) _
-      (ap (λ z. list_all (is_as_declared z) vars) e
-      ∙ (all-known f.params f.results vars h.declared).1) h.parts
-  fine-inside first h constant_kind = h.spared
-  fine-inside first h results_kind = kinds-apart cs first
-  fine-inside first h k = refl
+    (e : scope_of theory f ≡ form_scope f.params f.results) (vars : List Var) (cs : List Command)
+  where
+    pub fine-inside : list_all is_first_kind cs ≡ true
+        → Fine f.params f.results (procedures_of theory) vars cs
+        → (k : FileKind) → inside theory f vars cs k ≡ true
+    fine-inside first h unknown_kind =
+        join (list_all (is_known (scope_of theory f)) vars) _
+        (ap (λ z. list_all (is_known z) vars) e ∙ (all-known f.params f.results vars h.declared).0)
+        (kinds-callee (procedures_of theory) cs first)
+    fine-inside first h sort_kind =
+        join (list_all (is_as_declared (scope_of theory f)) vars) _
+        (ap (λ z. list_all (is_as_declared z) vars) e
+        ∙ (all-known f.params f.results vars h.declared).1) h.parts
+    fine-inside first h constant_kind = h.spared
+    fine-inside first h results_kind = kinds-apart cs first
+    fine-inside first h k = refl
 
-  pub inside-fine : inside theory f vars cs unknown_kind ≡ true
-      → inside theory f vars cs sort_kind ≡ true → inside theory f vars cs constant_kind ≡ true
-      → Fine f.params f.results (procedures_of theory) vars cs
-  inside-fine known sorted spared =
-      let k = both_true (list_all (is_known (scope_of theory f)) vars) _ known in
-      let s = both_true (list_all (is_as_declared (scope_of theory f)) vars) _ sorted in
-      record {
-        declared = known-all f.params f.results vars
-            (sym (ap (λ z. list_all (is_known z) vars) e) ∙ k.0)
-            (sym (ap (λ z. list_all (is_as_declared z) vars) e) ∙ s.0);
-        parts = s.1;
-        spared = spared;
-      }
+    pub inside-fine : inside theory f vars cs unknown_kind ≡ true
+        → inside theory f vars cs sort_kind ≡ true → inside theory f vars cs constant_kind ≡ true
+        → Fine f.params f.results (procedures_of theory) vars cs
+    inside-fine known sorted spared =
+        let k = both_true (list_all (is_known (scope_of theory f)) vars) _ known in
+        let s = both_true (list_all (is_as_declared (scope_of theory f)) vars) _ sorted in
+        record {
+          declared = known-all f.params f.results vars
+              (sym (ap (λ z. list_all (is_known z) vars) e) ∙ k.0)
+              (sym (ap (λ z. list_all (is_as_declared z) vars) e) ∙ s.0);
+          parts = s.1;
+          spared = spared;
+        }
 
 -- RULES
 or-cases : (a b : Bool) → (a || b) ≡ true → (a ≡ true) ⊎ (b ≡ true)
@@ -118,18 +119,22 @@ module _ (ps rs : List ProgVar) where
   arguments-declared auto e = refl
   arguments-declared (by_rule name premises given) e =
       all-flat (is_declared ps rs) variables_of_term given
-      ∙ all-weaker (does_argument_fit ps rs) (λ a. list_all (is_declared ps rs) (variables_of_term a)) argument-declared given e
+      ∙ all-weaker (does_argument_fit ps rs)
+      (λ a. list_all (is_declared ps rs) (variables_of_term a)) argument-declared given e
 
-  arguments-are : (r : Reason) → do_arguments_fit ps rs r ≡ true → list_all is_argument (arguments_of r) ≡ true
+  arguments-are : (r : Reason) → do_arguments_fit ps rs r ≡ true
+      → list_all is_argument (arguments_of r) ≡ true
   arguments-are auto e = refl
   arguments-are (by_rule name premises given) e =
       all-weaker (does_argument_fit ps rs) is_argument argument-is given e
 
-  arguments-fit : (r : Reason) → list_all (is_declared ps rs) (flat_map variables_of_term (arguments_of r)) ≡ true
+  arguments-fit : (r : Reason) → list_all (is_declared ps rs)
+      (flat_map variables_of_term (arguments_of r)) ≡ true
       → list_all is_argument (arguments_of r) ≡ true → do_arguments_fit ps rs r ≡ true
   arguments-fit auto d e = refl
   arguments-fit (by_rule name premises given) d e =
-      all-both (λ a. list_all (is_declared ps rs) (variables_of_term a)) is_argument (does_argument_fit ps rs)
+      all-both (λ a. list_all (is_declared ps rs) (variables_of_term a)) is_argument
+      (does_argument_fit ps rs)
       argument-fits given (sym (all-flat (is_declared ps rs) variables_of_term given) ∙ d) e
 
 -- JUDGEMENTS
@@ -144,16 +149,19 @@ module _ (ps rs : List ProgVar) (th : Procedures) where
       → (does_formula_fit ps rs p && (does_command_fit ps rs c && does_formula_fit ps rs q)) ≡ true
       → TripleFits ps rs p c q
   triple-fits p c q e =
-      let g = both_true (does_formula_fit ps rs p) (does_command_fit ps rs c && does_formula_fit ps rs q) e in
+      let g = both_true (does_formula_fit ps rs p)
+      (does_command_fit ps rs c && does_formula_fit ps rs q) e in
       let h = both_true (does_command_fit ps rs c) (does_formula_fit ps rs q) g.1 in
       record { pre = g.0; body = sym (command-list ps rs c) ∙ h.0; post = h.1 }
 
-  judgement-first : (j : JudgementOf Named) → does_judgement_fit ps rs j ≡ true → is_first_judgement j ≡ true
+  judgement-first : (j : JudgementOf Named) → does_judgement_fit ps rs j ≡ true
+      → is_first_judgement j ≡ true
   judgement-first (entails p q s) e = false≢true e
   judgement-first (triple p c q grove) e =
       let h : TripleFits ps rs p c q = triple-fits p c q e in
       λ i. formula-first ps rs p h.pre i
-      && ((commands-stand ps rs th (commands_in c) h.body).kinds i && formula-first ps rs q h.post i)
+      && ((commands-stand ps rs th (commands_in c) h.body).kinds i
+      && formula-first ps rs q h.post i)
   judgement-first (triple p c q tree) e = false≢true e
   judgement-first (triple p c q forest) e = false≢true e
 
@@ -174,11 +182,13 @@ module _ (ps rs : List ProgVar) (th : Procedures) where
   judgement-fine (triple p c q grove) args e d =
       let h : TripleFits ps rs p c q = triple-fits p c q e in
       let st : Stand ps rs th (commands_in c) = commands-stand ps rs th (commands_in c) h.body in (
-        λ i. is_none (formula-sorted ps rs p 0 h.pre i) && is_none (formula-sorted ps rs q 0 h.post i),
+        λ i. is_none (formula-sorted ps rs p 0 h.pre i)
+            && is_none (formula-sorted ps rs q 0 h.post i),
         record {
           declared = all-join (is_declared ps rs)
               (variables_of p ++ (variables_of q ++ variables_of_command c)) args
-              (all-join (is_declared ps rs) (variables_of p) (variables_of q ++ variables_of_command c)
+              (all-join (is_declared ps rs) (variables_of p)
+              (variables_of q ++ variables_of_command c)
               (formula-declared ps rs p h.pre)
               (all-join (is_declared ps rs) (variables_of q) (variables_of_command c)
               (formula-declared ps rs q h.post) st.declared)) d;
@@ -197,11 +207,14 @@ module _ (ps rs : List ProgVar) (th : Procedures) where
   fine-judgement (triple p c q grove) args e sorted h =
       let f = both_true (is_first_formula p) (is_first_command c && is_first_formula q) e in
       let f' = both_true (is_first_command c) (is_first_formula q) f.1 in
-      let d = all-append (is_declared ps rs) (variables_of p ++ (variables_of q ++ variables_of_command c)) args h.declared in
-      let dp = all-append (is_declared ps rs) (variables_of p) (variables_of q ++ variables_of_command c) d.0 in
+      let d = all-append (is_declared ps rs)
+      (variables_of p ++ (variables_of q ++ variables_of_command c)) args h.declared in
+      let dp = all-append (is_declared ps rs) (variables_of p)
+      (variables_of q ++ variables_of_command c) d.0 in
       let dq = all-append (is_declared ps rs) (variables_of q) (variables_of_command c) dp.1 in
       let s = both_true (is_judged_at (shape grove) p) (is_judged_at (shape grove) q) sorted in
-      let body : does_command_fit ps rs c ≡ true = command-list ps rs c ∙ standing-fit ps rs th (commands_in c)
+      let body : does_command_fit ps rs c ≡ true = command-list ps rs c
+      ∙ standing-fit ps rs th (commands_in c)
       (record { kinds = f'.0; declared = dq.1; parts = h.parts; spared = h.spared }) in
       let pre : does_formula_fit ps rs p ≡ true =
       formula-fits ps rs p 0 f.0 (judged-none (first_fault p (shape grove) 0) s.0) dp.0 in
@@ -237,8 +250,10 @@ module _ (theory : Theory) (f : ProcedureOf Named)
       let here : (k : FileKind) → inside_step theory f step k ≡ true =
       fine-inside theory f e _ (commands_of_judgement step.judgement)
       (judgement-kinds f.params f.results (procedures_of theory) step.judgement first) fine.1 in
-      let sorted : (judgement_sorted step.judgement && list_all is_argument (arguments_of step.reason)) ≡ true =
-      join (judgement_sorted step.judgement) _ fine.0 (arguments-are f.params f.results step.reason c.0) in (
+      let sorted : (judgement_sorted step.judgement
+      && list_all is_argument (arguments_of step.reason)) ≡ true =
+      join (judgement_sorted step.judgement) _ fine.0
+      (arguments-are f.params f.results step.reason c.0) in (
         each-passes (proof_step theory f place step)
             (step-passes place step a.0 (first-rule step.reason b.0) sorted here),
         join (is_first_reason step.reason) (is_first_judgement step.judgement) b.0 first,
@@ -246,11 +261,13 @@ module _ (theory : Theory) (f : ProcedureOf Named)
     where
       step-passes : (place : ℕ) (step : StepOf Named) → (step.number == place) ≡ true
           → rule_known step.reason ≡ true
-          → (judgement_sorted step.judgement && list_all is_argument (arguments_of step.reason)) ≡ true
+          → (judgement_sorted step.judgement && list_all is_argument (arguments_of step.reason))
+          ≡ true
           → ((k : FileKind) → inside_step theory f step k ≡ true)
           → (k : FileKind) → proof_step theory f place step k ≡ true
       step-passes place step number rule sorted here sort_kind =
-          join (judgement_sorted step.judgement && list_all is_argument (arguments_of step.reason)) _
+          join (judgement_sorted step.judgement && list_all is_argument (arguments_of step.reason))
+          _
           sorted (here sort_kind)
       step-passes place step number rule sorted here rule_kind = rule
       step-passes place step number rule sorted here number_kind = number
@@ -261,7 +278,8 @@ module _ (theory : Theory) (f : ProcedureOf Named)
   none-step place step w h =
       let a = both_true (is_first_reason step.reason) (is_first_judgement step.judgement) h in
       let passes = passes-each (proof_step theory f place step) w in
-      let s = both_true (judgement_sorted step.judgement && list_all is_argument (arguments_of step.reason)) _
+      let s = both_true (judgement_sorted step.judgement
+      && list_all is_argument (arguments_of step.reason)) _
       (passes sort_kind) in
       let t = both_true (judgement_sorted step.judgement) _ s.0 in
       let fine = inside-fine theory f e _ (commands_of_judgement step.judgement)

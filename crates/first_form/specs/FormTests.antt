@@ -1,6 +1,6 @@
--- Being well formed and of the first form as one test that goes down a theory. Nothing here is to be
--- believed: the proofs tie it to the definitions. The parameters and the results of the procedure
--- are passed along, as the variables that may stand at a place.
+-- Being well formed and of the first form as one test that goes down a theory. Nothing here is to
+-- be believed: the proofs tie it to the definitions. The parameters and the results of the
+-- procedure are passed along, as the variables that may stand at a place.
 use Rattle.std.specs.Prelude.{ℕ, ◌+◌, ◌==◌, Bool, true, false, not, ◌&&◌, ◌||◌, cond, List, [], ◌∷◌, Option, Some, None, is_none, bytes_eq}
 use Rattle.std.specs.List.{list_all}
 use Rattle.model_shapes.specs.Tests.{same_data_sort, same_value_sort}
@@ -70,7 +70,8 @@ does_setting_fit params results x s e =
     && (is_term_declared params results e && has_sort s e))
 
 -- the same of a variable of this sort
-abbrev pub does_query_fit : List ProgVar → List ProgVar → ValueSort → ProgVar → ValueSort → Term → Bool
+abbrev pub does_query_fit : List ProgVar → List ProgVar → ValueSort → ProgVar → ValueSort → Term
+    → Bool
 does_query_fit params results u x s e =
     same_value_sort (sort_of x) u && does_setting_fit params results x s e
 

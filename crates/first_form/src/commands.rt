@@ -21,7 +21,8 @@ fn does_setting_fit(
     value: &Term,
 ) -> bool
     ensures { result ≡ tests.does_setting_fit (map prog_var_of params.now)
-        (map prog_var_of results.now) (prog_var_of variable.now) (value_sort_of sort) (term_of value.now) }
+        (map prog_var_of results.now) (prog_var_of variable.now) (value_sort_of sort)
+        (term_of value.now) }
 {
     is_declared(params, results, variable)
         && !is_among(params, variable)

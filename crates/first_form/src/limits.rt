@@ -37,8 +37,8 @@ fn declare_few(procedures: &[Procedure]) -> bool
     true
 }
 
-/// Whether no procedure of the theory declares more variables than the most. A body of the first form
-/// declares none, so parameters and results are counted.
+/// Whether no procedure of the theory declares more variables than the most. A body of the first
+/// form declares none, so parameters and results are counted.
 #[tactic(auto, using(crate::proofs::FormTheorem::form_rules))]
 pub fn variables_within(theory: &Theory) -> bool
     requires form { IsTrue (form.is_first_form (theory_of theory.now)) }

@@ -85,7 +85,8 @@ fn does_theory_fit(alloc: Global, theory: &Theory) -> Result<bool, OutOfMemory>
 /// groves, proved by the rules skip, assign and seq, without logic variables.
 pub fn is_of_first_form(alloc: Global, theory: &Theory) -> Result<bool, OutOfMemory>
     ensures { IfOk result (λ b. IsTrue b
-        ↔ (IsWellFormedTheory (theory_of theory.now) × IsTrue (is_first_form (theory_of theory.now)))) }
+        ↔ (IsWellFormedTheory (theory_of theory.now)
+        × IsTrue (is_first_form (theory_of theory.now)))) }
 {
     does_theory_fit(alloc, theory)
 }

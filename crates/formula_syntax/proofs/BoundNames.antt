@@ -14,20 +14,22 @@ use Rattle.formula_syntax.specs.declared.binders.Binders.TheVariants as b
 use Rattle.formula_syntax.specs.Binders.{bound_by}
 
 -- below a binder with this name the variable is the nearest bound one
-pub names-here : (x y : Var) (ys : List Var) → same_var x y ≡ true → names (y ∷ ys) x ≡ bound 0 (var_sort x)
-names-here x y ys e = go (var_eq x y)
+pub names-here : (x y : Var) (ys : List Var) → same_var x y ≡ true
+    → names (y ∷ ys) x ≡ bound 0 (var_sort x)
+names-here x y ys e = by_decision (var_eq x y)
   where
-    go : (d : Dec (x ≡ y)) → name_or (names ys x) d ≡ bound 0 (var_sort x)
-    go (yes q) = ap (λ z. bound 0 (var_sort z)) (sym q)
-    go (no n) = absurd (n (same_var-is x y e))
+    by_decision : (d : Dec (x ≡ y)) → name_or (names ys x) d ≡ bound 0 (var_sort x)
+    by_decision (yes q) = ap (λ z. bound 0 (var_sort z)) (sym q)
+    by_decision (no n) = absurd (n (same_var-is x y e))
 
 -- below a binder with another name it is what it is further out
-pub names-there : (x y : Var) (ys : List Var) → same_var x y ≡ false → names (y ∷ ys) x ≡ raised_var (names ys x)
-names-there x y ys e = go (var_eq x y)
+pub names-there : (x y : Var) (ys : List Var) → same_var x y ≡ false
+    → names (y ∷ ys) x ≡ raised_var (names ys x)
+names-there x y ys e = by_decision (var_eq x y)
   where
-    go : (d : Dec (x ≡ y)) → name_or (names ys x) d ≡ raised_var (names ys x)
-    go (yes q) = false≢true (sym e ∙ ap (same_var x) (sym q) ∙ same_var-refl x)
-    go (no n) = refl
+    by_decision : (d : Dec (x ≡ y)) → name_or (names ys x) d ≡ raised_var (names ys x)
+    by_decision (yes q) = false≢true (sym e ∙ ap (same_var x) (sym q) ∙ same_var-refl x)
+    by_decision (no n) = refl
 
 apart : (x y : List ℕ) (s : ValueSort) (u : Sort) → prog x s ≡ logic y u → ⊥
 apart x y s u e = cc
@@ -60,13 +62,13 @@ names-not_prog : (ys : Binders) (x : List ℕ) (u : Sort) →
 unfolding not_prog
 names-not_prog b.Empty x u = λ y s. (refl, refl)
 names-not_prog (b.More' y q rest) x u =
-    go (var_eq (logic x u) (logic_var_of y.now)) (names-not_prog rest x u)
+    by_decision (var_eq (logic x u) (logic_var_of y.now)) (names-not_prog rest x u)
   where
-    go : (d : Dec (logic x u ≡ logic_var_of y.now)) →
+    by_decision : (d : Dec (logic x u ≡ logic_var_of y.now)) →
         not_prog (names (bound_by rest) (logic x u)) →
         not_prog (name_or (names (bound_by rest) (logic x u)) d)
-    go (yes e) h = λ y s. (refl, refl)
-    go (no n) h = raised-not_prog (names (bound_by rest) (logic x u)) h
+    by_decision (yes e) h = λ y s. (refl, refl)
+    by_decision (no n) h = raised-not_prog (names (bound_by rest) (logic x u)) h
 
 pub prog-logic : (xs ys : Binders) (x y : List ℕ) (s : ValueSort) (u : Sort) →
     same_var (names (bound_by xs) (prog x s)) (names (bound_by ys) (logic y u)) ≡ false

@@ -49,11 +49,11 @@ raised-one (bound i s) (logic m u) e = absurd (cc)
 raised-one (bound i s) (bound j u) e = cc
 
 same-iff : (x y : Var) → IsTrue (same_var x y || false) ↔ (x ≡ y)
-same-iff x y = go (same_var x y) refl
+same-iff x y = by_test (same_var x y) refl
   where
-    go : (b : Bool) → same_var x y ≡ b → IsTrue (b || false) ↔ (x ≡ y)
-    go true e = (λ h. same_var-is x y e, λ h. refl)
-    go false e = (
+    by_test : (b : Bool) → same_var x y ≡ b → IsTrue (b || false) ↔ (x ≡ y)
+    by_test true e = (λ h. same_var-is x y e, λ h. refl)
+    by_test false e = (
       λ h. false≢true h,
       λ h. false≢true (sym e ∙ ap (same_var x) (sym h) ∙ same_var-refl x),
     )
@@ -62,16 +62,16 @@ same-iff x y = go (same_var x y) refl
 variable-free : (xs : List Var) (y z : Var)
     → IsTrue (is_among y (outside xs (z ∷ []))) ↔ (deep xs y ≡ names xs z)
 variable-free [] y z = same-iff y z
-variable-free (x ∷ xs) y z = go (same_var z x) refl (variable-free xs y z)
+variable-free (x ∷ xs) y z = by_test (same_var z x) refl (variable-free xs y z)
   where
-    go : (b : Bool) → same_var z x ≡ b
+    by_test : (b : Bool) → same_var z x ≡ b
         → (IsTrue (is_among y (outside xs (z ∷ []))) ↔ (deep xs y ≡ names xs z))
         → IsTrue (is_among y (outside xs (cond (not b) (z ∷ []) [])))
         ↔ (raised_var (deep xs y) ≡ names (x ∷ xs) z)
-    go true e h =
+    by_test true e h =
         neither (is_among y (outside xs [])) (ap (is_among y) (outside-none xs))
         (λ f. raised-apart (deep xs y) (var_sort z) (f ∙ names-here z x xs e))
-    go false e h = (
+    by_test false e h = (
       λ f. ap raised_var (h.0 f) ∙ sym (names-there z x xs e),
       λ f. h.1 (raised-one (deep xs y) (names xs z) (f ∙ names-there z x xs e)),
     )
@@ -160,16 +160,16 @@ free-walked (value_meets s a p) xs y =
 -- each once has what the list has
 among-once : (xs : List Var) (y : Var) → is_among y (each_once xs) ≡ is_among y xs
 among-once [] y = refl
-among-once (x ∷ xs) y = go (same_var y x) refl
+among-once (x ∷ xs) y = by_test (same_var y x) refl
     ∙ ap (λ b. same_var y x || b) (among-once xs y)
   where
     rest : (k : Var) → same_var y k ≡ true → not (same_var k x) ≡ not (same_var y x)
     rest k e = ap (λ z. not (same_var z x)) (sym (same_var-is y k e))
 
-    go : (b : Bool) → same_var y x ≡ b
+    by_test : (b : Bool) → same_var y x ≡ b
         → (b || is_among y (without x (each_once xs))) ≡ (b || is_among y (each_once xs))
-    go true e = refl
-    go false e =
+    by_test true e = refl
+    by_test false e =
         any-filter_same (same_var y) (λ k. not (same_var k x)) (not (same_var y x)) rest
         (each_once xs) ∙ ap (λ c. not c && is_among y (each_once xs)) e
 
@@ -189,38 +189,38 @@ filter-apart : (test : Var → Bool) (x : Var) (xs : List Var)
     → AllByRecursion (λ y. same_var x y ≡ false) xs
     → AllByRecursion (λ y. same_var x y ≡ false) (filter test xs)
 filter-apart test x [] h = h
-filter-apart test x (y ∷ ys) h = go (test y) (filter-apart test x ys h.1)
+filter-apart test x (y ∷ ys) h = by_test (test y) (filter-apart test x ys h.1)
   where
-    go : (b : Bool) → AllByRecursion (λ y. same_var x y ≡ false) (filter test ys)
+    by_test : (b : Bool) → AllByRecursion (λ y. same_var x y ≡ false) (filter test ys)
         → AllByRecursion (λ y. same_var x y ≡ false)
         (cond b (y ∷ filter test ys) (filter test ys))
-    go true f = (h.0, f)
-    go false f = f
+    by_test true f = (h.0, f)
+    by_test false f = f
 
 filter-distinct : (test : Var → Bool) (xs : List Var) → IsDistinct same_var xs
     → IsDistinct same_var (filter test xs)
 filter-distinct test [] h = h
 filter-distinct test (x ∷ xs) h =
-    go (test x) (filter-distinct test xs (IsDistinct-tail same_var x xs h))
+    by_test (test x) (filter-distinct test xs (IsDistinct-tail same_var x xs h))
   where
-    go : (b : Bool) → IsDistinct same_var (filter test xs)
+    by_test : (b : Bool) → IsDistinct same_var (filter test xs)
         → IsDistinct same_var (cond b (x ∷ filter test xs) (filter test xs))
-    go true f =
+    by_test true f =
         IsDistinct-cons same_var x (filter test xs)
         (filter-apart test x xs (IsDistinct-head same_var x xs h)) f
-    go false f = f
+    by_test false f = f
 
 without-apart : (x : Var) (xs : List Var)
     → AllByRecursion (λ y. same_var x y ≡ false) (without x xs)
 without-apart x [] = tt
-without-apart x (y ∷ ys) = go (same_var y x) refl (without-apart x ys)
+without-apart x (y ∷ ys) = by_test (same_var y x) refl (without-apart x ys)
   where
-    go : (b : Bool) → same_var y x ≡ b
+    by_test : (b : Bool) → same_var y x ≡ b
         → AllByRecursion (λ y. same_var x y ≡ false) (without x ys)
         → AllByRecursion (λ y. same_var x y ≡ false)
         (cond (not b) (y ∷ without x ys) (without x ys))
-    go true e f = f
-    go false e f = (flipped (same_var x y) refl, f)
+    by_test true e f = f
+    by_test false e f = (flipped (same_var x y) refl, f)
       where
         flipped : (c : Bool) → same_var x y ≡ c → c ≡ false
         flipped true h =

@@ -17,23 +17,25 @@ filter-fail : (f : Var → Bool) (x : Var) (xs : List Var) → f x ≡ false
     → filter f (x ∷ xs) ≡ filter f xs
 filter-fail f x xs e = ap (λ b. cond b (x ∷ filter f xs) (filter f xs)) e
 
-filters-turned : (f g : Var → Bool) (xs : List Var) → filter f (filter g xs) ≡ filter g (filter f xs)
+filters-turned : (f g : Var → Bool) (xs : List Var) → filter f (filter g xs)
+    ≡ filter g (filter f xs)
 filters-turned f g [] = refl
-filters-turned f g (x ∷ xs) = go (f x) (g x) refl refl (filters-turned f g xs)
+filters-turned f g (x ∷ xs) = by_test (f x) (g x) refl refl (filters-turned f g xs)
   where
-    go : (b c : Bool) → f x ≡ b → g x ≡ c → filter f (filter g xs) ≡ filter g (filter f xs)
+    by_test : (b c : Bool) → f x ≡ b → g x ≡ c → filter f (filter g xs) ≡ filter g (filter f xs)
         → filter f (cond c (x ∷ filter g xs) (filter g xs))
         ≡ filter g (cond b (x ∷ filter f xs) (filter f xs))
-    go true true d e h =
-        filter-pass f x (filter g xs) d ∙ ap (λ ys. x ∷ ys) h ∙ sym (filter-pass g x (filter f xs) e)
-    go true false d e h = h ∙ sym (filter-fail g x (filter f xs) e)
-    go false true d e h = filter-fail f x (filter g xs) d ∙ h
-    go false false d e h = h
+    by_test true true d e h =
+        filter-pass f x (filter g xs) d ∙ ap (λ ys. x ∷ ys) h
+        ∙ sym (filter-pass g x (filter f xs) e)
+    by_test true false d e h = h ∙ sym (filter-fail g x (filter f xs) e)
+    by_test false true d e h = filter-fail f x (filter g xs) d ∙ h
+    by_test false false d e h = h
 
 -- a filter leaves each once of what it leaves
 filter-once : (f : Var → Bool) (xs : List Var) → each_once (filter f xs) ≡ filter f (each_once xs)
 filter-once f [] = refl
-filter-once f (x ∷ xs) = go (f x) refl (filter-once f xs)
+filter-once f (x ∷ xs) = by_test (f x) refl (filter-once f xs)
   where
     dropped_first : (y : Var) (ys : List Var) (b : Bool) → same_var y x ≡ b → f x ≡ false
         → filter f ys ≡ filter f (without x ys)
@@ -46,13 +48,13 @@ filter-once f (x ∷ xs) = go (f x) refl (filter-once f xs)
     dropped e [] = refl
     dropped e (y ∷ ys) = dropped_first y ys (same_var y x) refl e (dropped e ys)
 
-    go : (b : Bool) → f x ≡ b → each_once (filter f xs) ≡ filter f (each_once xs)
+    by_test : (b : Bool) → f x ≡ b → each_once (filter f xs) ≡ filter f (each_once xs)
         → each_once (cond b (x ∷ filter f xs) (filter f xs))
         ≡ cond b (x ∷ filter f (without x (each_once xs))) (filter f (without x (each_once xs)))
-    go true e h =
+    by_test true e h =
         ap (λ ys. x ∷ ys) (ap (without x) h
         ∙ filters-turned (λ y. not (same_var y x)) f (each_once xs))
-    go false e h = h ∙ dropped e (each_once xs)
+    by_test false e h = h ∙ dropped e (each_once xs)
 
 -- those that weren't found yet
 abbrev rest : List Var → List Var → List Var
@@ -60,13 +62,14 @@ rest found xs = filter (λ y. not (is_among y found)) xs
 
 rest-one : (found xs : List Var) (x : Var) → rest (found ++ x ∷ []) xs ≡ without x (rest found xs)
 rest-one found [] x = refl
-rest-one found (y ∷ ys) x = go (is_among y found) (same_var y x) refl refl (rest-one found ys x)
+rest-one found (y ∷ ys) x = by_test (is_among y found) (same_var y x) refl refl
+    (rest-one found ys x)
   where
-    go : (b c : Bool) → is_among y found ≡ b → same_var y x ≡ c
+    by_test : (b c : Bool) → is_among y found ≡ b → same_var y x ≡ c
         → rest (found ++ x ∷ []) ys ≡ without x (rest found ys)
         → rest (found ++ x ∷ []) (y ∷ ys)
         ≡ without x (cond (not b) (y ∷ rest found ys) (rest found ys))
-    go b c d e h =
+    by_test b c d e h =
         ap (λ a. cond (not a) (y ∷ rest (found ++ x ∷ []) ys) (rest (found ++ x ∷ []) ys))
         (list_any-append (same_var y) found (x ∷ []) ∙ (λ i. d i || (e i || false)))
         ∙ step b c e h
@@ -85,13 +88,13 @@ rest-one found (y ∷ ys) x = go (is_among y found) (same_var y x) refl refl (re
 
 each-rest : (xs found : List Var) → with_each found xs ≡ found ++ each_once (rest found xs)
 each-rest [] found = sym (append-nil found)
-each-rest (x ∷ xs) found = go (is_among x found) (each-rest xs)
+each-rest (x ∷ xs) found = by_test (is_among x found) (each-rest xs)
   where
-    go : (b : Bool) → ((ys : List Var) → with_each ys xs ≡ ys ++ each_once (rest ys xs))
+    by_test : (b : Bool) → ((ys : List Var) → with_each ys xs ≡ ys ++ each_once (rest ys xs))
         → with_each (cond b found (found ++ x ∷ [])) xs
         ≡ found ++ each_once (cond (not b) (x ∷ rest found xs) (rest found xs))
-    go true h = h found
-    go false h =
+    by_test true h = h found
+    by_test false h =
         h (found ++ x ∷ []) ∙ append_assoc found (x ∷ []) (each_once (rest (found ++ x ∷ []) xs))
         ∙ ap (λ zs. found ++ x ∷ zs) (ap each_once (rest-one found xs x)
         ∙ filter-once (λ y. not (same_var y x)) (rest found xs))

@@ -40,25 +40,25 @@ outside-none (x ∷ xs) = outside-none xs
 -- a variable that one of the binders binds
 pub outside-bound : (x : Var) (xs : List Var) → is_among x xs ≡ true → outside xs (x ∷ []) ≡ []
 outside-bound x [] e = false≢true e
-outside-bound x (y ∷ ys) e = go (same_var x y) e (outside-bound x ys)
+outside-bound x (y ∷ ys) e = by_test (same_var x y) e (outside-bound x ys)
   where
-    go : (b : Bool) → (b || is_among x ys) ≡ true
+    by_test : (b : Bool) → (b || is_among x ys) ≡ true
         → (is_among x ys ≡ true → outside ys (x ∷ []) ≡ [])
         → outside ys (cond (not b) (x ∷ []) []) ≡ []
-    go true e f = outside-none ys
-    go false e f = f e
+    by_test true e f = outside-none ys
+    by_test false e f = f e
 
 -- and one that none of them does
 pub outside-free : (x : Var) (xs : List Var) → is_among x xs ≡ false
     → outside xs (x ∷ []) ≡ x ∷ []
 outside-free x [] e = refl
-outside-free x (y ∷ ys) e = go (same_var x y) e (outside-free x ys)
+outside-free x (y ∷ ys) e = by_test (same_var x y) e (outside-free x ys)
   where
-    go : (b : Bool) → (b || is_among x ys) ≡ false
+    by_test : (b : Bool) → (b || is_among x ys) ≡ false
         → (is_among x ys ≡ false → outside ys (x ∷ []) ≡ x ∷ [])
         → outside ys (cond (not b) (x ∷ []) []) ≡ x ∷ []
-    go true e f = false≢true (sym e)
-    go false e f = f e
+    by_test true e f = false≢true (sym e)
+    by_test false e f = f e
 
 -- a variable before a part
 pub first-in-order : (found xs zs : List Var) (x : Var)

@@ -35,11 +35,11 @@ limit-reach pairs (s.Renamed' x y p outer) a =
 
 -- different variables fail the test
 apart-not : (u v : Var) → (u ≡ v → ⊥) → same_var u v ≡ false
-apart-not u v f = go (same_var u v) refl
+apart-not u v f = by_test (same_var u v) refl
   where
-    go : (b : Bool) → same_var u v ≡ b → b ≡ false
-    go true e = absurd (f (same_var-is u v e))
-    go false e = refl
+    by_test : (b : Bool) → same_var u v ≡ b → b ≡ false
+    by_test true e = absurd (f (same_var-is u v e))
+    by_test false e = refl
 
 longer-not : (u v : Var) → name_length u < name_length v → same_var u v ≡ false
 longer-not u v h = apart-not u v (λ e. let q : name_length u ≡ name_length v = ap name_length e in
@@ -60,32 +60,32 @@ became-kept : (pairs : List (Var × Term)) (s : Scopes) → Apart pairs s → (z
     → name_length z ≤ limit s → became s z ≡ Some w → IsKeptOrLonger s z w
 became-kept pairs (s.Outermost longest) a z w h e = absurd (cc)
 became-kept pairs (s.Kept' x p outer) a z w h e =
-    go (same_var z (logic_var_of x.now)) refl e (became-kept pairs outer a.2 z w h)
+    by_test (same_var z (logic_var_of x.now)) refl e (became-kept pairs outer a.2 z w h)
   where
-    go : (b : Bool) → same_var z (logic_var_of x.now) ≡ b
+    by_test : (b : Bool) → same_var z (logic_var_of x.now) ≡ b
         → cond b (Some (logic_var_of x.now)) (became outer z) ≡ Some w
         → (became outer z ≡ Some w → IsKeptOrLonger outer z w)
         → IsKeptOrLonger (s.Kept' x p outer) z w
-    go true d e f =
+    by_test true d e f =
         let q : w ≡ z = sym (some-is (logic_var_of x.now) w e)
         ∙ sym (same_var-is z (logic_var_of x.now) d) in
         let l : name_length w ≡ name_length z = ap name_length q in
         let r : limit outer ≤ reach outer = limit-reach pairs outer a.2 in
         (omega arith, inl q)
-    go false d e f = f e
+    by_test false d e f = f e
 became-kept pairs (s.Renamed' x y p outer) a z w h e =
-    go (same_var z (logic_var_of x.now)) e (became-kept pairs outer a.2 z w h)
+    by_test (same_var z (logic_var_of x.now)) e (became-kept pairs outer a.2 z w h)
   where
-    go : (b : Bool)
+    by_test : (b : Bool)
         → cond b (Some (logic_var_of y.now)) (became outer z) ≡ Some w
         → (became outer z ≡ Some w → IsKeptOrLonger outer z w)
         → IsKeptOrLonger (s.Renamed' x y p outer) z w
-    go true e f =
+    by_test true e f =
         let l : name_length (logic_var_of y.now) ≡ name_length w =
         ap name_length (some-is (logic_var_of y.now) w e) in
         let r : limit outer ≤ reach outer = limit-reach pairs outer a.2 in
         (omega arith, inr (omega (arith, a.0)))
-    go false e f = (omega (arith, a.0, (f e).0), (f e).1)
+    by_test false e f = (omega (arith, a.0, (f e).0), (f e).1)
 
 -- a variable further out, under one more binder
 under-raised : (f : Substitution) (z : Var) → under_binder f (raised_var z) ≡ raised (f z)
@@ -123,7 +123,7 @@ became-stands : (pairs : List (Var × Term)) (s : Scopes) → Apart pairs s → 
     → StandsFor (before s) (after s) f z w
 became-stands pairs (s.Outermost longest) a z w h e f = absurd (cc)
 became-stands pairs (s.Kept' x p outer) a z w h e f =
-    go (same_var z (logic_var_of x.now)) refl e
+    by_test (same_var z (logic_var_of x.now)) refl e
     (λ q. became-stands pairs outer a.2 z w h q f)
   where
     other : same_var z (logic_var_of x.now) ≡ false → became outer z ≡ Some w
@@ -132,19 +132,19 @@ became-stands pairs (s.Kept' x p outer) a z w h e f =
         (λ k. shorter-not w (logic_var_of x.now) (omega (arith, a.0, k)))
         (became-kept pairs outer a.2 z w h q).1
 
-    go : (b : Bool) → same_var z (logic_var_of x.now) ≡ b
+    by_test : (b : Bool) → same_var z (logic_var_of x.now) ≡ b
         → cond b (Some (logic_var_of x.now)) (became outer z) ≡ Some w
         → (became outer z ≡ Some w → StandsFor (before outer) (after outer) f z w)
         → StandsFor (before (s.Kept' x p outer)) (after (s.Kept' x p outer)) f z w
-    go true d e g =
+    by_test true d e g =
         subst (StandsFor (before (s.Kept' x p outer)) (after (s.Kept' x p outer)) f z)
         (some-is (logic_var_of x.now) w e)
         (nearest (before outer) (after outer) f (logic_var_of x.now) (logic_var_of x.now) z d refl)
-    go false d e g =
+    by_test false d e g =
         further (before outer) (after outer) f (logic_var_of x.now) (logic_var_of x.now) z w d
         (other d e) (g e)
 became-stands pairs (s.Renamed' x y p outer) a z w h e f =
-    go (same_var z (logic_var_of x.now)) refl e
+    by_test (same_var z (logic_var_of x.now)) refl e
     (λ q. became-stands pairs outer a.2 z w h q f)
   where
     other : became outer z ≡ Some w → same_var w (logic_var_of y.now) ≡ false
@@ -152,15 +152,15 @@ became-stands pairs (s.Renamed' x y p outer) a z w h e f =
         longer-not w (logic_var_of y.now)
         (omega (arith, a.0, (became-kept pairs outer a.2 z w h q).0))
 
-    go : (b : Bool) → same_var z (logic_var_of x.now) ≡ b
+    by_test : (b : Bool) → same_var z (logic_var_of x.now) ≡ b
         → cond b (Some (logic_var_of y.now)) (became outer z) ≡ Some w
         → (became outer z ≡ Some w → StandsFor (before outer) (after outer) f z w)
         → StandsFor (before (s.Renamed' x y p outer)) (after (s.Renamed' x y p outer)) f z w
-    go true d e g =
+    by_test true d e g =
         subst (StandsFor (before (s.Renamed' x y p outer)) (after (s.Renamed' x y p outer)) f z)
         (some-is (logic_var_of y.now) w e)
         (nearest (before outer) (after outer) f (logic_var_of x.now) (logic_var_of y.now) z d a.1)
-    go false d e g =
+    by_test false d e g =
         further (before outer) (after outer) f (logic_var_of x.now) (logic_var_of y.now) z w d
         (other e) (g e)
 
@@ -182,29 +182,29 @@ not-became : (pairs : List (Var × Term)) (s : Scopes) → Apart pairs s → (z 
     → raised_var z ≡ z → name_length z ≤ limit s → became s z ≡ None → Unbound s z
 not-became pairs (s.Outermost longest) a z r h e = (refl, refl)
 not-became pairs (s.Kept' x p outer) a z r h e =
-    go (same_var z (logic_var_of x.now)) refl e (not-became pairs outer a.2 z r h)
+    by_test (same_var z (logic_var_of x.now)) refl e (not-became pairs outer a.2 z r h)
   where
-    go : (b : Bool) → same_var z (logic_var_of x.now) ≡ b
+    by_test : (b : Bool) → same_var z (logic_var_of x.now) ≡ b
         → cond b (Some (logic_var_of x.now)) (became outer z) ≡ None
         → (became outer z ≡ None → Unbound outer z) → Unbound (s.Kept' x p outer) z
-    go true d e f = absurd (cc)
-    go false d e f = (
+    by_test true d e f = absurd (cc)
+    by_test false d e f = (
       outside-names (before outer) (logic_var_of x.now) z r d (f e).0,
       outside-names (after outer) (logic_var_of x.now) z r d (f e).1,
     )
 not-became pairs (s.Renamed' x y p outer) a z r h e =
-    go (same_var z (logic_var_of x.now)) refl e (not-became pairs outer a.2 z r h)
+    by_test (same_var z (logic_var_of x.now)) refl e (not-became pairs outer a.2 z r h)
   where
     other : same_var z (logic_var_of y.now) ≡ false
     other =
         let l : limit outer ≤ reach outer = limit-reach pairs outer a.2 in
         longer-not z (logic_var_of y.now) (omega (arith, a.0))
 
-    go : (b : Bool) → same_var z (logic_var_of x.now) ≡ b
+    by_test : (b : Bool) → same_var z (logic_var_of x.now) ≡ b
         → cond b (Some (logic_var_of y.now)) (became outer z) ≡ None
         → (became outer z ≡ None → Unbound outer z) → Unbound (s.Renamed' x y p outer) z
-    go true d e f = absurd (cc)
-    go false d e f = (
+    by_test true d e f = absurd (cc)
+    by_test false d e f = (
       outside-names (before outer) (logic_var_of x.now) z r d (f e).0,
       outside-names (after outer) (logic_var_of y.now) z r other (f e).1,
     )
@@ -238,12 +238,12 @@ two-short x a b f g e = ⊎_elim (λ h. omega (arith, f h)) (λ h. omega (arith,
 among-short : (x : Var) (t : Term) → is_among x (term_variables t) ≡ true
     → name_length x ≤ longest_in t
 among-short x (literal v) e = false≢true e
-among-short x (variable y) e = go (same_var x y) refl e
+among-short x (variable y) e = by_test (same_var x y) refl e
   where
-    go : (b : Bool) → same_var x y ≡ b → (b || false) ≡ true → name_length x ≤ name_length y
-    go true d e = let q : name_length x ≡ name_length y = ap name_length (same_var-is x y d) in
+    by_test : (b : Bool) → same_var x y ≡ b → (b || false) ≡ true → name_length x ≤ name_length y
+    by_test true d e = let q : name_length x ≡ name_length y = ap name_length (same_var-is x y d) in
         omega arith
-    go false d e = false≢true e
+    by_test false d e = false≢true e
 among-short x (sum a b) e = two-short x a b (among-short x a) (among-short x b) e
 among-short x (difference a b) e = two-short x a b (among-short x a) (among-short x b) e
 among-short x (appended a b) e = two-short x a b (among-short x a) (among-short x b) e
@@ -307,7 +307,8 @@ plain-term ys (t.Int a) h = refl
 plain-term ys (t.Str a) h = refl
 plain-term ys (t.Bool a) h = refl
 plain-term ys (t.Prog x) h =
-    ap variable (h (var_of x) refl (or-left (same_var (var_of x) (var_of x)) false (same_var-refl (var_of x))))
+    ap variable (h (var_of x) refl (or-left (same_var (var_of x) (var_of x)) false
+    (same_var-refl (var_of x))))
 plain-term ys (t.Logic x) h =
     ap variable (h (logic_var_of x) refl
     (or-left (same_var (logic_var_of x) (logic_var_of x)) false (same_var-refl (logic_var_of x))))
@@ -326,7 +327,7 @@ put-plain : (ys : List Var) (pairs : List Pair)
     ≡ replacing_each (map pair_of pairs) v
 put-plain ys [] h v e = ap variable e
 put-plain ys (pair ∷ pairs) h v e =
-    go (same_var v (pair_of pair).0) refl
+    by_test (same_var v (pair_of pair).0) refl
     (put-plain ys pairs
     (λ u r d. h u r (or-right (is_among u (term_variables (term_of pair.term)))
     (is_put u (map pair_of pairs)) d)) v e)
@@ -337,17 +338,17 @@ put-plain ys (pair ∷ pairs) h v e =
     after_it : Substitution
     after_it = replacing_each (map pair_of pairs)
 
-    go : (b : Bool) → same_var v (pair_of pair).0 ≡ b
+    by_test : (b : Bool) → same_var v (pair_of pair).0 ≡ b
         → term_with (naming ys) (after_it v) ≡ after_it v
         → term_with (naming ys) (whole v) ≡ whole v
-    go true d f =
+    by_test true d f =
         let q : whole v ≡ term_of pair.term =
         replaced-here (pair_of pair).0 v (term_of pair.term) (after_it v) d in
         ap (term_with (naming ys)) q
         ∙ plain-term ys pair.term (λ u r k. h u r
         (or-left (is_among u (term_variables (term_of pair.term)))
         (is_put u (map pair_of pairs)) k)) ∙ sym q
-    go false d f =
+    by_test false d f =
         let q : whole v ≡ after_it v =
         replaced-there (pair_of pair).0 v (term_of pair.term) (after_it v) d in
         ap (term_with (naming ys)) q ∙ f ∙ sym q

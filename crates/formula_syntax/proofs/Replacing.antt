@@ -74,35 +74,35 @@ below-kept n xs f h e =
 -- the pair has the variable, or it doesn't
 pub replaced-here : (x y : Var) (a b : Term) → same_var y x ≡ true
     → replaced_or {x = x} {y = y} a b (var_eq y x) ≡ a
-replaced-here x y a b e = go (var_eq y x)
+replaced-here x y a b e = by_decision (var_eq y x)
   where
-    go : (d : Dec (y ≡ x)) → replaced_or {x = x} {y = y} a b d ≡ a
-    go (yes q) = refl
-    go (no n) = absurd (n (same_var-is y x e))
+    by_decision : (d : Dec (y ≡ x)) → replaced_or {x = x} {y = y} a b d ≡ a
+    by_decision (yes q) = refl
+    by_decision (no n) = absurd (n (same_var-is y x e))
 
 pub replaced-there : (x y : Var) (a b : Term) → same_var y x ≡ false
     → replaced_or {x = x} {y = y} a b (var_eq y x) ≡ b
-replaced-there x y a b e = go (var_eq y x)
+replaced-there x y a b e = by_decision (var_eq y x)
   where
-    go : (d : Dec (y ≡ x)) → replaced_or {x = x} {y = y} a b d ≡ b
-    go (yes q) = false≢true (sym e ∙ ap (same_var y) (sym q) ∙ same_var-refl y)
-    go (no n) = refl
+    by_decision : (d : Dec (y ≡ x)) → replaced_or {x = x} {y = y} a b d ≡ b
+    by_decision (yes q) = false≢true (sym e ∙ ap (same_var y) (sym q) ∙ same_var-refl y)
+    by_decision (no n) = refl
 
 pub one-here : (x y : Var) (a : Term) → same_var y x ≡ true
     → replacing_at {x = x} {y = y} a (var_eq y x) ≡ a
-one-here x y a e = go (var_eq y x)
+one-here x y a e = by_decision (var_eq y x)
   where
-    go : (d : Dec (y ≡ x)) → replacing_at {x = x} {y = y} a d ≡ a
-    go (yes q) = refl
-    go (no n) = absurd (n (same_var-is y x e))
+    by_decision : (d : Dec (y ≡ x)) → replacing_at {x = x} {y = y} a d ≡ a
+    by_decision (yes q) = refl
+    by_decision (no n) = absurd (n (same_var-is y x e))
 
 pub one-there : (x y : Var) (a : Term) → same_var y x ≡ false
     → replacing_at {x = x} {y = y} a (var_eq y x) ≡ variable y
-one-there x y a e = go (var_eq y x)
+one-there x y a e = by_decision (var_eq y x)
   where
-    go : (d : Dec (y ≡ x)) → replacing_at {x = x} {y = y} a d ≡ variable y
-    go (yes q) = false≢true (sym e ∙ ap (same_var y) (sym q) ∙ same_var-refl y)
-    go (no n) = refl
+    by_decision : (d : Dec (y ≡ x)) → replacing_at {x = x} {y = y} a d ≡ variable y
+    by_decision (yes q) = false≢true (sym e ∙ ap (same_var y) (sym q) ∙ same_var-refl y)
+    by_decision (no n) = refl
 
 -- below no binder a term is as it is written
 pub term-plain : (a : Term) → term_with (naming []) a ≡ a

@@ -30,8 +30,8 @@ pub data SpellsOperator : (Term → Term → Term) → List Lexeme → Type 0 wh
   minus_sign : SpellsOperator difference (one (codes "-"))
   append_sign : SpellsOperator appended (one (codes "++"))
 
--- E = NAME | STR | NUM | "-" NUM | "null" | "nolist" | "yes" | "no" | "{" E ("+" | "-" | "++") E "}"
--- The number behind "-" isn't 0: `-1` is `negsuc 0`.
+-- E = NAME | STR | NUM | "-" NUM | "null" | "nolist" | "yes" | "no" | "{" E ("+" | "-" | "++") E
+-- "}" The number behind "-" isn't 0: `-1` is `negsuc 0`.
 pub data SpellsTerm (declared : List ProgVar) : Term → List Lexeme → Type 0 where
   variable_name : (w : List ℕ)
       → SpellsTerm declared (variable (prog w (sort_among declared w))) (name_lexeme w ∷ [])
@@ -39,7 +39,8 @@ pub data SpellsTerm (declared : List ProgVar) : Term → List Lexeme → Type 0 
   number_literal : (n : ℕ) → n ≤ standard_limits.integer
       → SpellsTerm declared (literal (int (pos n))) (number_lexeme n ∷ [])
   negative_literal : (n : ℕ) → suc n ≤ standard_limits.integer
-      → SpellsTerm declared (literal (int (negsuc n))) (terminal (codes "-") ∷ (number_lexeme (suc n) ∷ []))
+      → SpellsTerm declared (literal (int (negsuc n)))
+      (terminal (codes "-") ∷ (number_lexeme (suc n) ∷ []))
   null_word : SpellsTerm declared (literal null) (one (codes "null"))
   nolist_word : SpellsTerm declared (literal nolist) (one (codes "nolist"))
   yes_word : SpellsTerm declared (literal (boolean true)) (one (codes "yes"))
@@ -59,13 +60,15 @@ pub data SpellsFormula (declared : List ProgVar) : Named → List Lexeme → Typ
       → SpellsFormula declared (conjunction p q)
       (terminal (codes "(") ∷ (s ++ (terminal (codes "and") ∷ (t ++ one (codes ")")))))
 
--- DOM1 = "createNode" | "nodeName": what is asked of the document, the answer to stand in a variable
+-- DOM1 = "createNode" | "nodeName": what is asked of the document, the answer to stand in a
+-- variable
 pub data SpellsQuery : (ProgVar → Term → Command) → List Lexeme → Type 0 where
   create_word : SpellsQuery create_node (one (codes "createNode"))
   name_word : SpellsQuery node_name (one (codes "nodeName"))
 
 -- E | DOM1 "(" E ")": what is set, behind the variable and its sign
-pub data SpellsSetting (declared : List ProgVar) (x : ProgVar) : Command → List Lexeme → Type 0 where
+pub data SpellsSetting (declared : List ProgVar) (x : ProgVar) : Command → List Lexeme
+    → Type 0 where
   to_value : {a : Term} {s : List Lexeme} → SpellsTerm declared a s
       → SpellsSetting declared x (assign x a) s
   to_answer : {q : ProgVar → Term → Command} {a : Term} {s t : List Lexeme}

@@ -1,7 +1,7 @@
 -- The theories of the first form, a part of the language of PODS 2008: programs that assign, create
--- nodes and read their names, at the sort of groves, whose proofs go by the rules skip, assign and
--- seq, without logic variables. Their terms are then literals, program variables, sums, differences
--- and joined texts.
+-- nodes and read their names, at the sort of groves, whose proofs by_cases by the rules skip,
+-- assign and seq, without logic variables. Their terms are then literals, program variables, sums,
+-- differences and joined texts.
 use Rattle.std.specs.Prelude.{Bool, true, false, ◌&&◌, List, [], ◌∷◌, bytes_eq, codes}
 use Rattle.std.specs.List.{list_all, list_any}
 use Rattle.model_shapes.specs.Tests.{same_data_sort}

@@ -12,13 +12,15 @@ use Rattle.model_text.specs.Lexemes.{Lexeme, terminal, step_word, name_lexeme, n
 use Rattle.model_grammar.specs.Expressions.{one, SpellsTerm, SpellsFormula, SpellsCommand}
 
 -- A ("," A)*, where A spells one item
-pub data Listed {A : Type 0} (Spells : A → List Lexeme → Type 0) : List A → List Lexeme → Type 0 where
+pub data Listed {A : Type 0} (Spells : A → List Lexeme → Type 0) : List A → List Lexeme
+    → Type 0 where
   last_item : {x : A} {s : List Lexeme} → Spells x s → Listed Spells (x ∷ []) s
   more_items : {x : A} {xs : List A} {s t : List Lexeme} → Spells x s → Listed Spells xs t
       → Listed Spells (x ∷ xs) (s ++ (terminal (codes ",") ∷ t))
 
 -- "(" (A ("," A)*)? ")"
-pub data Bracketed {A : Type 0} (Spells : A → List Lexeme → Type 0) : List A → List Lexeme → Type 0 where
+pub data Bracketed {A : Type 0} (Spells : A → List Lexeme → Type 0) : List A → List Lexeme
+    → Type 0 where
   no_item : Bracketed Spells [] (terminal (codes "(") ∷ one (codes ")"))
   some_items : {xs : List A} {s : List Lexeme} → Listed Spells xs s
       → Bracketed Spells xs (terminal (codes "(") ∷ (s ++ one (codes ")")))

@@ -1,6 +1,6 @@
-//! The definitions of what is found in a grove and changed in it, of its sizes and of the numbers that
-//! a new node may have, with no Rust data. Promises that they say what is meant: their laws are
-//! functions here, each with an empty body. Stands on model_shapes.
+//! The definitions of what is found in a grove and changed in it, of its sizes and of the numbers
+//! that a new node may have, with no Rust data. Promises that they say what is meant: their laws
+//! are functions here, each with an empty body. Stands on model_shapes.
 #![tactic(auto)]
 
 ghost use Rattle.std.specs.Prelude.{◌≡◌, ◌≤◌, ℕ, true};

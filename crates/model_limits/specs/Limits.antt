@@ -1,5 +1,5 @@
--- The limits of the language: one record, which every definition and every contract cites. The meaning
--- of formulas and programs has none of them; they bound files, documents and runs.
+-- The limits of the language: one record, which every definition and every contract cites. The
+-- meaning of formulas and programs has none of them; they bound files, documents and runs.
 use Rattle.std.specs.Prelude.{ℕ, ℤ, pos, negsuc}
 
 -- the counted quantities: those of texts and files, and from nodes on those of runs

@@ -1,5 +1,5 @@
--- Needn't be believed: what a shelf is to its callers, the library in memory, which tells every book
--- and every count. The program reads from none.
+-- Needn't be believed: what a shelf is to its callers, the library in memory, which tells every
+-- book and every count. The program reads from none.
 use Rattle.std.specs.Prelude.{◌≡◌, ◌⊎◌, ℕ, ◌-◌, min, Bool, List, ◌++◌, length, take, drop}
 use Rattle.std.specs.Prelude.{Option, Some, None, bytes_eq, find, Contains}
 use Rattle.outside_io.specs.Causes.{next_count}

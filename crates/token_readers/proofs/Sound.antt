@@ -255,7 +255,8 @@ module _ {X A : Type 0} (n k : ℕ) (nk : k ≤ suc n) (f : Lexeme → Option X)
     begins_found (t ∷ ts) a rest e =
         elim (option_cases (f t)) [
           | inr y ↦
-              let g = (S1 t y.0 y.1).found ts a rest (sym (begins_yes f r other t ts y.0 y.1) ∙ e) in
+              let g = (S1 t y.0 y.1).found ts a rest (sym (begins_yes f r other t ts y.0 y.1) ∙ e)
+              in
               (t ∷ g.0, ap (λ (z : List Lexeme). t ∷ z) g.1, g.2)
           | inl q ↦ S2.found (t ∷ ts) a rest (sym (begins_no f r other t ts q) ∙ e)
         ]
@@ -318,7 +319,8 @@ module _ {X A : Type 0} (n k : ℕ) (nk : k ≤ suc n) (f : Lexeme → Option X)
     begins_ends [] lt e = S2.ends [] lt e
     begins_ends (t ∷ ts) lt e =
         elim (option_cases (f t)) [
-          | inr y ↦ (S1 t y.0 y.1).ends ts (omega arith) (sym (begins_yes f r other t ts y.0 y.1) ∙ e)
+          | inr y ↦ (S1 t y.0 y.1).ends ts (omega arith)
+              (sym (begins_yes f r other t ts y.0 y.1) ∙ e)
           | inl q ↦ S2.ends (t ∷ ts) lt (sym (begins_no f r other t ts q) ∙ e)
         ]
 

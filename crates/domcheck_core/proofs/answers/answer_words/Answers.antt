@@ -12,6 +12,8 @@ returns-in-Ok-Run-clause-answer g c =
 pub returns-in_ok-reported-in-Err-BadWords-clause-answer :
     goal.returns-in_ok-reported-in-Err-BadWords-clause-answer
 returns-in_ok-reported-in-Err-BadWords-clause-answer g c =
-    rw (rw c.in-Err-BadWords.field-0-is at c.in-Err-BadWords.ensures,
-    c.in_ok-reported-in-Err-BadWords.ensures.status,
-    c.in_ok-reported-in-Err-BadWords.ensures.output) bad_words
+    rw (
+      rw c.in-Err-BadWords.field-0-is at c.in-Err-BadWords.ensures,
+      c.in_ok-reported-in-Err-BadWords.ensures.status,
+      c.in_ok-reported-in-Err-BadWords.ensures.output,
+    ) bad_words

@@ -5,7 +5,8 @@ use Rattle.first_form.proofs.scopes.declared_sort.Given as goal
 
 abbrev pub invariant-variables : goal.invariant-variables
 invariant-variables l =
-    declared_sort (map prog_var_of l.variables) l.name ≡ declared_sort (map prog_var_of l.rest) l.name
+    declared_sort (map prog_var_of l.variables) l.name ≡ declared_sort (map prog_var_of l.rest)
+    l.name
 
 abbrev pub decreases-variables : goal.decreases-variables
 decreases-variables l = length l.rest

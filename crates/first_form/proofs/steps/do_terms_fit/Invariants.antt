@@ -6,8 +6,10 @@ use Rattle.first_form.proofs.steps.do_terms_fit.Given as goal
 
 abbrev pub invariant-arguments : goal.invariant-arguments
 invariant-arguments l =
-    list_all (does_argument_fit (map prog_var_of l.params) (map prog_var_of l.results)) (map term_of l.arguments)
-    ≡ list_all (does_argument_fit (map prog_var_of l.params) (map prog_var_of l.results)) (map term_of l.rest)
+    list_all (does_argument_fit (map prog_var_of l.params) (map prog_var_of l.results))
+    (map term_of l.arguments)
+    ≡ list_all (does_argument_fit (map prog_var_of l.params) (map prog_var_of l.results))
+    (map term_of l.rest)
 
 abbrev pub decreases-arguments : goal.decreases-arguments
 decreases-arguments l = length l.rest

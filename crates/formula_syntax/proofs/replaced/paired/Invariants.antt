@@ -6,7 +6,8 @@ use Rattle.formula_syntax.proofs.replaced.paired.Given as goal
 -- the pairs that are left decide
 abbrev pub invariant-pairs : goal.invariant-pairs
 invariant-pairs l = record {
-  same : replacing_each (map pair_of l.pairs) (var_named l.name) ≡ replacing_each (map pair_of l.rest) (var_named l.name);
+  same : replacing_each (map pair_of l.pairs) (var_named l.name)
+      ≡ replacing_each (map pair_of l.rest) (var_named l.name);
 }
 
 abbrev pub decreases-pairs : goal.decreases-pairs
