@@ -2,7 +2,7 @@
 use Rattle.std.specs.Prelude.{ℕ, zero, suc, nat_le, ◌==◌, List, [], ◌∷◌, length, Option, Some, None, cond, option_map, bytes_eq, codes, pos, negsuc, true, false}
 use Rattle.std.specs.List.{find}
 use Rattle.model_shapes.specs.Sorts.{ValueSort, node_sort, list_sort, int_sort, str_sort, bool_sort}
-use Rattle.model_shapes.specs.Values.{Value, null, nolist, node_number, list_number, int, str, boolean}
+use Rattle.model_shapes.specs.Values.{Name, Text, Value, null, nolist, node_number, list_number, int, str, boolean}
 use Rattle.model_formulas.specs.Formulas.{Named}
 use Rattle.model_terms.specs.Stores.{ProgVar, sort_of}
 use Rattle.model_commands.specs.Theories.{ProcedureOf, Theory}
@@ -26,7 +26,7 @@ positive_of named (Some zero) = None
 positive_of named (Some (suc n)) = Some (named (suc n))
 
 -- such a number behind its mark
-abbrev pub marked : ℕ → (ℕ → Value) → List ℕ → Option Value
+abbrev pub marked : ℕ → (ℕ → Value) → Text → Option Value
 marked mark named [] = None
 marked mark named (first ∷ digits) =
     cond (first == mark) (positive_of named (decimal_of standard_limits.identifier digits)) None
@@ -38,14 +38,14 @@ negative_of (Some zero) = None
 negative_of (Some (suc n)) = Some (int (negsuc n))
 
 -- an integer: a decimal, or `-` and a decimal that isn't 0
-abbrev pub integer_of : List ℕ → Option Value
+abbrev pub integer_of : Text → Option Value
 integer_of [] = None
 integer_of (first ∷ rest) =
     cond (first == minus) (negative_of (decimal_of standard_limits.integer rest))
     (option_map (λ n. int (pos n)) (decimal_of standard_limits.integer (first ∷ rest)))
 
 -- AN ARGUMENT: the value that a word reads as at a sort
-abbrev pub argument_of : ValueSort → List ℕ → Option Value
+abbrev pub argument_of : ValueSort → Text → Option Value
 argument_of node_sort word =
     cond (bytes_eq word (codes "null")) (Some null) (marked number_sign node_number word)
 argument_of list_sort word =
@@ -69,7 +69,7 @@ arguments_of (x ∷ xs) (word ∷ words) =
 arguments_of xs words = None
 
 -- the first procedure of the name
-abbrev pub procedure_called : List ℕ → List (ProcedureOf Named) → Option (ProcedureOf Named)
+abbrev pub procedure_called : Name → List (ProcedureOf Named) → Option (ProcedureOf Named)
 procedure_called name procedures = find (λ f. bytes_eq name f.name) procedures
 
 -- a procedure with values for its parameters
@@ -80,5 +80,5 @@ with_arguments (Some f) words = option_map (λ values. (f, values)) (arguments_o
 
 -- WHAT IS RUN: a procedure of the theory, with the values of the arguments; nothing where it isn't
 -- in the file, where the number of arguments differs, or where one doesn't read at its sort
-abbrev pub called : Theory → List ℕ → List (List ℕ) → Option (ProcedureOf Named × List Value)
+abbrev pub called : Theory → Name → List (List ℕ) → Option (ProcedureOf Named × List Value)
 called theory name words = with_arguments (procedure_called name theory.procedures) words

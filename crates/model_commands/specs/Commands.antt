@@ -1,6 +1,7 @@
 -- Commands: those of PODS 2008, named as in DOM Level 1 Core, with blocks, choice, loops, local
 -- variables and calls; and the variables that a command changes.
-use Rattle.std.specs.Prelude.{◌≡◌, ◌≢◌, ◌⊎◌, ℕ, List, [], ◌∷◌}
+use Rattle.std.specs.Prelude.{◌≡◌, ◌≢◌, ◌⊎◌, List, [], ◌∷◌}
+use Rattle.model_shapes.specs.Values.{Name}
 use Rattle.model_terms.specs.Terms.{Term}
 use Rattle.model_terms.specs.Stores.{ProgVar}
 use Rattle.model_terms.specs.Conditions.{Cond}
@@ -17,7 +18,7 @@ mutual
     while_do : Cond → Block → Command
     local : ProgVar → Block → Command
     -- the variables that take the results, the procedure's name, and the arguments
-    call : List ProgVar → List ℕ → List Term → Command
+    call : List ProgVar → Name → List Term → Command
 
   pub data Block : Type 0 where
     stop : Block

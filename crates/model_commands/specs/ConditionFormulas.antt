@@ -1,4 +1,5 @@
--- The formula of a condition, as the rules for choice and loops take it.
+-- Needn't be believed yet: no promise speaks of it. The formula of a condition, as the rules for
+-- choice and loops take it.
 use Rattle.std.specs.Prelude.{true}
 use Rattle.model_shapes.specs.Values.{boolean}
 use Rattle.model_terms.specs.Terms.{literal, variable}

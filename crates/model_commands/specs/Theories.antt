@@ -1,6 +1,7 @@
 -- Judgements, steps of proofs, procedures and theories, as a file spells them: the language's own.
 -- With the names of bound variables they are as written; without, as the meaning takes them.
 use Rattle.std.specs.Prelude.{ℕ, List, [], ◌∷◌, cond, Option, Some, None, bytes_eq, map}
+use Rattle.model_shapes.specs.Values.{Name}
 use Rattle.model_shapes.specs.Sorts.{DataSort, Sort}
 use Rattle.model_terms.specs.Variables.{Var}
 use Rattle.model_terms.specs.Terms.{Term}
@@ -19,7 +20,7 @@ pub data JudgementOf (F : Type 0) : Type 0 where
 -- it cites, and its arguments
 pub data Reason : Type 0 where
   auto : Reason
-  by_rule : List ℕ → List ℕ → List Term → Reason
+  by_rule : Name → List ℕ → List Term → Reason
 
 -- a step of a proof: its number, the line on which it begins, its reason and its judgement
 pub record StepOf (F : Type 0) : Type 0 where
@@ -30,7 +31,7 @@ pub record StepOf (F : Type 0) : Type 0 where
 
 -- a procedure: its requires and ensures, its body, and the proof of the triple of these
 pub record ProcedureOf (F : Type 0) : Type 0 where
-  pub name : List ℕ
+  pub name : Name
   pub params : List ProgVar
   pub results : List ProgVar
   pub sort : DataSort
@@ -101,7 +102,7 @@ abbrev pub procedures_of : Theory → Procedures
 procedures_of theory = map nameless_procedure theory.procedures
 
 -- the first procedure of the name
-abbrev pub procedure_named : List ℕ → Procedures → Option Procedure
+abbrev pub procedure_named : Name → Procedures → Option Procedure
 procedure_named name [] = None
 procedure_named name (p ∷ procedures) =
     cond (bytes_eq name p.name) (Some p) (procedure_named name procedures)

@@ -2,6 +2,7 @@
 -- 2008 as this language writes them. A number of a node or a list is any number that a token can
 -- be.
 use Rattle.std.specs.Prelude.{ℕ, List, [], ◌∷◌, ◌++◌, codes}
+use Rattle.model_shapes.specs.Values.{Name}
 use Rattle.model_shapes.specs.Trees.{Trees, none, node, beside}
 use Rattle.model_text.specs.Lexemes.{Lexeme, terminal, number_lexeme, literal_lexeme}
 
@@ -12,7 +13,7 @@ one text = terminal text ∷ []
 mutual
   -- tree = STR "#" NUM "[" forest "]" "%" NUM
   pub data SpellsTree : Trees → List Lexeme → Type 0 where
-    tree : (name : List ℕ) (number list : ℕ) {kids : Trees} {s : List Lexeme}
+    tree : (name : Name) (number list : ℕ) {kids : Trees} {s : List Lexeme}
         → SpellsForest kids s → SpellsTree (node name number kids list none)
         (literal_lexeme name ∷ (terminal (codes "#") ∷ (number_lexeme number
         ∷ (terminal (codes "[") ∷ (s ++ (terminal (codes "]") ∷ (terminal (codes "%")

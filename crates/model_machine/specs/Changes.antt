@@ -1,5 +1,6 @@
--- The changes of a run: which of its steps make, move or remove a node, with the numbers that say
--- which. They follow DOM Level 1 Core in what appendChild and removeChild do.
+-- Needn't be believed yet: no promise speaks of it. The changes of a run: which of its steps make,
+-- move or remove a node, with the numbers that say which. They follow DOM Level 1 Core in what
+-- appendChild and removeChild do.
 use Rattle.std.specs.Prelude.{ℕ, zero, suc, List, [], ◌∷◌, Option, Some, None}
 use Rattle.model_shapes.specs.Values.{Value, node_number}
 use Rattle.model_shapes.specs.Trees.{Trees}

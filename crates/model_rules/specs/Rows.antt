@@ -1,7 +1,8 @@
 -- The rows of the rules that are checked today: skip, assignment and sequence, the rules of Hoare's
 -- logic as PODS 2008 has them. A row has the name of its rule, the arguments, the premises and the
 -- conclusion. Formulas stand without the names of bound variables: they are compared up to these.
-use Rattle.std.specs.Prelude.{ℕ, List, [], ◌∷◌, codes, IsTrue}
+use Rattle.std.specs.Prelude.{List, [], ◌∷◌, codes, IsTrue}
+use Rattle.model_shapes.specs.Values.{Name}
 use Rattle.model_shapes.specs.Sorts.{DataSort}
 use Rattle.model_terms.specs.Terms.{Term}
 use Rattle.model_formulas.specs.Formulas.{Formula}
@@ -24,7 +25,7 @@ pub data Chain (d : DataSort) : List Judgement → Formula → Block → Formula
 -- One case for each rule. What a case asks of a letter, as the sort of the term that is assigned,
 -- says for which letters the rule stands. It is no condition that a step may fail to meet: in a
 -- well-formed theory each assignment has such a term.
-pub data Row : List ℕ → List Term → List Judgement → Judgement → Type 0 where
+pub data Row : Name → List Term → List Judgement → Judgement → Type 0 where
   -- skip: {P} skip {P}
   skip_row : (p : Formula) (d : DataSort) → Row (codes "skip") [] [] (triple p skip p d)
   -- assign: {Q with E for x} x := E {Q}; E is a term of the sort of x, without logic variables

@@ -1,15 +1,15 @@
 -- Program variables, stores, and the values of terms in a store, after PODS 2008.
 -- Integers have no bounds here, and a variable that was never set has its sort's default.
-use Rattle.std.specs.Prelude.{◌≡◌, ℕ, ◌++◌, List, [], ℤ, pos, ◌+ℤ◌, ◌-ℤ◌, Bool, false, cond}
+use Rattle.std.specs.Prelude.{◌≡◌, ◌++◌, [], ℤ, pos, ◌+ℤ◌, ◌-ℤ◌, Bool, false, cond}
 use Rattle.model_shapes.specs.Sorts.{ValueSort, node_sort, list_sort, int_sort, str_sort, bool_sort}
-use Rattle.model_shapes.specs.Values.{Value, null, nolist, int, str, boolean, FitsValue}
+use Rattle.model_shapes.specs.Values.{Name, Text, Value, null, nolist, int, str, boolean, FitsValue}
 use Rattle.model_terms.specs.VariableTests.{same_var}
 use Rattle.model_terms.specs.Variables.{Var, prog, logic, bound}
 use Rattle.model_terms.specs.Terms.{Term, literal, variable, sum, difference, appended}
 
 -- a program variable: its name and its sort
 pub data ProgVar : Type 0 where
-  named : List ℕ → ValueSort → ProgVar
+  named : Name → ValueSort → ProgVar
 
 -- as a variable of formulas
 abbrev pub as_var : ProgVar → Var
@@ -48,7 +48,7 @@ set x v (holding y w store) =
     cond (same_name x y) (holding y v store) (holding y w (set x v store))
 
 -- the store as a function of name and sort
-abbrev pub lookup : Store → List ℕ → ValueSort → Value
+abbrev pub lookup : Store → Name → ValueSort → Value
 lookup store name s = value_in store (named name s)
 
 -- each variable has a value of its sort
@@ -61,7 +61,7 @@ int_in (int z) = z
 int_in v = pos 0
 
 -- the text that a value is, and the empty text where it is none
-abbrev pub text_in : Value → List ℕ
+abbrev pub text_in : Value → Text
 text_in (str s) = s
 text_in v = []
 
