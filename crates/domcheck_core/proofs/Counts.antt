@@ -1,5 +1,5 @@
 -- There are few tokens: at most one more than there are bytes.
-use Rattle.std.proofs.Common.{◌≡◌, ℕ, zero, suc, ◌+◌, ◌≤◌, Bool, true, false, List, [], ◌∷◌, length, arith, if◌then◌else◌, ◌==◌, refl}
+use Rattle.std.proofs.Common.{ℕ, zero, suc, ◌+◌, ◌≤◌, Bool, true, false, List, [], ◌∷◌, length, arith, if◌then◌else◌, ◌==◌}
 use Rattle.model_text.specs.Tokens.{Token, Piece, gap_piece, token_piece, no_piece, piece_at, tokens_with, tokens_from, tokens_of, characters, place_of, bad_token_at}
 use Rattle.std.proofs.Common.{drop, ◌<◌}
 use Rattle.std.proofs.lemmas.List.{length-map}

@@ -1,5 +1,5 @@
 -- What follows from the contract of the top call: when a check says yes, no and that it can't read.
-use Rattle.std.proofs.Common.{◌≡◌, ◌⊎◌, inl, inr, ℕ, List, Some, refl, sym, subst}
+use Rattle.std.proofs.Common.{◌≡◌, ◌⊎◌, inl, inr, ℕ, List, Some, refl, subst}
 use Rattle.model_commands.specs.Theories.{Theory}
 use Rattle.model_rules.specs.Accepted.{IsAccepted}
 use Rattle.model_grammar.specs.Files.{SpellsFile}

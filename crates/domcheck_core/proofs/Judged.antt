@@ -1,18 +1,15 @@
 -- What follows from an answer: the clauses of the calls.
-use Rattle.std.proofs.Common.{◌≡◌, ◌⊎◌, inl, inr, ℕ, ◌<◌, Bool, true, false, List, Option, Some, None, refl, sym, ◌∙◌, subst, arith, length, Result, Ok, Err, IfOk}
+use Rattle.std.proofs.Common.{◌≡◌, inl, ℕ, ◌<◌, true, List, Option, Some, None, refl, sym, subst, arith, length, Result, Ok, Err, IfOk}
 use Rattle.outside_io.specs.Causes.{Told}
-use Rattle.model_commands.specs.Theories.{Theory}
-use Rattle.model_rules.specs.Accepted.{IsAccepted}
 use Rattle.model_rules.proofs.Sound.{accepted_hold}
-use Rattle.model_grammar.specs.Files.{SpellsFile}
 use Rattle.model_limits.specs.Limits.{standard_limits}
 use Rattle.model_answers.specs.Words.{Request, check, run}
-use Rattle.model_answers.specs.Documents.{SpellsDocument}
-use Rattle.domcheck_core.specs.Answers.{Books, Unreadable, NoDocument, CheckAnswer, says_yes, says_no, reads_nothing, DocumentAnswer, IsCalled, NotCalled, RunAnswer, file_unread, not_called, is_called, IsAnswer, bad_words, checked, ran, IsToldBook, IsTold}
-use Rattle.domcheck_core.specs.Books.{ReadFrom, IsReply}
-use Rattle.domcheck_core.specs.Clauses.{OfFile, IsProved, ExactlyWhere, GivesUp, BadWordsExactly, IsAnswered}
-use Rattle.domcheck_core.proofs.OneAnswer.{not_both, not_both_called, told_of, one_answer, Equal}
-use Rattle.domcheck_core.proofs.Statuses.{document_status, is_of_called}
+use Rattle.domcheck_core.specs.Answers.{Books, Unreadable, NoDocument, CheckAnswer, says_yes, says_no, reads_nothing, DocumentAnswer, IsCalled, NotCalled, RunAnswer, file_unread, not_called, is_called, IsAnswer, checked, ran, IsToldBook, IsTold}
+use Rattle.domcheck_core.specs.Books.{IsReply}
+use Rattle.domcheck_core.specs.Clauses.{OfFile, IsProved, ExactlyWhere, BadWordsExactly, IsAnswered, Wrote}
+use Rattle.outside_io.specs.Pieces.{Took}
+use Rattle.domcheck_core.proofs.OneAnswer.{not_both_called, told_of, one_answer}
+use Rattle.domcheck_core.proofs.Statuses.{document_status, is_of_called, speaks, reply_speaks}
 use Rattle.domcheck_core.specs.declared.status.Status.{Status}
 use Rattle.domcheck_core.specs.declared.status.Status.TheVariants as status
 
@@ -77,6 +74,28 @@ module _ (books : Books) where
       → (t : Status) (other : List ℕ) → IsAnswer books r t other → s ≡ t
   same_answer r s output a t other b =
       (one_answer books r s output t other (answer r s output a (told_of books r t other b)) b).0
+
+  -- what the sink took is all of the output of the answer
+  pub wrote : (r : Option Request) (s : Status) (output : List ℕ) → IsReply r books s output
+      → (before after : Option (List ℕ)) → Took before after output
+      → Wrote r books s before after
+  wrote r s output a before after took = by_status s (reply_speaks r books s output a)
+      (λ told. (output, answer r s output a told, took))
+    where
+      by_status : (t : Status) → speaks t ≡ true
+          → (IsTold r books → (o : List ℕ) × IsAnswer books r t o × Took before after o)
+          → Wrote r books t before after
+      by_status status.Done e h = h
+      by_status status.StepFails e h = h
+      by_status status.BadWords e h = h
+      by_status status.BadText e h = h
+      by_status status.BadDocument e h = h
+      by_status status.Faulted e h = h
+      by_status status.FuelSpent e h = h
+      by_status (status.Limit kind) e h = h
+      by_status status.OutOfMemory e h = absurd cc
+      by_status status.ReadFault e h = absurd cc
+      by_status status.WriteFault e h = absurd cc
 
   -- a fact of the told bytes of a file
   pub on_file : (r : Option Request) (s : Status) (output : List ℕ) (P : List ℕ → Type 0)

@@ -7,13 +7,13 @@ use Rattle.model_commands.specs.Theories.{ProcedureOf, Theory}
 use Rattle.model_rules.specs.Accepted.{IsAccepted}
 use Rattle.model_grammar.specs.Files.{SpellsFile}
 use Rattle.model_text.specs.Nesting.{lexemes_of}
-use Rattle.model_answers.specs.Words.{Request, check, run}
+use Rattle.model_answers.specs.Words.{Request}
 use Rattle.model_answers.specs.Arguments.{called}
 use Rattle.model_answers.specs.Documents.{SpellsDocument}
 use Rattle.model_answers.specs.Output.{accepted_line}
 use Rattle.proof_text.proofs.Exact.{one_theory}
 use Rattle.logic_text.proofs.Exact.{at_most_one}
-use Rattle.domcheck_core.specs.Answers.{Books, Answer, CheckAnswer, says_yes, says_no, reads_nothing, grove_answer, NoDocument, DocumentAnswer, document_unread, document_read, IsCalled, NotCalled, RunAnswer, file_unread, not_called, is_called, IsAnswer, bad_words, checked, ran, IsToldBook, IsTold}
+use Rattle.domcheck_core.specs.Answers.{Books, Answer, CheckAnswer, says_yes, says_no, reads_nothing, grove_answer, DocumentAnswer, document_unread, document_read, IsCalled, NotCalled, RunAnswer, file_unread, not_called, is_called, IsAnswer, bad_words, checked, ran, IsToldBook, IsTold}
 use Rattle.domcheck_core.specs.declared.status.Status.{Status}
 
 -- a file spells at most one theory, and a document one grove

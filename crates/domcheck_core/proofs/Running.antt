@@ -8,7 +8,7 @@ use Rattle.dom_syntax.specs.declared.theories.Procedure.{Procedure}
 use Rattle.dom_syntax.specs.declared.theories.Theory.{Theory}
 use Rattle.dom_terms.specs.Values.{value_seen}
 use Rattle.model_grammar.specs.Files.{SpellsFile}
-use Rattle.domcheck_core.specs.Answers.{Unreadable, DocumentAnswer, IsCalled, NotCalled, RunAnswer, file_unread, not_called, is_called}
+use Rattle.domcheck_core.specs.Answers.{Unreadable, DocumentAnswer, IsCalled, RunAnswer, file_unread, not_called, is_called}
 use Rattle.domcheck_core.specs.Books.{ReadFrom}
 use Rattle.domcheck_core.specs.Calls.{FitsCall, IsCallOf, CallAnswer}
 use Rattle.domcheck_core.specs.declared.calls.Call.{Call}

@@ -1,5 +1,5 @@
 -- The theories that are read are small: no formula has more parts than lexemes.
-use Rattle.std.proofs.Common.{◌≡◌, ℕ, ◌≤◌, ◌<◌, List, [], ◌∷◌, ◌++◌, length, arith, length-append, codes}
+use Rattle.std.proofs.Common.{◌≤◌, ◌<◌, List, ◌∷◌, ◌++◌, length, arith, length-append, codes}
 use Rattle.model_formulas.specs.Formulas.{Named}
 use Rattle.model_formulas.specs.Parts.{parts}
 use Rattle.model_terms.specs.Stores.{ProgVar}

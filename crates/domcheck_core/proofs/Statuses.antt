@@ -1,5 +1,5 @@
 -- The statuses that an answer has.
-use Rattle.std.proofs.Common.{◌≡◌, ℕ, Bool, true, false, List, Option, Some, None, refl, sym, subst, lit<, option_map}
+use Rattle.std.proofs.Common.{◌≡◌, ◌⊎◌, inl, inr, ℕ, Bool, true, false, List, Option, Some, None, refl, subst, lit<, option_map}
 use Rattle.std.specs.Prelude.{nat_le, Contains}
 use Rattle.model_shapes.specs.Trees.{Trees}
 use Rattle.model_shapes.specs.Values.{Value}
@@ -29,6 +29,26 @@ is_of_called status.OutOfMemory = false
 is_of_called status.ReadFault = false
 is_of_called status.WriteFault = false
 is_of_called s = true
+
+-- the status is one of a reply
+abbrev pub speaks : Status → Bool
+speaks status.OutOfMemory = false
+speaks status.ReadFault = false
+speaks status.WriteFault = false
+speaks s = true
+
+speaks_called : (s : Status) → is_of_called s ≡ true → speaks s ≡ true
+speaks_called status.Done e = refl
+speaks_called status.StepFails e = refl
+speaks_called status.BadWords e = refl
+speaks_called status.BadText e = refl
+speaks_called status.BadDocument e = refl
+speaks_called status.Faulted e = refl
+speaks_called status.FuelSpent e = refl
+speaks_called (status.Limit kind) e = refl
+speaks_called status.OutOfMemory e = e
+speaks_called status.ReadFault e = e
+speaks_called status.WriteFault e = e
 
 -- each answer there is has such a status
 abbrev AllOfCalled : Option Answer → Type 0
@@ -76,6 +96,38 @@ pub document_status : (theory : Theory) (f : ProcedureOf Named) (values : List V
 document_status theory f values fuel bytes s o (document_unread n) = refl
 document_status theory f values fuel bytes s o (document_read g a e) =
     subst AllOfCalled e (grove_of_called theory f values fuel g)
+
+-- A REPLY SPEAKS
+speaks_check : (bytes : List ℕ) (s : Status) (o : List ℕ) → CheckAnswer bytes s o
+    → speaks s ≡ true
+speaks_check bytes s o (says_yes t a x) = refl
+speaks_check bytes s o (says_no t a x) = refl
+speaks_check bytes s o (reads_nothing n) = refl
+
+speaks_run : (read : Option (List ℕ)) (bytes procedure : List ℕ) (fuel : ℕ)
+    (arguments : List (List ℕ)) (s : Status) (o : List ℕ)
+    → RunAnswer read bytes procedure fuel arguments s o → speaks s ≡ true
+speaks_run read bytes name fuel words s o (file_unread n) = refl
+speaks_run read bytes name fuel words s o (not_called n) = refl
+speaks_run read bytes name fuel words s o (is_called t f values d a e told answer) =
+    speaks_called s (document_status t f values fuel d s o answer)
+
+speaks_words : (books : Books) (s : Status) (o : List ℕ) → IsAnswer books None s o
+    → speaks s ≡ true
+speaks_words books s o bad_words = refl
+
+pub reply_speaks : (r : Option Request) (books : Books) (s : Status) (o : List ℕ)
+    → IsReply r books s o → speaks s ≡ true
+reply_speaks None books s o a = speaks_words books s o a
+reply_speaks (Some (check file)) books s o a = speaks_check a.0 s o a.1
+reply_speaks (Some (run file procedure document fuel arguments)) books s o a =
+    speaks_run (Some a.1.0) a.0 procedure fuel arguments s o a.1.1
+
+-- so it is no fault of the library or of the sink
+pub no_fault : (r : Option Request) (books : Books) (s : Status) (o : List ℕ)
+    → IsReply r books s o → (s ≡ status.ReadFault) ⊎ (s ≡ status.WriteFault) → ⊥
+no_fault r books s o a (inl e) = let q = reply_speaks r books s o a in cc
+no_fault r books s o a (inr e) = let q = reply_speaks r books s o a in cc
 
 -- WHAT IS POSSIBLE
 -- the place of the status in the list

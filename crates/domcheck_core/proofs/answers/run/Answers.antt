@@ -1,10 +1,10 @@
 use Rattle.std.proofs.lemmas.Result.{IfOk-weaker}
-use Rattle.domcheck_core.proofs.Running.{fits, replied, called_reply, calls_told}
+use Rattle.domcheck_core.proofs.Running.{fits, replied, called_reply}
 use Rattle.domcheck_core.proofs.answers.run.Goals as goal
 
 pub run_book-requires : goal.run_book-requires
 run_book-requires g c =
-    let opened = rw c.in-Called.is at c.in_ok-open_book.ensures.opened in
+    let opened = rw c.in-Called.is at c.in_ok-theory.ensures.opened in
     fits opened.0 c.args.procedure.now c.args.arguments.now c.in-Called.theory c.in-Called.call
     opened.1
 
@@ -12,11 +12,11 @@ pub returns-in-Called-clause-answer : goal.returns-in-Called-clause-answer
 returns-in-Called-clause-answer g c =
     IfOk-weaker c.run_book.result _ _
     (λ r h. called_reply _ c.args.procedure.now c.args.arguments.now c.args.fuel c.in-Called.theory
-    c.in-Called.call (rw c.in-Called.is at c.in_ok-open_book.ensures.opened) _ _
-    (c.in_ok-open_book.ensures.kept c.args.document.now) r.status r.output h)
+    c.in-Called.call (rw c.in-Called.is at c.in_ok-theory.ensures.opened) _ _
+    (c.in_ok-theory.ensures.kept c.args.document.now) r.status r.output h)
     c.run_book.ensures.answer
 
 pub returns-in-Answered-clause-answer : goal.returns-in-Answered-clause-answer
 returns-in-Answered-clause-answer g c =
     replied _ c.args.procedure.now c.args.arguments.now c.args.fuel _ _ _
-    (rw c.in-Answered.is at c.in_ok-open_book.ensures.opened)
+    (rw c.in-Answered.is at c.in_ok-theory.ensures.opened)

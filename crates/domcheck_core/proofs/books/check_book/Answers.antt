@@ -1,4 +1,3 @@
-use Rattle.std.proofs.Common.{ℕ, List}
 use Rattle.domcheck_core.specs.Answers.{CheckAnswer, reads_nothing}
 use Rattle.domcheck_core.proofs.Judged.{too_large}
 use Rattle.domcheck_core.proofs.Reading.{in_hand, weaker}

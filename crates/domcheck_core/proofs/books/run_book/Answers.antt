@@ -1,4 +1,3 @@
-use Rattle.std.proofs.Common.{ℕ, List}
 use Rattle.domcheck_core.specs.Answers.{document_unread}
 use Rattle.domcheck_core.specs.Calls.{CallAnswer}
 use Rattle.domcheck_core.proofs.Judged.{no_large_document}

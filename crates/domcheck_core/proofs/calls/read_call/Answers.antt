@@ -1,4 +1,4 @@
-use Rattle.std.proofs.Common.{◌≡◌, map}
+use Rattle.std.proofs.Common.{map}
 use Rattle.dom_terms.specs.Values.{value_seen}
 use Rattle.domcheck_core.proofs.Calling.{reads}
 use Rattle.domcheck_core.proofs.calls.read_call.Goals as goal

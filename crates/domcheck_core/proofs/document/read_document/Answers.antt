@@ -1,4 +1,4 @@
-use Rattle.std.proofs.Common.{◌≡◌, sym, subst, refl, List, true, false, arith}
+use Rattle.std.proofs.Common.{sym, subst, refl, List, true, false, arith}
 use Rattle.std.proofs.lemmas.Bool.{and_parts}
 use Rattle.model_text.specs.Lexemes.{Lexeme}
 use Rattle.model_documents.specs.Grammar.{SpellsGrove}

@@ -7,8 +7,8 @@ returns-in_default c =
     (rw c.in_default.is at c.in_ok-theory.ensures)
     c.in_ok-bad_text.ensures.status c.in_ok-bad_text.ensures.output
 
-pub returns-in-None : goal.returns-in-None
-returns-in-None c =
+pub returns-in_ok-reply-in-None : goal.returns-in_ok-reply-in-None
+returns-in_ok-reply-in-None c =
     uncalled c.args.file.now c.args.procedure.now c.args.arguments.now c.in-Some.theory _ _
     (rw c.in-Some.is at c.in_ok-theory.ensures) (rw c.in-None.is at c.in_ok-call.ensures)
-    c.in_ok-reply.ensures.status c.in_ok-reply.ensures.output
+    c.in_ok-reply-in-None.ensures.status c.in_ok-reply-in-None.ensures.output

@@ -6,14 +6,14 @@ use Rattle.domcheck_core.proofs.runs.run_bytes.Goals as goal
 
 pub run_document-requires : goal.run_document-requires
 run_document-requires c =
-    fits c.args.file.now c.args.procedure.now c.args.arguments.now c.in-Called.field-0
-    c.in-Called.field-1 (rw c.in-Called.is at c.in_ok-open_file.ensures)
+    fits c.args.file.now c.args.procedure.now c.args.arguments.now c.in-Called.theory
+    c.in-Called.call (rw c.in-Called.is at c.in_ok-theory.ensures)
 
 pub returns-in-Called-clause-answer : goal.returns-in-Called-clause-answer
 returns-in-Called-clause-answer c =
     IfOk-weaker c.run_document.result _ _
     (λ r h. reached c.args.file.now c.args.procedure.now c.args.arguments.now _ _
-    (rw c.in-Called.is at c.in_ok-open_file.ensures) c.args.fuel c.args.document.now
+    (rw c.in-Called.is at c.in_ok-theory.ensures) c.args.fuel c.args.document.now
     r.status r.output h) c.run_document.ensures
 
 pub returns-in-Called-clause-exactly : goal.returns-in-Called-clause-exactly
@@ -22,11 +22,11 @@ returns-in-Called-clause-exactly c = λ s output a.
     (λ r h. one_run _ c.args.file.now c.args.procedure.now c.args.fuel c.args.arguments.now
     r.status s r.output output
     (reached c.args.file.now c.args.procedure.now c.args.arguments.now _ _
-    (rw c.in-Called.is at c.in_ok-open_file.ensures) c.args.fuel c.args.document.now
+    (rw c.in-Called.is at c.in_ok-theory.ensures) c.args.fuel c.args.document.now
     r.status r.output h) a) c.run_document.ensures
 
 pub returns-in-Answered-clause-exactly : goal.returns-in-Answered-clause-exactly
 returns-in-Answered-clause-exactly c = λ s output a.
     one_run _ c.args.file.now c.args.procedure.now c.args.fuel c.args.arguments.now
-    c.in-Answered.field-0.status s c.in-Answered.field-0.output output
-    ((rw c.in-Answered.is at c.in_ok-open_file.ensures) (Some c.args.document.now) c.args.fuel) a
+    c.in-Answered.reply.status s c.in-Answered.reply.output output
+    ((rw c.in-Answered.is at c.in_ok-theory.ensures) (Some c.args.document.now) c.args.fuel) a

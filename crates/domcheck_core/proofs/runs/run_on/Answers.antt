@@ -1,4 +1,4 @@
-use Rattle.std.proofs.Common.{◌≡◌, ◌∙◌, ap, sym, map, Some}
+use Rattle.std.proofs.Common.{◌≡◌, ◌∙◌, ap, map, Some}
 use Rattle.std.proofs.lemmas.Bool.{and_parts}
 use Rattle.std.specs.List.{list_all}
 use Rattle.model_grammar.specs.FirstForm.{declares_none, is_first_procedure}
@@ -6,7 +6,7 @@ use Rattle.dom_terms.specs.Terms.{prog_var_of}
 use Rattle.dom_terms.specs.Values.{value_seen}
 use Rattle.dom_syntax.specs.declared.theories.Procedure.{Procedure}
 use Rattle.dom_syntax.specs.Theories.{procedure_of, theory_of}
-use Rattle.domcheck_core.proofs.Outcomes.{built_at, whole, ran, on_grove, refused}
+use Rattle.domcheck_core.proofs.Outcomes.{built_at, whole, ran, on_grove}
 use Rattle.domcheck_core.proofs.runs.run_on.Goals as goal
 
 pub run_plain-outcome-requires-clause-runnable : goal.run_plain-outcome-requires-clause-runnable
