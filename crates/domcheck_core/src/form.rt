@@ -3,10 +3,10 @@ ghost use Rattle.std.specs.Prelude.{◌↔◌, IsTrue, IfOk};
 ghost use Rattle.dom_syntax.specs.Theories.{theory_of};
 ghost use Rattle.model_grammar.specs.Files as files;
 
-use crate::limits::{count_steps, variables_within};
+use crate::limits::count_steps;
 use dom_syntax::Theory;
 use dom_terms::OutOfMemory;
-use first_form::is_of_first_form;
+use first_form::{is_of_first_form, variables_within};
 use std::alloc::Global;
 
 /// Whether the theory is of the form that is read: well formed, of the parts of the first form, and
@@ -15,8 +15,8 @@ pub fn is_of_form(alloc: Global, theory: &Theory) -> Result<bool, OutOfMemory>
     ensures { IfOk result (λ b. IsTrue b ↔ files.IsOfForm (theory_of theory.now)) }
 {
     let procedures = theory.procedures.as_slice();
-    if count_steps(procedures).is_none() || !variables_within(procedures) {
+    if count_steps(procedures).is_none() || !is_of_first_form(alloc, theory)? {
         return Ok(false);
     }
-    is_of_first_form(alloc, theory)
+    Ok(variables_within(theory))
 }

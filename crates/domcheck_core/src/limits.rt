@@ -13,9 +13,6 @@ use token_readers::is_this;
 /// The most bytes of a text.
 const MOST_TEXT: usize = 4096;
 
-/// The most variables of a procedure.
-const MOST_VARIABLES: usize = 64;
-
 /// The most steps of the proofs of a file.
 const MOST_STEPS: usize = 65_535;
 
@@ -94,21 +91,6 @@ pub fn are_within(tokens: &[Token], most_open: u32) -> bool
     ensures { result ≡ (nesting.nests_within most_open 0 (lexemes_in tokens.now) && nesting.texts_within (lexemes_in tokens.now)) }
 {
     nest_within(tokens, most_open) && texts_within(tokens)
-}
-
-/// Whether no procedure declares more variables than the most.
-pub fn variables_within(procedures: &[Procedure]) -> bool
-    ensures { result ≡ files.variables_within (map procedure_of procedures.now) }
-{
-    let mut rest = procedures;
-    'procedures: while let [first, others @ ..] = rest {
-        let (params, results) = (first.params.len(), first.results.len());
-        if params > MOST_VARIABLES || results > MOST_VARIABLES - params {
-            return false;
-        }
-        rest = others;
-    }
-    true
 }
 
 /// The number of steps of all proofs, or none where it passes the limit.

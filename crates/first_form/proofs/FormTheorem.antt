@@ -1,5 +1,5 @@
 -- The test of the whole theory says that it is well formed and of the first form.
-use Rattle.std.proofs.Common.{◌≡◌, ◌∙◌, sym, refl, ap, ℕ, ◌+◌, ◌==◌, true, not, ◌&&◌, ◌||◌, List, [], ◌∷◌, ◌++◌, map, None, is_none, bytes_eq, append-nil}
+use Rattle.std.proofs.Common.{◌≡◌, ◌∙◌, sym, refl, ap, ℕ, ◌+◌, ◌==◌, true, not, ◌&&◌, ◌||◌, List, [], ◌∷◌, ◌++◌, map, length, None, is_none, bytes_eq, append-nil, length-append}
 use Rattle.std.specs.List.{list_all, list_any}
 use Rattle.model_shapes.specs.Tests.{same_data_sort}
 use Rattle.model_shapes.specs.Sorts.{shape, grove}
@@ -277,3 +277,27 @@ is_fitting theory w e =
     let none : theory.logic ≡ [] = no-logic theory.logic b.0 in
     let p = none-procedures theory none [] 1 theory.procedures a.1 b.1 in
     λ j. (version j && b.0 j) && (p.0 j && p.1 j)
+
+-- LIMITS: a procedure of the first form declares its parameters and its results
+pub declared-count : (f : ProcedureOf Named) → is_first_procedure f ≡ true
+    → length (declared_by f) ≡ length f.params + length f.results
+declared-count f e =
+    let b = both_true (same_data_sort f.sort grove) _ e in
+    let c = both_true (is_first_formula f.pre) _ b.1 in
+    let d = both_true (is_first_formula f.post) _ c.1 in
+    let g = both_true (is_first_command f.body) _ d.1 in
+    ap length (declared-is f g.0) ∙ length-append f.params f.results
+
+pub first-and-rest : (f : ProcedureOf Named) (fs : List (ProcedureOf Named))
+    → list_all is_first_procedure (f ∷ fs) ≡ true
+    → (is_first_procedure f ≡ true) × (list_all is_first_procedure fs ≡ true)
+first-and-rest f fs e = both_true (is_first_procedure f) (list_all is_first_procedure fs) e
+
+pub form-procedures : (theory : Theory) → is_first_form theory ≡ true
+    → list_all is_first_procedure theory.procedures ≡ true
+form-procedures theory e =
+    (both_true (declares_none theory.logic) (list_all is_first_procedure theory.procedures) e).1
+
+pub ruleset limit_rules = (declared-count, first-and-rest)
+
+pub ruleset form_rules = (form-procedures)

@@ -5,9 +5,11 @@
 
 mod commands;
 mod formulas;
+mod limits;
 mod procedures;
 mod scopes;
 mod steps;
 mod terms;
 
+pub use limits::variables_within;
 pub use procedures::is_of_first_form;

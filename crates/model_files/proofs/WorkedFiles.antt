@@ -13,7 +13,7 @@ use Rattle.model_terms.specs.Conditions.{cond_equal, cond_true}
 use Rattle.model_commands.specs.Commands.{Command, skip, assign, child_nodes, list_item, if_else, while_do, local, call, stop, ◌then◌, Modifies}
 use Rattle.model_commands.specs.Theories.{Theory, ProcedureOf, StepOf, JudgementOf, entails, triple, Reason, auto, by_rule}
 use Rattle.model_files.specs.RuleNames.{entailment_rule_names, triple_rule_names}
-use Rattle.model_files.specs.FileFaults.{FileKind, version_kind, twice_kind, unknown_kind, sort_kind, constant_kind, results_kind, scope_kind, rule_kind, number_kind, FileFault, first_file_fault}
+use Rattle.model_files.specs.FileFaults.{FileKind, version_kind, twice_kind, unknown_kind, sort_kind, constant_kind, results_kind, scope_kind, rule_kind, number_kind, FileFault, declared_by, first_file_fault}
 
 -- variables, and their terms
 abbrev a : ProgVar
@@ -205,6 +205,10 @@ earlier : first_file_fault (theory 1 [] (plain [] [] skip
     (step 7 auto (entails truth truth (shape grove)) ∷ []) ∷ plain [] [] skip [] ∷ []))
     ≡ at 1 1 number_kind
 earlier = refl
+
+-- the local variables of a body count among those that a procedure declares
+counts_locals : length (declared_by (plain (a ∷ []) (x ∷ []) (local b (skip then stop)) [])) ≡ 3
+counts_locals = refl
 
 -- there are 120 rules of entailment, and 13 rules and 9 axioms for triples
 entailment_rules : length entailment_rule_names ≡ 120
