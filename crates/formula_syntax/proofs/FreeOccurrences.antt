@@ -1,5 +1,5 @@
 -- The variables in the list are those that stand free in the nameless form, and each is there once.
-use Rattle.std.proofs.Common.{◌≡◌, zero, refl, sym, ap, ◌∙◌, subst, Bool, true, false, not, cond, List, [], ◌∷◌, ◌++◌, ◌||◌, ◌&&◌, ◌⊎◌, ◌↔◌, IsTrue, inl, inr, ⊎_elim, arith}
+use Rattle.std.proofs.Common.{◌≡◌, zero, refl, sym, ap, ◌∙◌, Bool, true, false, not, cond, List, [], ◌∷◌, ◌++◌, ◌||◌, ◌&&◌, ◌⊎◌, ◌↔◌, IsTrue, inl, inr, ⊎_elim, arith}
 use Rattle.std.specs.List.{filter, IsDistinct, AllByRecursion}
 use Rattle.std.proofs.lemmas.List.Folds.{list_any-append}
 use Rattle.std.proofs.lemmas.Map.Keys.{IsDistinct-head, IsDistinct-tail, IsDistinct-cons, IsDistinct-from_apart}

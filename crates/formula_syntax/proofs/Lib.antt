@@ -6,3 +6,4 @@ pub mod FreeVariables
 pub mod FreeOccurrences
 pub mod RenamedBinders
 pub mod Places
+pub mod PutSorts

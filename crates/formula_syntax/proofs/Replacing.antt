@@ -1,5 +1,5 @@
 -- A variable below binders is bound by one of them, or its replacement stands there as it is.
-use Rattle.std.proofs.Common.{◌≡◌, ℕ, List, [], ◌∷◌, ◌<◌, suc, zero, refl, sym, ap, ◌∙◌, subst, true, false, length, arith, Decides}
+use Rattle.std.proofs.Common.{◌≡◌, ℕ, List, [], ◌∷◌, ◌<◌, suc, zero, refl, sym, ap, ◌∙◌, true, false, length, arith, Decides}
 use Rattle.model_shapes.specs.Sorts.{ValueSort, Sort}
 use Rattle.model_terms.specs.Variables.{Var, bound, logic, prog}
 use Rattle.model_terms.specs.Terms.{Term, literal, variable, sum, difference, appended, raised, term_with, Substitution}

@@ -1,4 +1,4 @@
-ghost use Rattle.std.specs.Prelude.{◌≡◌, ◌≤◌, IfOk, None, true, ◌∷◌, map};
+ghost use Rattle.std.specs.Prelude.{◌≡◌, ◌≤◌, IfOk, None, true, false, ◌∷◌, map};
 ghost use Rattle.model_terms.specs.Terms as terms;
 ghost use Rattle.model_formulas.specs.Nameless.{nameless, walked};
 ghost use Rattle.model_formulas.specs.Substitution.{formula_with};
@@ -7,7 +7,10 @@ ghost use Rattle.dom_terms.specs.Sorts.{sort_of};
 ghost use Rattle.dom_terms.specs.Terms.{logic_var_of, term_of};
 ghost use Rattle.formula_syntax.specs.Formulas.{formula_of, pair_of};
 ghost use Rattle.formula_syntax.specs.Structural.{is_structural};
-ghost use Rattle.formula_syntax.specs.Substitution.{replacing_each, var_named};
+ghost use Rattle.formula_syntax.specs.Substitution.{is_value, names_no_value, pairs_fit, replacing_each, var_named};
+ghost use Rattle.model_shapes.specs.Sorts.{Sort};
+ghost use Rattle.model_formulas.specs.Formulas.{Named};
+ghost use Rattle.model_formulas.specs.WellSorted.{first_fault};
 ghost use Rattle.formula_syntax.specs.Renaming as own;
 ghost use Rattle.formula_syntax.specs.Walks as walks;
 
@@ -15,7 +18,7 @@ use crate::formulas::Formula;
 use crate::renaming::{Scopes, became, is_put, longest_name, longest_put, renamed};
 use crate::replaced::{Name, paired};
 use crate::variables::Pair;
-use dom_terms::{Copied, LogicVar, OutOfMemory, Term, same_sort};
+use dom_terms::{Copied, LogicVar, OutOfMemory, Term};
 use std::alloc::Global;
 
 // what a walk down a formula carries along
@@ -30,10 +33,12 @@ struct Walk<'a> {
 /// Of two pairs with one variable the first counts. A binder keeps its variable, unless that stands
 /// in a term of a pair: then it gets a longer name of the same sort, so nothing is captured. The
 /// answer is right up to the names of bound variables, and has as many parts as the formula.
-/// OutOfMemory comes where memory is refused; and where no formula is the answer, since a variable
-/// that stands as a formula or in `is` would become a term of another sort or no logic variable.
+/// Each term fits its variable, and no variable of a value sort stands as a formula or in `is`; a
+/// well-sorted formula has none there.
 #[tactic(auto, using(crate::proofs::RenamedBinders::whole_rules))]
 pub fn substitute(alloc: Global, from: &Formula, pairs: &[Pair]) -> Result<Formula, OutOfMemory>
+    requires fit { pairs_fit (map pair_of pairs.now) ≡ true }
+    requires names { names_no_value (formula_of from.now) ≡ true }
     ensures replaced { IfOk result (λ to.
         formula_with (replacing_each (map pair_of pairs.now)) (nameless (formula_of from.now))
         ≡ nameless (formula_of to)) }
@@ -48,9 +53,17 @@ pub fn substitute(alloc: Global, from: &Formula, pairs: &[Pair]) -> Result<Formu
     substituted(from, &walk)
 }
 
+/// A well-sorted formula names no variable of a value sort as a formula, so it may be substituted.
+pub fn well_sorted_formulas_name_no_value()
+    ensures { (p : Named) (s : Sort) → first_fault p s ≡ None → names_no_value p ≡ true }
+{}
+
 // the formula with its free variables replaced and its binders renamed
 #[cycle(substituted)]
+#[tactic(auto, using(crate::proofs::PutSorts::part_rules))]
 fn substituted(formula: &Formula, walk: &Walk) -> Result<Formula, OutOfMemory>
+    requires fit { pairs_fit (map pair_of walk.now.pairs.now) ≡ true }
+    requires names { names_no_value (formula_of formula.now) ≡ true }
     requires apart { walks.IsApart walk.now }
     requires short { own.longest_name (formula_of formula.now) ≤ own.limit walk.now.scopes.now }
     ensures replaced { IfOk result
@@ -81,8 +94,11 @@ fn substituted(formula: &Formula, walk: &Walk) -> Result<Formula, OutOfMemory>
 
 // the same for a formula that speaks of data itself
 #[cycle(substituted)]
+#[tactic(auto, using(crate::proofs::PutSorts::part_rules))]
 fn structural(formula: &Formula, walk: &Walk) -> Result<Formula, OutOfMemory>
     requires structural { is_structural (formula_of formula.now) ≡ true }
+    requires fit { pairs_fit (map pair_of walk.now.pairs.now) ≡ true }
+    requires names { names_no_value (formula_of formula.now) ≡ true }
     requires apart { walks.IsApart walk.now }
     requires short { own.longest_name (formula_of formula.now) ≤ own.limit walk.now.scopes.now }
     ensures replaced { IfOk result
@@ -117,6 +133,8 @@ fn structural(formula: &Formula, walk: &Walk) -> Result<Formula, OutOfMemory>
 // the same, boxed
 #[cycle(substituted)]
 fn boxed(formula: &Formula, walk: &Walk) -> Result<Box<Formula>, OutOfMemory>
+    requires fit { pairs_fit (map pair_of walk.now.pairs.now) ≡ true }
+    requires names { names_no_value (formula_of formula.now) ≡ true }
     requires apart { walks.IsApart walk.now }
     requires short { own.longest_name (formula_of formula.now) ≤ own.limit walk.now.scopes.now }
     ensures replaced { IfOk result
@@ -136,6 +154,8 @@ fn quantified(
     inner: &Formula,
     walk: &Walk,
 ) -> Result<(LogicVar, Box<Formula>), OutOfMemory>
+    requires fit { pairs_fit (map pair_of walk.now.pairs.now) ≡ true }
+    requires names { names_no_value (formula_of inner.now) ≡ true }
     requires apart { walks.IsApart walk.now }
     requires named { own.name_length (logic_var_of variable.now) ≤ own.limit walk.now.scopes.now }
     requires short { own.longest_name (formula_of inner.now) ≤ own.limit walk.now.scopes.now }
@@ -165,8 +185,10 @@ fn quantified(
     Ok((new, inner))
 }
 
-// the logic variable that stands for the variable, where one does
+// the logic variable that stands for the variable, which is of no value sort
 fn variable_put(variable: &LogicVar, walk: &Walk) -> Result<LogicVar, OutOfMemory>
+    requires fit { pairs_fit (map pair_of walk.now.pairs.now) ≡ true }
+    requires sort { is_value (sort_of variable.now.sort) ≡ false }
     requires apart { walks.IsApart walk.now }
     requires short { own.name_length (logic_var_of variable.now) ≤ own.limit walk.now.scopes.now }
     ensures sort { IfOk result (λ new. sort_of new.sort ≡ sort_of variable.now.sort) }
@@ -174,8 +196,8 @@ fn variable_put(variable: &LogicVar, walk: &Walk) -> Result<LogicVar, OutOfMemor
         (terms.variable (logic_var_of variable.now)) (terms.variable (logic_var_of new))) }
 {
     match logic_put(variable, walk)? {
-        Term::Logic(new) if same_sort(new.sort, variable.sort) => Ok(new),
-        _ => Err(OutOfMemory),
+        Term::Logic(new) => Ok(new),
+        _ => unreachable!(),
     }
 }
 
