@@ -87,7 +87,8 @@ fitting-place : (s : Sort) → is_value s ≡ false → (x : Var) (t : Term) →
     → may_replace x t ≡ true → has_place s t ≡ true
 fitting-place s n (prog x u) t e m = false≢true (sym n ∙ ap is_value (sym e))
 fitting-place s n (logic x (value u)) t e m = false≢true (sym n ∙ ap is_value (sym e))
-fitting-place s n (logic x (shape k)) t e m = subst (λ z. has_place z t ≡ true) e (at-place (shape k) t m)
+fitting-place s n (logic x (shape k)) t e m =
+    subst (λ z. has_place z t ≡ true) e (at-place (shape k) t m)
 fitting-place s n (logic x (context h k)) t e m =
     subst (λ z. has_place z t ≡ true) e (at-place (context h k) t m)
 fitting-place s n (bound i u) t e m = false≢true m
