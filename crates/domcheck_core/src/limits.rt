@@ -11,15 +11,6 @@ use dom_terms::limits::{PROOF_STEPS, TEXT_BYTES};
 use text_tokens::Token;
 use token_readers::is_this;
 
-<<<<<<< HEAD
-=======
-/// The most bytes of a text.
-const MOST_TEXT: usize = 4096;
-
-/// The most steps of the proofs of a file.
-const MOST_STEPS: usize = 65_535;
-
->>>>>>> f10582fe559fd17c285c9e681f5c963c5d513239
 // Whether the token is an opening bracket.
 fn opens(token: &Token) -> bool
     ensures { result ≡ nesting.opens (seen token.now) }

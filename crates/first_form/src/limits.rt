@@ -8,13 +8,7 @@ ghost use Rattle.model_files.specs.FileLimits as files;
 ghost use Rattle.model_grammar.specs.FirstForm as form;
 
 use dom_syntax::{Procedure, Theory};
-<<<<<<< HEAD
 use dom_terms::limits::VARIABLES;
-=======
-
-/// The most variables of a procedure.
-const MOST_VARIABLES: usize = 64;
->>>>>>> f10582fe559fd17c285c9e681f5c963c5d513239
 
 // Whether the procedure declares no more variables than the most: its body declares none.
 #[tactic(auto, using(crate::proofs::FormTheorem::limit_rules))]
@@ -24,11 +18,7 @@ fn declares_few(procedure: &Procedure) -> bool
         standard_limits.variables }
 {
     let (params, results) = (procedure.params.len(), procedure.results.len());
-<<<<<<< HEAD
     params <= VARIABLES && results <= VARIABLES - params
-=======
-    params <= MOST_VARIABLES && results <= MOST_VARIABLES - params
->>>>>>> f10582fe559fd17c285c9e681f5c963c5d513239
 }
 
 // Whether none declares more.
@@ -47,13 +37,8 @@ fn declare_few(procedures: &[Procedure]) -> bool
     true
 }
 
-<<<<<<< HEAD
 /// Whether no procedure of the theory declares more variables than the most. A body of the first
 /// form declares none, so parameters and results are counted.
-=======
-/// Whether no procedure of the theory declares more variables than the most. A body of the first
-/// form declares none, so parameters and results are counted.
->>>>>>> f10582fe559fd17c285c9e681f5c963c5d513239
 #[tactic(auto, using(crate::proofs::FormTheorem::form_rules))]
 pub fn variables_within(theory: &Theory) -> bool
     requires form { IsTrue (form.is_first_form (theory_of theory.now)) }

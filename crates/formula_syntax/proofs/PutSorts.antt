@@ -186,7 +186,6 @@ no-value (context_adjoint k p q) s e =
     two _ (flags p (context (outer s) k)) (flags q (shape k)) _ _
     (no-value p (context (outer s) k)) (no-value q (shape k)) e
 no-value (same_as a) s e =
-<<<<<<< HEAD
     let h = and_parts (is_form s) (variable_at s a)
     (and_parts (is_form s && variable_at s a) true e).0 in
     placed s a h.0 h.1
@@ -194,15 +193,6 @@ no-value (length_is a) s e = refl
 no-value (value_meets u a p) s e =
     let f = and_parts (is_form s && (is_form u && variable_at u a)) (list_all (λ b. b) (flags p u))
     e in
-=======
-    let h = and_parts (is_form s) (variable_at s a)
-        (and_parts (is_form s && variable_at s a) true e).0 in
-    placed s a h.0 h.1
-no-value (length_is a) s e = refl
-no-value (value_meets u a p) s e =
-    let f = and_parts (is_form s && (is_form u && variable_at u a)) (list_all (λ b. b) (flags p u))
-        e in
->>>>>>> f10582fe559fd17c285c9e681f5c963c5d513239
     let g = and_parts (is_form s) (is_form u && variable_at u a) f.0 in
     let h = and_parts (is_form u) (variable_at u a) g.1 in
     λ j. placed u a h.0 h.1 j && no-value p u f.1 j

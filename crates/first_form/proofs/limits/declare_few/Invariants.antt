@@ -8,13 +8,8 @@ use Rattle.first_form.proofs.limits.declare_few.Given as goal
 abbrev pub invariant-procedures : goal.invariant-procedures
 invariant-procedures l = record {
   form : list_all is_first_procedure (map procedure_of l.rest) ≡ true;
-<<<<<<< HEAD
   same : variables_within (map procedure_of l.procedures)
       ≡ variables_within (map procedure_of l.rest);
-=======
-  same : variables_within (map procedure_of l.procedures)
-      ≡ variables_within (map procedure_of l.rest);
->>>>>>> f10582fe559fd17c285c9e681f5c963c5d513239
 }
 
 abbrev pub decreases-procedures : goal.decreases-procedures
