@@ -69,12 +69,12 @@ module _ (theory : Theory) (none : theory.logic ≡ []) where
   judged : (f : ProcedureOf Named) (p : Named) (ps rs : List ProgVar) → f.sort ≡ grove
       → does_formula_fit ps rs p ≡ true → is_judged_at (shape f.sort) p ≡ true
   judged f p ps rs s e =
-      ap (λ z. is_judged_at (shape z) p) s ∙ ap is_none (formula-sorted ps rs p 0 e)
+      ap (λ z. is_judged_at (shape z) p) s ∙ ap is_none (formula-sorted ps rs p e)
 
   unjudged : (f : ProcedureOf Named) (p : Named) → f.sort ≡ grove
-      → is_judged_at (shape f.sort) p ≡ true → first_fault p (shape grove) 0 ≡ None
+      → is_judged_at (shape f.sort) p ≡ true → first_fault p (shape grove) ≡ None
   unjudged f p s e =
-      judged-none (first_fault p (shape grove) 0) (sym (ap (λ z. is_judged_at (shape z) p) s) ∙ e)
+      judged-none (first_fault p (shape grove)) (sym (ap (λ z. is_judged_at (shape z) p) s) ∙ e)
 
   head-is-first : (f : ProcedureOf Named) → HeadFits f → HeadIsFirst f
   head-is-first f h = record {
@@ -154,10 +154,10 @@ module _ (theory : Theory) (none : theory.logic ≡ []) where
       sym (distinct-apart f.params f.results)
       ∙ sym (ap (λ z. distinct_by share_name (map as_var z)) (declared-is f h.body)) ∙ b.1 in
       let pre : does_formula_fit f.params [] f.pre ≡ true =
-      formula-fits f.params [] f.pre 0 h.pre (unjudged f f.pre h.sort s.0)
+      formula-fits f.params [] f.pre h.pre (unjudged f f.pre h.sort s.0)
       (only-params f.params f.results (variables_of f.pre) d.0 o.0) in
       let post : does_formula_fit f.params f.results f.post ≡ true =
-      formula-fits f.params f.results f.post 0 h.post (unjudged f f.post h.sort s.1) d'.0 in
+      formula-fits f.params f.results f.post h.post (unjudged f f.post h.sort s.1) d'.0 in
       let body : does_command_fit f.params f.results f.body ≡ true =
       command-list f.params f.results f.body
       ∙ standing-fit f.params f.results (procedures_of theory) (commands_in f.body)

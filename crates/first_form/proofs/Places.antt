@@ -182,8 +182,8 @@ module _ (ps rs : List ProgVar) (th : Procedures) where
   judgement-fine (triple p c q grove) args e d =
       let h : TripleFits ps rs p c q = triple-fits p c q e in
       let st : Stand ps rs th (commands_in c) = commands-stand ps rs th (commands_in c) h.body in (
-        λ i. is_none (formula-sorted ps rs p 0 h.pre i)
-            && is_none (formula-sorted ps rs q 0 h.post i),
+        λ i. is_none (formula-sorted ps rs p h.pre i)
+            && is_none (formula-sorted ps rs q h.post i),
         record {
           declared = all-join (is_declared ps rs)
               (variables_of p ++ (variables_of q ++ variables_of_command c)) args
@@ -217,9 +217,9 @@ module _ (ps rs : List ProgVar) (th : Procedures) where
       ∙ standing-fit ps rs th (commands_in c)
       (record { kinds = f'.0; declared = dq.1; parts = h.parts; spared = h.spared }) in
       let pre : does_formula_fit ps rs p ≡ true =
-      formula-fits ps rs p 0 f.0 (judged-none (first_fault p (shape grove) 0) s.0) dp.0 in
+      formula-fits ps rs p f.0 (judged-none (first_fault p (shape grove)) s.0) dp.0 in
       let post : does_formula_fit ps rs q ≡ true =
-      formula-fits ps rs q 0 f'.1 (judged-none (first_fault q (shape grove) 0) s.1) dq.0 in
+      formula-fits ps rs q f'.1 (judged-none (first_fault q (shape grove)) s.1) dq.0 in
       ((λ i. pre i && (body i && post i)), d.1)
   fine-judgement (triple p c q tree) args e sorted h = false≢true e
   fine-judgement (triple p c q forest) args e sorted h = false≢true e

@@ -5,8 +5,8 @@ use Rattle.dom_syntax.specs.Theories.{procedure_of}
 use Rattle.first_form.proofs.FormTheorem.{declared-count}
 use Rattle.first_form.proofs.limits.declares_few.Goals as goal
 
-pub returns-then-params-le-MOST_VARIABLES : goal.returns-then-params-le-MOST_VARIABLES
-returns-then-params-le-MOST_VARIABLES c =
+pub returns-then-params-le-VARIABLES : goal.returns-then-params-le-VARIABLES
+returns-then-params-le-VARIABLES c =
     let params = length-map c.args.procedure.now.params prog_var_of in
     let results = length-map c.args.procedure.now.results prog_var_of in
     let count = declared-count (procedure_of c.args.procedure.now) c.requires.form in
