@@ -1,6 +1,7 @@
-// The top call over a library or a sink that fails.
+// The top call over a library or a sink that fails, and the calls for bytes in hand.
 use crate::outside::Trickle;
-use domcheck_core::{Status, domcheck};
+use dom_terms::{Text, Texts};
+use domcheck_core::{Status, check_bytes, domcheck, run_bytes};
 use outside_io::{Shelf, Sink, Tape};
 use std::alloc::Global;
 use std::test::Fail;
@@ -68,5 +69,18 @@ fn a_prefix_is_written_where_the_sink_fails(rt: HostRuntime) -> Result<(), Fail>
     let status = answer(alloc, &["check", "a"], 0, &mut sink)?;
     assert_eq!(rt; (status, status.number()), (Status::WriteFault, 12));
     assert_eq!(rt; sink.taken.as_slice(), b"accepted:".as_slice());
+    Ok(())
+}
+
+#[test]
+fn bytes_in_hand_are_answered(rt: HostRuntime) -> Result<(), Fail> {
+    let alloc = rt.alloc();
+    let reply = check_bytes(alloc, FILE.as_bytes())?;
+    assert_eq!(rt; reply.status, Status::Done);
+    assert_eq!(rt; reply.output.as_str(), "accepted: 1 procedures, 1 steps\n");
+    let main = Text::from_str(alloc, "main")?;
+    let reply = run_bytes(alloc, FILE.as_bytes(), &main, b"0g", 9, &Texts::new(alloc))?;
+    assert_eq!(rt; reply.status, Status::Done);
+    assert_eq!(rt; reply.output.as_str(), "ended after 1 steps\n0g\n");
     Ok(())
 }
