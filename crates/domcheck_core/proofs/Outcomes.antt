@@ -1,15 +1,15 @@
 -- Runs that are called: they may be run, and where they end, the grove is well formed.
-use Rattle.std.proofs.Common.{◌≡◌, ◌∙◌, ℕ, zero, suc, Bool, true, false, ◌&&◌, List, [], ◌∷◌, map, slice_get, Option, Some, None, ap, Result, Ok, Err, IfOk, refl, sym, subst}
+use Rattle.std.proofs.Common.{◌≡◌, ◌∙◌, ℕ, zero, suc, true, ◌&&◌, List, [], ◌∷◌, map, slice_get, Option, Some, None, ap, Result, Ok, Err, IfOk, refl, sym, subst}
 use Rattle.std.specs.List.{list_all}
 use Rattle.model_shapes.specs.Tests.{same_data_sort}
-use Rattle.model_shapes.specs.Sorts.{shape, grove}
+use Rattle.model_shapes.specs.Sorts.{grove}
 use Rattle.model_shapes.specs.Trees.{Trees, WellFormed}
 use Rattle.model_shapes.specs.Values.{Value}
 use Rattle.model_formulas.specs.Formulas.{Named}
-use Rattle.model_terms.specs.Stores.{ProgVar, Store}
+use Rattle.model_terms.specs.Stores.{ProgVar}
 use Rattle.model_commands.specs.Commands.{Command, skip, block, assign, create_node, node_name, child_nodes, parent_node, list_item, append_child, remove_child, if_else, while_do, local, call}
 use Rattle.model_commands.specs.CommandParts.{commands_in}
-use Rattle.model_commands.specs.Theories.{ProcedureOf, Theory, Procedures, procedures_of}
+use Rattle.model_commands.specs.Theories.{ProcedureOf, Theory, procedures_of}
 use Rattle.model_files.specs.FileFaults.{IsWellFormedTheory}
 use Rattle.model_machine.specs.Fitting.{FitsConfig}
 use Rattle.model_machine.specs.Behind.{Behind}
