@@ -1,3 +1,4 @@
+// Contexts put into contexts.
 ghost use Rattle.std.specs.Prelude.{◌≡◌, IfOk};
 ghost use Rattle.model_shapes.specs.Sorts.{tree, forest, grove};
 ghost use Rattle.model_shapes.specs.Trees.{fill, beside};

@@ -1,3 +1,4 @@
+// Contexts of trees, forests and groves, and the pieces that go into them.
 ghost use Rattle.std.specs.Prelude.{◌≡◌, IfOk};
 ghost use Rattle.context_apply.specs.Contexts.{tree_context_of, forest_inner_of, forest_context_of, grove_inner_of, grove_context_of, context_seen, piece_seen};
 

@@ -1,3 +1,4 @@
+// A node cut out of a grove, with its context.
 ghost use Rattle.std.specs.Prelude.{◌≡◌, ◌↔◌, IfOk, IfSome, IsNone};
 ghost use Rattle.model_shapes.specs.Sorts.{tree, grove};
 ghost use Rattle.model_shapes.specs.Trees.{fill, node_uses, WellFormed};

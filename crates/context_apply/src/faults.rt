@@ -1,3 +1,4 @@
+// Why a piece or a context isn't put in.
 ghost use Rattle.std.specs.Prelude.{◌≡◌};
 ghost use Rattle.context_apply.specs.declared.faults.PlugFault.TheVariants.{OutOfMemory};
 

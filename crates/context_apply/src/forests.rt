@@ -1,3 +1,4 @@
+// Forests joined to forests, with the trees beside a hole.
 ghost use Rattle.std.specs.Prelude.{◌≡◌, IfOk};
 ghost use Rattle.model_shapes.specs.Trees.{beside};
 ghost use Rattle.grove_data.specs.Trees.{forest_of};

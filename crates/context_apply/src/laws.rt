@@ -1,3 +1,4 @@
+// Laws about contexts, as functions with an empty body.
 ghost use Rattle.std.specs.Prelude.{◌≡◌};
 ghost use Rattle.model_shapes.specs.Sorts as sorts;
 ghost use Rattle.model_shapes.specs.Trees.{Trees, WellFormed, width};

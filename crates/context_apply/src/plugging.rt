@@ -1,3 +1,4 @@
+// Pieces put into contexts.
 ghost use Rattle.std.specs.Prelude.{◌≡◌, IfOk};
 ghost use Rattle.model_shapes.specs.Trees.{fill, width};
 ghost use Rattle.model_shapes.specs.Contexts.{tree_thing, forest_thing, inner_thing, grove_thing};

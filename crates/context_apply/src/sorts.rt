@@ -1,3 +1,4 @@
+// The sorts of a context: of its hole and of what it gives.
 ghost use Rattle.std.specs.Prelude.{◌≡◌};
 ghost use Rattle.model_shapes.specs.Contexts.{tree_hole_sort, forest_hole_sort, inner_hole_sort};
 ghost use Rattle.dom_terms.specs.Sorts.{data_sort_of};

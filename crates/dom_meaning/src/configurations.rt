@@ -1,3 +1,4 @@
+// Configurations: what is pending, the store, the grove and the results.
 ghost use Rattle.std.specs.Prelude.{◌≡◌, IfOk, map};
 ghost use Rattle.dom_terms.specs.Terms.{prog_var_of};
 

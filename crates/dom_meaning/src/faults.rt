@@ -1,3 +1,4 @@
+// The kinds of faults, and why a step is refused.
 ghost use Rattle.std.specs.Prelude.{◌≡◌};
 ghost use Rattle.dom_meaning.specs.Faults.{step_fault_of};
 ghost use Rattle.dom_meaning.specs.declared.faults.StepFault.TheVariants as s;

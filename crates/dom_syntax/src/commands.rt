@@ -1,3 +1,4 @@
+// Commands and blocks.
 ghost use Rattle.std.specs.Prelude.{◌≡◌, IfOk, map};
 ghost use Rattle.dom_syntax.specs.Commands.{command_of};
 

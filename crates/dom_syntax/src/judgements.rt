@@ -1,3 +1,4 @@
+// Triples and judgements.
 ghost use Rattle.std.specs.Prelude.{◌≡◌, IfOk};
 ghost use Rattle.dom_syntax.specs.Judgements.{triple_of, judgement_of};
 

@@ -1,3 +1,4 @@
+// Steps of proofs, with the reasons why they hold.
 ghost use Rattle.std.specs.Prelude.{◌≡◌, IfOk};
 ghost use Rattle.dom_syntax.specs.Judgements.{reason_of, step_of};
 

@@ -1,3 +1,4 @@
+// Procedures and theories.
 ghost use Rattle.std.specs.Prelude.{◌≡◌, IfOk};
 ghost use Rattle.dom_syntax.specs.Theories.{procedure_of, theory_of};
 

@@ -1,3 +1,4 @@
+// Conditions of commands.
 ghost use Rattle.std.specs.Prelude.{◌≡◌, IfOk};
 ghost use Rattle.dom_terms.specs.Conditions.{cond_of};
 

@@ -1,3 +1,4 @@
+// What it is to be copied: an equal value with memory of its own.
 ghost use Rattle.std.specs.Prelude.{◌≡◌, IfOk, Ok};
 
 use crate::memory::OutOfMemory;

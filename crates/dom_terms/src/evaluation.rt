@@ -1,3 +1,4 @@
+// The value of a term in a store, within the limits.
 ghost use Rattle.std.specs.Prelude.{◌≡◌, ℤ, IfOk, FitsSigned};
 ghost use Rattle.std.specs.Int.{w64};
 ghost use Rattle.std.specs.Option.{SomeIff};

@@ -1,3 +1,4 @@
+// Want of memory.
 use std::alloc::{AllocError, AllocFailed};
 
 /// Memory was refused. It may come from any call that takes an allocator, or that grows a value.

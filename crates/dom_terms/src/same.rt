@@ -1,3 +1,4 @@
+// Tests of equality: of texts, sorts and variables.
 ghost use Rattle.std.specs.Prelude.{◌≡◌, bytes_eq};
 ghost use Rattle.model_shapes.specs.Tests as sorts;
 ghost use Rattle.model_terms.specs.VariableTests.{same_var};

@@ -1,3 +1,4 @@
+// Stores: the values of program variables.
 ghost use Rattle.std.specs.Prelude.{◌≡◌, IfOk, OnOk, OnErr, map, option_map, option_copied, find, position};
 ghost use Rattle.model_shapes.specs.Values.{FitsValue};
 ghost use Rattle.model_terms.specs.Stores.{unset, set, ProperStore};

@@ -1,3 +1,4 @@
+// Variables and terms.
 ghost use Rattle.std.specs.Prelude.{◌≡◌, IfOk};
 ghost use Rattle.dom_terms.specs.Terms.{prog_var_of, logic_var_of, term_of};
 

@@ -1,3 +1,4 @@
+// Values of terms and variables.
 ghost use Rattle.std.specs.Prelude.{◌≡◌, IfOk};
 ghost use Rattle.dom_terms.specs.Values.{value_seen};
 

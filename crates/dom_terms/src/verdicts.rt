@@ -1,3 +1,4 @@
+// Verdicts on steps, and what evaluation answers where it gives no value.
 ghost use Rattle.std.specs.Prelude.{◌≡◌};
 ghost use Rattle.dom_terms.specs.declared.verdicts.EvalFault.TheVariants.{OutOfMemory};
 

@@ -1,3 +1,4 @@
+// The binders passed on the way down a formula, and terms below them.
 ghost use Rattle.std.specs.Prelude.{◌≡◌, ◌+◌, ◌<◌, ◌^◌, MatchOption, length};
 ghost use Rattle.model_terms.specs.VariableTests.{same_var};
 ghost use Rattle.model_terms.specs.Variables.{bound};

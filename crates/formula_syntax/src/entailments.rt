@@ -1,3 +1,4 @@
+// Entailments.
 ghost use Rattle.std.specs.Prelude.{◌≡◌, IfOk};
 ghost use Rattle.formula_syntax.specs.Entailments.{entailment_of};
 

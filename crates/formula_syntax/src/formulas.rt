@@ -1,3 +1,4 @@
+// Formulas of context logic.
 ghost use Rattle.std.specs.Prelude.{◌≡◌, IfOk};
 ghost use Rattle.formula_syntax.specs.Formulas.{formula_of};
 

@@ -1,3 +1,4 @@
+// The free variables of a formula.
 ghost use Rattle.std.specs.Prelude.{◌≡◌, ◌↔◌, IsTrue, IfOk, [], ◌∷◌, ◌++◌, map};
 ghost use Rattle.std.specs.List.{list_any, IsDistinct};
 ghost use Rattle.model_terms.specs.VariableTests.{same_var};

@@ -1,3 +1,4 @@
+// Whether a formula says the same of every shape.
 ghost use Rattle.std.specs.Prelude.{◌≡◌};
 ghost use Rattle.model_formulas.specs.Formulas as model;
 ghost use Rattle.formula_syntax.specs.Formulas.{formula_of};

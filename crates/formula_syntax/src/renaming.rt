@@ -1,3 +1,4 @@
+// Names for binders, so that substitution captures nothing.
 ghost use Rattle.std.specs.Prelude.{◌≡◌, ◌<◌, IfOk, MatchOption, Some, None, max, length, map};
 ghost use Rattle.std.specs.List.{list_any};
 ghost use Rattle.dom_terms.specs.Terms.{logic_var_of, term_of};

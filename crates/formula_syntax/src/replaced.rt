@@ -1,3 +1,4 @@
+// Whether one formula is another with a term put for a variable.
 ghost use Rattle.std.specs.Prelude.{◌≡◌, ◌<◌, ◌^◌, MatchOption, MatchBool, length, map};
 ghost use Rattle.model_terms.specs.VariableTests.{same_var};
 ghost use Rattle.model_terms.specs.Terms.{term_with, variable, Substitution};

@@ -1,3 +1,4 @@
+// Whether two formulas are the same but for the names of bound variables.
 ghost use Rattle.std.specs.Prelude.{◌≡◌, ◌+◌, ◌<◌, ◌^◌, ◌&&◌, ◌↔◌, IsTrue, IsOk, IfOk, length, map};
 ghost use Rattle.model_formulas.specs.Nameless.{SameFormula, nameless, walked};
 ghost use Rattle.model_formulas.specs.SameFormulas as tests;

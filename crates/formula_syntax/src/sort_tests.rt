@@ -1,3 +1,4 @@
+// The sorts of terms, and which sorts the parts of a formula have.
 ghost use Rattle.std.specs.Prelude.{◌≡◌};
 ghost use Rattle.model_shapes.specs.Sorts as model;
 ghost use Rattle.model_formulas.specs.Formulas as formulas;

@@ -1,3 +1,4 @@
+// The first part at fault of a formula judged at a sort.
 ghost use Rattle.std.specs.Prelude.{◌≡◌, ◌+◌, ◌<◌, ◌^◌, ◌++◌, not, MatchResult, None, Some};
 ghost use Rattle.std.specs.List.{position_from};
 ghost use Rattle.model_formulas.specs.Parts.{parts};

@@ -1,3 +1,4 @@
+// Terms put for the free variables of a formula, all at once.
 ghost use Rattle.std.specs.Prelude.{◌≡◌, ◌≤◌, IfOk, None, true, false, ◌∷◌, map};
 ghost use Rattle.model_terms.specs.Terms as terms;
 ghost use Rattle.model_formulas.specs.Nameless.{nameless, walked};

@@ -1,3 +1,4 @@
+// Variables of both kinds, and the pairs of a substitution.
 ghost use Rattle.std.specs.Prelude.{◌≡◌, IfOk};
 ghost use Rattle.formula_syntax.specs.Formulas.{any_var_of, pair_of};
 

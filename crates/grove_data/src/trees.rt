@@ -1,3 +1,4 @@
+// Trees, forests and groves.
 ghost use Rattle.std.specs.Prelude.{◌≡◌, IfOk, map};
 ghost use Rattle.grove_data.specs.Trees.{tree_of};
 

@@ -1,3 +1,4 @@
+// The text literal at the front of a text, and the text that it stands for.
 ghost use Rattle.std.specs.Prelude.{◌≡◌, ◌+◌, ◌≤◌, false, length, encode_utf8_all, IfOk};
 ghost use Rattle.model_text.specs.Tokens.{is_escape, literal_end, literal_length, unescaped};
 

@@ -1,3 +1,4 @@
+// The digits at the front of a text, and the numbers that they write.
 ghost use Rattle.std.specs.Prelude.{◌≡◌, ◌≤◌, if◌then◌else◌};
 ghost use Rattle.std.specs.Str.Parse.{digits_value};
 ghost use Rattle.model_text.specs.Tokens.{leading_zero, digits_fit, is_number};

@@ -1,3 +1,4 @@
+// What stands at the front of a text: a gap, a token or neither.
 ghost use Rattle.std.specs.Prelude.{◌≡◌};
 ghost use Rattle.model_text.specs.Tokens.{is_blank, digits_piece, longer_token, longest_token, piece_at, piece_length};
 ghost use Rattle.text_tokens.specs.Pieces.{piece_of};

@@ -1,3 +1,4 @@
+// Places in the bytes, and the lines on which they stand.
 ghost use Rattle.std.specs.Prelude.{◌≡◌, ℕ, List, ◌+◌, ◌<◌, ◌≤◌, ◌==◌, ◌^◌, length, count_by, encode_utf8_all};
 ghost use Rattle.model_text.specs.Tokens.{newline, place_of};
 ghost use Rattle.text_tokens.specs.Positions.{IsPosition};

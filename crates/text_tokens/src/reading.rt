@@ -1,3 +1,4 @@
+// The list of the tokens of bytes.
 ghost use Rattle.std.specs.Prelude.{◌≡◌, ◌+◌, ◌-◌, ◌<◌, ◌≤◌, [], ◌∷◌, ◌++◌, length, take, drop, map, encode_utf8_all, IfOk, IfNone, IfSome, OnOk};
 ghost use Rattle.std.specs.Str.Lossy.{utf8_valid_len};
 ghost use Rattle.model_text.specs.Tokens.{characters, piece_at, token_text, tokens_of};

@@ -1,3 +1,4 @@
+// The words that are no names.
 ghost use Rattle.std.specs.Prelude.{◌≡◌, bytes_eq};
 ghost use Rattle.std.specs.List.{list_any};
 ghost use Rattle.model_text.specs.Lexemes.{is_reserved};

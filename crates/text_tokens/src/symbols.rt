@@ -1,3 +1,4 @@
+// The symbol at the front of a text.
 ghost use Rattle.std.specs.Prelude.{◌≡◌, ℕ, List, ◌∷◌, map, length};
 ghost use Rattle.model_text.specs.Tokens.{symbols, length_at_front, longest_at_front};
 

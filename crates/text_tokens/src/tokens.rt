@@ -1,3 +1,4 @@
+// Tokens, and the questions of the grammar to them.
 ghost use Rattle.std.specs.Prelude.{◌≡◌, ◌≢◌, ◌↔◌, ℕ, List, bytes_eq, IsTrue, IfOk, MatchOption, IfSome};
 ghost use Rattle.model_text.specs.Lexemes.{terminal, step_word, name_lexeme, logic_lexeme, number_lexeme, literal_lexeme, word_lexeme, lexeme_of};
 ghost use Rattle.model_text.specs.Tokens.{word_token};
