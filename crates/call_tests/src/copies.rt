@@ -4,7 +4,7 @@ use crate::groves::{document, leaf};
 use crate::terms::integer;
 use context_apply::{Piece, cut_at};
 use dom_meaning::{Config, Pending, Pieces};
-use dom_syntax::{Command, Judgement};
+use theory_syntax::{Command, Judgement};
 use dom_terms::{Cond, Copied, DataSort, List, Sort, Store, Text, Value};
 use formula_syntax::{AnyVar, Entailment, Formula, Pair};
 use logic_text::read_grove;

@@ -12,9 +12,9 @@ use Rattle.model_machine.specs.Machine as model
 use Rattle.model_files.specs.FileFaults.{IsWellFormedTheory}
 use Rattle.model_machine.specs.Fitting.{ValuesFit, FitsConfig}
 use Rattle.model_machine.proofs.Starts.{start-fits}
-use Rattle.dom_syntax.specs.declared.theories.Procedure.{Procedure}
-use Rattle.dom_syntax.specs.declared.theories.Theory.{Theory}
-use Rattle.dom_syntax.specs.Theories.{procedure_of, theory_of}
+use Rattle.theory_syntax.specs.declared.theories.Procedure.{Procedure}
+use Rattle.theory_syntax.specs.declared.theories.Theory.{Theory}
+use Rattle.theory_syntax.specs.Theories.{procedure_of, theory_of}
 use Rattle.dom_meaning.specs.declared.configurations.Config.{Config}
 use Rattle.dom_meaning.specs.Configs.{config_of}
 use Rattle.dom_meaning.specs.Built.{is_built, is_built_piece, IsRunnable}

@@ -11,8 +11,8 @@ use Rattle.model_files.specs.FileFaults.{twice_kind, declarations, header, steps
 use Rattle.model_commands.proofs.StoreLaws.{not-true}
 use Rattle.model_files.proofs.Places.{passes-each, first-none, both-none}
 use Rattle.model_files.proofs.WellFormedTheories.{well-formed-bodies}
-use Rattle.dom_syntax.specs.declared.theories.Procedure.{Procedure}
-use Rattle.dom_syntax.specs.Theories.{procedure_of}
+use Rattle.theory_syntax.specs.declared.theories.Procedure.{Procedure}
+use Rattle.theory_syntax.specs.Theories.{procedure_of}
 
 either-false : (a b : Bool) → (a || b) ≡ false → (a ≡ false) × (b ≡ false)
 either-false true b e = absurd cc

@@ -5,8 +5,8 @@ use mathlib.Core.List.{map-map}
 use Rattle.std.proofs.lemmas.List.{map-append, reverse-append, reverse-reverse, map_push, take_all, take_more}
 use Rattle.std.proofs.lemmas.Option.{slice_get_within, get_or_from_slice_get}
 use Rattle.model_machine.specs.Machine.{Piece, run, pieces_of}
-use Rattle.dom_syntax.specs.declared.commands.Command.{Command}
-use Rattle.dom_syntax.specs.Commands.{command_of, block_of}
+use Rattle.theory_syntax.specs.declared.commands.Command.{Command}
+use Rattle.theory_syntax.specs.Commands.{command_of, block_of}
 use Rattle.dom_meaning.specs.declared.configurations.Pending.{Pending}
 use Rattle.dom_meaning.specs.Configs.{piece_of, pieces_in}
 

@@ -7,7 +7,7 @@ use Rattle.dom_terms.specs.Terms.{prog_var_of}
 use Rattle.dom_terms.specs.Values.{value_seen}
 use Rattle.dom_terms.specs.Stores.{store_of}
 use Rattle.grove_data.specs.Trees.{forest_of}
-use Rattle.dom_syntax.specs.Commands.{command_of}
+use Rattle.theory_syntax.specs.Commands.{command_of}
 use Rattle.dom_meaning.specs.declared.configurations.Pending.{Pending}
 use Rattle.dom_meaning.specs.declared.configurations.Pending.TheVariants as p
 use Rattle.dom_meaning.specs.declared.configurations.Config.{Config}

@@ -10,7 +10,7 @@ use Rattle.model_groves.specs.Sizes.{greatest_node, greatest_list}
 use Rattle.dom_terms.specs.Terms.{prog_var_of}
 use Rattle.dom_terms.specs.Values.{value_seen}
 use Rattle.grove_data.specs.Trees.{forest_of}
-use Rattle.dom_syntax.specs.Commands.{command_of}
+use Rattle.theory_syntax.specs.Commands.{command_of}
 use Rattle.dom_meaning.specs.declared.runs.Outcome.{Outcome}
 use Rattle.dom_meaning.specs.declared.runs.Outcome.TheVariants as o
 use Rattle.dom_meaning.specs.Configs.{config_of}

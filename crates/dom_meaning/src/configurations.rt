@@ -2,7 +2,7 @@
 ghost use Rattle.std.specs.Prelude.{◌≡◌, IfOk, map};
 ghost use Rattle.dom_terms.specs.Terms.{prog_var_of};
 
-use dom_syntax::Command;
+use theory_syntax::Command;
 use dom_terms::{Copied, List, OutOfMemory, ProgVar, Store, Value, Vars};
 use grove_data::Grove;
 use std::alloc::Global;

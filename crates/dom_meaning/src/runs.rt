@@ -10,7 +10,7 @@ ghost use Rattle.model_machine.specs.Outcomes.{outcome, has_fault, ends_at, firs
 ghost use Rattle.dom_terms.specs.Terms.{prog_var_of};
 ghost use Rattle.dom_terms.specs.Stores.{store_of};
 ghost use Rattle.grove_data.specs.Trees.{forest_of};
-ghost use Rattle.dom_syntax.specs.Theories.{theory_of};
+ghost use Rattle.theory_syntax.specs.Theories.{theory_of};
 ghost use Rattle.dom_meaning.specs.Configs.{config_of, pick_of};
 ghost use Rattle.dom_meaning.specs.Built.{is_built_piece, IsRunnable};
 ghost use Rattle.dom_meaning.specs.Faults.{fault_kind_of};
@@ -20,7 +20,7 @@ use crate::configurations::{Config, Pending};
 use crate::faults::{FaultKind, StepFault};
 use crate::results::values_of;
 use crate::steps::{StepOut, step};
-use dom_syntax::{Command, Theory};
+use theory_syntax::{Command, Theory};
 use dom_terms::{LimitKind, Values};
 use grove_data::{Grove, greatest_ids};
 use std::alloc::Global;

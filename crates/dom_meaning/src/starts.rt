@@ -11,13 +11,13 @@ ghost use Rattle.dom_terms.specs.Terms.{prog_var_of};
 ghost use Rattle.dom_terms.specs.Values.{value_seen};
 ghost use Rattle.dom_terms.specs.Stores.{store_of};
 ghost use Rattle.grove_data.specs.Trees.{forest_of};
-ghost use Rattle.dom_syntax.specs.Theories.{procedure_of, theory_of};
+ghost use Rattle.theory_syntax.specs.Theories.{procedure_of, theory_of};
 ghost use Rattle.dom_meaning.specs.Configs.{config_of};
 ghost use Rattle.dom_meaning.specs.Built.{is_built, IsRunnable};
 ghost use Rattle.dom_meaning.specs.Starts.{Begins};
 
 use crate::configurations::{Config, Pending};
-use dom_syntax::{Procedure, Theory};
+use theory_syntax::{Procedure, Theory};
 use dom_terms::{Copied, List, OutOfMemory, ProgVar, Store, Value, Values};
 use grove_data::Grove;
 use std::alloc::Global;

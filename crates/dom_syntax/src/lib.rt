@@ -1,19 +1,13 @@
-//! Commands, judgements, proofs, procedures and theories as the program holds them.
-//! Promises that each type is seen as the plain data of the definitions, and that a copy has the
-//! same view.
-//! Stands on the formulas of the program.
+//! The language as a whole: the types of commands and theories, which theories are well formed, the
+//! variables that a command modifies, and the formula of a condition.
+//! Promises that the first place at fault, and its kind, are those of the definitions.
+//! Stands on the types of theories.
 #![tactic(auto)]
 
-mod commands;
-mod files;
-mod judgements;
-mod same;
-mod steps;
-mod theories;
+mod kinds;
 
-pub use commands::{Block, Command};
-pub use files::FileKind;
-pub use judgements::{Judgement, Triple};
-pub use same::same_command;
-pub use steps::{Reason, Step, Steps};
-pub use theories::{Procedure, Procedures, Theory};
+pub use kinds::FileKind;
+pub use theory_syntax::{
+    Block, Command, Judgement, Procedure, Procedures, Reason, Step, Steps, Theory, Triple,
+    same_command,
+};

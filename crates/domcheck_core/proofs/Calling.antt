@@ -8,8 +8,8 @@ use Rattle.model_shapes.specs.Values.{Value}
 use Rattle.model_formulas.specs.Formulas.{Named}
 use Rattle.model_commands.specs.Theories.{ProcedureOf}
 use Rattle.model_answers.specs.Arguments.{arguments_of, procedure_called, with_arguments}
-use Rattle.dom_syntax.specs.declared.theories.Procedure.{Procedure}
-use Rattle.dom_syntax.specs.Theories.{procedure_of}
+use Rattle.theory_syntax.specs.declared.theories.Procedure.{Procedure}
+use Rattle.theory_syntax.specs.Theories.{procedure_of}
 use Rattle.domcheck_core.specs.Calls.{IsPlaceOf}
 
 module _ (name : List ℕ) where

@@ -20,8 +20,8 @@ use Rattle.model_machine.proofs.Picks.{outcome-behind}
 use Rattle.model_machine.proofs.Fine.{ends-fine}
 use Rattle.model_files.proofs.WellFormedTheories.{well-formed-bodies}
 use Rattle.model_grammar.specs.FirstForm.{is_first_kind, is_first_command, is_first_formula, is_first_step, is_first_procedure}
-use Rattle.dom_syntax.specs.declared.theories.Procedure.{Procedure}
-use Rattle.dom_syntax.specs.Theories.{procedure_of}
+use Rattle.theory_syntax.specs.declared.theories.Procedure.{Procedure}
+use Rattle.theory_syntax.specs.Theories.{procedure_of}
 use Rattle.dom_meaning.specs.Built.{is_built_kind, is_built}
 use Rattle.model_machine.specs.Outcomes.{outcome}
 use Rattle.dom_meaning.specs.Runs.{IsOutcome}

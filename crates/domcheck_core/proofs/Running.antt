@@ -3,9 +3,9 @@ use Rattle.std.proofs.Common.{◌≡◌, ℕ, List, Option, Some, None, refl, ma
 use Rattle.outside_io.specs.Causes.{Told}
 use Rattle.model_answers.specs.Arguments.{called}
 use Rattle.model_answers.specs.Output.{bad_text_line, bad_words_line}
-use Rattle.dom_syntax.specs.Theories.{procedure_of, theory_of}
-use Rattle.dom_syntax.specs.declared.theories.Procedure.{Procedure}
-use Rattle.dom_syntax.specs.declared.theories.Theory.{Theory}
+use Rattle.theory_syntax.specs.Theories.{procedure_of, theory_of}
+use Rattle.theory_syntax.specs.declared.theories.Procedure.{Procedure}
+use Rattle.theory_syntax.specs.declared.theories.Theory.{Theory}
 use Rattle.dom_terms.specs.Values.{value_seen}
 use Rattle.model_grammar.specs.Files.{SpellsFile}
 use Rattle.domcheck_core.specs.Answers.{Unreadable, DocumentAnswer, IsCalled, RunAnswer, file_unread, not_called, is_called}

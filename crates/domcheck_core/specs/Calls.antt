@@ -7,9 +7,9 @@ use Rattle.dom_terms.specs.Terms.{prog_var_of}
 use Rattle.grove_data.specs.Trees.{forest_of}
 use Rattle.dom_meaning.specs.declared.runs.Outcome.{Outcome}
 use Rattle.dom_meaning.specs.declared.runs.Outcome.TheVariants as o
-use Rattle.dom_syntax.specs.declared.theories.Procedure.{Procedure}
-use Rattle.dom_syntax.specs.declared.theories.Theory.{Theory}
-use Rattle.dom_syntax.specs.Theories.{procedure_of, theory_of}
+use Rattle.theory_syntax.specs.declared.theories.Procedure.{Procedure}
+use Rattle.theory_syntax.specs.declared.theories.Theory.{Theory}
+use Rattle.theory_syntax.specs.Theories.{procedure_of, theory_of}
 use Rattle.dom_terms.specs.Values.{value_seen}
 use Rattle.model_answers.specs.Arguments.{called, procedure_called}
 use Rattle.domcheck_core.specs.Answers.{DocumentAnswer, RunAnswer}

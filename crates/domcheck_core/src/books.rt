@@ -11,7 +11,7 @@ use crate::checks::check_bytes;
 use crate::replies::{Refusal, Reply, bad_text, reported};
 use crate::runs::{Opened, open_file, run_document};
 use crate::status::Status;
-use dom_syntax::Theory;
+use theory_syntax::Theory;
 use dom_terms::{Text, Texts};
 use fault_report::Report;
 use outside_io::{Library, ReadAllFault, read_all};

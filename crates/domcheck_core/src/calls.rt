@@ -1,10 +1,10 @@
 // What a run calls.
 ghost use Rattle.std.specs.Prelude.{◌≡◌, None, map, IfOk, MatchOption, bytes_eq, position};
-ghost use Rattle.dom_syntax.specs.Theories.{procedure_of, theory_of};
+ghost use Rattle.theory_syntax.specs.Theories.{procedure_of, theory_of};
 ghost use Rattle.model_answers.specs.Arguments.{called, procedure_called};
 ghost use Rattle.domcheck_core.specs.Calls.{IsPlaceOf, IsCallOf};
 
-use dom_syntax::{Procedure, Theory};
+use theory_syntax::{Procedure, Theory};
 use dom_terms::{OutOfMemory, Text, Texts, Values};
 use request_words::read_arguments;
 use std::alloc::Global;

@@ -1,6 +1,6 @@
 // Checks of a file, over its bytes.
 ghost use Rattle.std.specs.Prelude.{◌≡◌, ℕ, List, IfOk};
-ghost use Rattle.dom_syntax.specs.Theories.{theory_of};
+ghost use Rattle.theory_syntax.specs.Theories.{theory_of};
 ghost use Rattle.model_grammar.specs.Files.{SpellsFile};
 ghost use Rattle.domcheck_core.specs.Answers.{CheckAnswer};
 ghost use Rattle.domcheck_core.specs.Clauses.{IsProved};
@@ -8,7 +8,7 @@ ghost use Rattle.domcheck_core.specs.Clauses.{IsProved};
 use crate::file::read_file;
 use crate::replies::{Reply, accepted, bad_text, reported};
 use crate::status::Status;
-use dom_syntax::Theory;
+use theory_syntax::Theory;
 use dom_terms::OutOfMemory;
 use fault_report::Report;
 use hoare_kernel::is_accepted;

@@ -1,12 +1,12 @@
 // From the bytes of a file to its theory.
 ghost use Rattle.std.specs.Prelude.{IfOk, MatchOption};
-ghost use Rattle.dom_syntax.specs.Theories.{theory_of};
+ghost use Rattle.theory_syntax.specs.Theories.{theory_of};
 ghost use Rattle.model_grammar.specs.Files.{SpellsFile};
 ghost use Rattle.domcheck_core.specs.Answers.{Unreadable};
 
 use crate::form::is_of_form;
 use crate::limits::are_within;
-use dom_syntax::Theory;
+use theory_syntax::Theory;
 use dom_terms::{OutOfMemory, limits};
 use outside_io::MOST_BYTES;
 use proof_text::read_theory;

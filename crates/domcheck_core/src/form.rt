@@ -1,10 +1,10 @@
 // Which theories are of the form that is read today.
 ghost use Rattle.std.specs.Prelude.{◌↔◌, IsTrue, IfOk};
-ghost use Rattle.dom_syntax.specs.Theories.{theory_of};
+ghost use Rattle.theory_syntax.specs.Theories.{theory_of};
 ghost use Rattle.model_grammar.specs.Files as files;
 
 use crate::limits::count_steps;
-use dom_syntax::Theory;
+use theory_syntax::Theory;
 use dom_terms::OutOfMemory;
 use first_form::{is_of_first_form, variables_within};
 use std::alloc::Global;

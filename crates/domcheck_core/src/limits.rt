@@ -1,12 +1,12 @@
 // Which tokens and theories are within the limits of a file.
 ghost use Rattle.model_limits.specs.Limits.{standard_limits};
 ghost use Rattle.std.specs.Prelude.{◌≡◌, ◌<◌, ◌≤◌, ◌&&◌, MatchOption, map};
-ghost use Rattle.dom_syntax.specs.Theories.{procedure_of};
+ghost use Rattle.theory_syntax.specs.Theories.{procedure_of};
 ghost use Rattle.token_readers.specs.Leaves.{seen, lexemes_in};
 ghost use Rattle.model_text.specs.Nesting as nesting;
 ghost use Rattle.model_files.specs.FileLimits as files;
 
-use dom_syntax::Procedure;
+use theory_syntax::Procedure;
 use dom_terms::limits::{PROOF_STEPS, TEXT_BYTES};
 use text_tokens::Token;
 use token_readers::is_this;

@@ -2,13 +2,13 @@
 ghost use Rattle.std.specs.Prelude.{◌≡◌, IfOk, string_bytes};
 ghost use Rattle.model_answers.specs.Output.{line, accepted_text, accepted_line, bad_text_line};
 ghost use Rattle.model_grammar.specs.Files.{IsOfForm};
-ghost use Rattle.dom_syntax.specs.Theories.{theory_of};
+ghost use Rattle.theory_syntax.specs.Theories.{theory_of};
 ghost use Rattle.fault_report.specs.Lines.{line_of};
 ghost use Rattle.domcheck_core.specs.declared.replies.Refusal.TheVariants.{OutOfMemory};
 
 use crate::limits::count_steps;
 use crate::status::Status;
-use dom_syntax::Theory;
+use theory_syntax::Theory;
 use dom_terms::{OutOfMemory, Text};
 use fault_report::{Report, status_line};
 use std::alloc::{AllocError, Global};

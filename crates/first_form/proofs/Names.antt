@@ -2,8 +2,8 @@
 use Rattle.std.proofs.Common.{◌≡◌, ℕ, ◌-◌, ◌≤◌, Bool, true, false, ◌||◌, not, ◌&&◌, cond, List, [], ◌∷◌, map, length, get_or, take, drop, refl, sym, ap, ◌∙◌, subst, arith, bytes_eq}
 use Rattle.std.proofs.lemmas.List.{take_all}
 use Rattle.std.proofs.lemmas.Slice.Eq.{bytes_eq-Decides}
-use Rattle.dom_syntax.specs.declared.theories.Procedure.{Procedure}
-use Rattle.dom_syntax.specs.Theories.{procedure_of}
+use Rattle.theory_syntax.specs.declared.theories.Procedure.{Procedure}
+use Rattle.theory_syntax.specs.Theories.{procedure_of}
 use Rattle.first_form.specs.FormTests.{do_names_differ, is_name_among}
 
 turned : (a q : List ℕ) (b : Bool) → bytes_eq a q ≡ b → bytes_eq q a ≡ b

@@ -2,13 +2,13 @@
 ghost use Rattle.std.specs.Prelude.{◌≡◌, map};
 ghost use Rattle.dom_terms.specs.Sorts.{value_sort_of};
 ghost use Rattle.dom_terms.specs.Terms.{prog_var_of, term_of};
-ghost use Rattle.dom_syntax.specs.Commands.{block_of, command_of};
+ghost use Rattle.theory_syntax.specs.Commands.{block_of, command_of};
 ghost use Rattle.model_commands.specs.SortTests as sorts;
 ghost use Rattle.first_form.specs.FormTests as tests;
 
 use crate::scopes::{is_among, is_declared};
 use crate::terms::is_term_declared;
-use dom_syntax::{Block, Command};
+use theory_syntax::{Block, Command};
 use dom_terms::{ProgVar, Term, ValueSort, same_value_sort};
 use formula_syntax::has_sort;
 

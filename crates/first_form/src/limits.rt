@@ -3,11 +3,11 @@ ghost use Rattle.std.specs.Prelude.{◌≡◌, true, IsTrue, length, map, nat_le
 ghost use Rattle.model_limits.specs.Limits.{standard_limits};
 ghost use Rattle.model_files.specs.FileFaults.{declared_by};
 ghost use Rattle.std.specs.List.{list_all};
-ghost use Rattle.dom_syntax.specs.Theories.{procedure_of, theory_of};
+ghost use Rattle.theory_syntax.specs.Theories.{procedure_of, theory_of};
 ghost use Rattle.model_files.specs.FileLimits as files;
 ghost use Rattle.model_grammar.specs.FirstForm as form;
 
-use dom_syntax::{Procedure, Theory};
+use theory_syntax::{Procedure, Theory};
 use dom_terms::limits::VARIABLES;
 
 // Whether the procedure declares no more variables than the most: its body declares none.

@@ -1,7 +1,7 @@
 // Procedures and theories of the first form.
 ghost use Rattle.std.specs.Prelude.{◌≡◌, ◌↔◌, [], IsTrue, IfOk, map};
 ghost use Rattle.model_files.specs.FileFaults.{IsWellFormedTheory};
-ghost use Rattle.dom_syntax.specs.Theories.{procedure_of, theory_of};
+ghost use Rattle.theory_syntax.specs.Theories.{procedure_of, theory_of};
 ghost use Rattle.model_grammar.specs.FirstForm as form;
 ghost use Rattle.model_grammar.specs.FirstForm.{is_first_form};
 ghost use Rattle.first_form.specs.FormTests as tests;
@@ -10,7 +10,7 @@ use crate::commands::does_command_fit;
 use crate::formulas::does_formula_fit;
 use crate::scopes::are_apart;
 use crate::steps::do_steps_fit;
-use dom_syntax::{Procedure, Theory};
+use theory_syntax::{Procedure, Theory};
 use dom_terms::{DataSort, OutOfMemory, same_data_sort};
 use std::alloc::Global;
 use std::collections::HashSet;

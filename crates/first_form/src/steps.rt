@@ -1,14 +1,14 @@
 // Steps of the first form.
 ghost use Rattle.std.specs.Prelude.{◌≡◌, map};
 ghost use Rattle.dom_terms.specs.Terms.{prog_var_of, term_of};
-ghost use Rattle.dom_syntax.specs.Judgements.{judgement_of, reason_of, step_of};
+ghost use Rattle.theory_syntax.specs.Judgements.{judgement_of, reason_of, step_of};
 ghost use Rattle.model_grammar.specs.FirstForm as form;
 ghost use Rattle.first_form.specs.FormTests as tests;
 
 use crate::commands::does_command_fit;
 use crate::formulas::does_formula_fit;
 use crate::terms::{are_alike, is_term_declared};
-use dom_syntax::{Judgement, Reason, Step};
+use theory_syntax::{Judgement, Reason, Step};
 use dom_terms::{DataSort, ProgVar, Term, same_data_sort};
 
 // Whether the reason is a rule, of one of the three names.

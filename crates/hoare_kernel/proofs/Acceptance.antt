@@ -18,8 +18,8 @@ use Rattle.model_commands.specs.Theories.{own_triple, JudgementOf, Judgement, en
 use Rattle.model_commands.specs.SortTests.{evaluates, has_command}
 use Rattle.model_rules.specs.Rows.{Chain, last_link, more_links, Row, skip_row, assign_row, seq_row}
 use Rattle.model_rules.specs.Accepted.{judgement_numbered, Cites, InstanceBy, AllInstances, last_judgement, IsProved, Each}
-use Rattle.dom_syntax.specs.SameCommands.{same_command}
-use Rattle.dom_syntax.proofs.SameCommands.{same_command-is, same_command-refl}
+use Rattle.theory_syntax.specs.SameCommands.{same_command}
+use Rattle.theory_syntax.proofs.SameCommands.{same_command-is, same_command-refl}
 use Rattle.hoare_kernel.specs.Tests.{same_test, replaced_test, is_skip, no_items, skip_test, assign_test, cited, after, next, reached, ends, seq_test, judged_test, rule_test, instance_test, instances_test, own_test, own_last, last_step, proved_test, accepted_test}
 use Rattle.hoare_kernel.proofs.Decisions.{same_is, is_same, replaced_is, is_replaced, skip_is}
 

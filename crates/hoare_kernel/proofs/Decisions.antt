@@ -11,8 +11,8 @@ use Rattle.std.specs.List.{list_all}
 use Rattle.std.proofs.Common.{◌++◌}
 use Rattle.model_terms.specs.Variables.{Var}
 use Rattle.model_commands.specs.SortTests.{is_program}
-use Rattle.dom_syntax.specs.SameCommands.{same_command}
-use Rattle.dom_syntax.proofs.SameCommands.{same_command-is, same_command-refl}
+use Rattle.theory_syntax.specs.SameCommands.{same_command}
+use Rattle.theory_syntax.proofs.SameCommands.{same_command-is, same_command-refl}
 use Rattle.model_terms.specs.Terms.{Term}
 use Rattle.std.proofs.lemmas.Bool.Decides.{same_from_decides}
 use Rattle.std.proofs.lemmas.List.Folds.{list_all-append}

@@ -4,8 +4,8 @@ use Rattle.std.specs.List.{find, slice_get}
 use Rattle.std.specs.Option.{option_map}
 use Rattle.std.proofs.lemmas.Option.{same_Some}
 use Rattle.std.proofs.lemmas.Bool.{and_parts, and_from, cond-true, cond-false, eqb-true, eq-eqb, ne_eqb}
-use Rattle.dom_syntax.specs.declared.steps.Step.{Step}
-use Rattle.dom_syntax.specs.Judgements.{step_of, judgement_of}
+use Rattle.theory_syntax.specs.declared.steps.Step.{Step}
+use Rattle.theory_syntax.specs.Judgements.{step_of, judgement_of}
 use Rattle.hoare_kernel.specs.Citable.{AreCitable}
 use Rattle.hoare_kernel.specs.Sizes.{StepsAreSmall, JudgementIsSmall}
 use Rattle.hoare_kernel.specs.Tests.{are_numbered, cited, last_step}

@@ -1,8 +1,8 @@
 -- What is known of the earlier steps of a proof, where one of them is cited. Nothing here is to be
 -- believed: no call of other crates asks it.
 use Rattle.std.specs.Prelude.{◌≡◌, Bool, true, List, map}
-use Rattle.dom_syntax.specs.declared.steps.Step.{Step}
-use Rattle.dom_syntax.specs.Judgements.{step_of}
+use Rattle.theory_syntax.specs.declared.steps.Step.{Step}
+use Rattle.theory_syntax.specs.Judgements.{step_of}
 use Rattle.hoare_kernel.specs.Sizes.{StepsAreSmall}
 use Rattle.hoare_kernel.specs.Tests.{are_numbered}
 

@@ -13,8 +13,8 @@ use Rattle.model_groves.specs.Groves.{is_yes}
 use Rattle.model_commands.specs.Commands.{Command, skip, assign, block, Block, stop, ◌then◌}
 use Rattle.model_commands.specs.Theories.{JudgementOf, entails, triple, Reason, auto, by_rule, StepOf, ProcedureOf}
 use Rattle.model_commands.specs.SortTests.{evaluates, has_command}
-use Rattle.dom_syntax.specs.SameCommands.{same_command}
-use Rattle.dom_syntax.specs.declared.steps.Step.{Step}
+use Rattle.theory_syntax.specs.SameCommands.{same_command}
+use Rattle.theory_syntax.specs.declared.steps.Step.{Step}
 
 -- the formulas are the same
 abbrev pub same_test : Named → Named → Bool

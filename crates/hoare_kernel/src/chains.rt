@@ -2,15 +2,15 @@
 ghost use Rattle.std.specs.Prelude.{◌≡◌, IfOk, MatchOption, Some, None, map};
 ghost use Rattle.dom_terms.specs.Sorts.{data_sort_of};
 ghost use Rattle.formula_syntax.specs.Formulas.{formula_of};
-ghost use Rattle.dom_syntax.specs.Commands.{block_of, command_of};
-ghost use Rattle.dom_syntax.specs.Judgements.{judgement_of, step_of, triple_of};
+ghost use Rattle.theory_syntax.specs.Commands.{block_of, command_of};
+ghost use Rattle.theory_syntax.specs.Judgements.{judgement_of, step_of, triple_of};
 ghost use Rattle.hoare_kernel.specs.Citable.{AreCitable};
 ghost use Rattle.hoare_kernel.specs.Sizes.{IsSmall, JudgementIsSmall};
 ghost use Rattle.hoare_kernel.specs.Tests as test;
 
 use crate::citations::cited;
 use crate::same::{are_equal, same};
-use dom_syntax::{Command, Judgement, Step, Triple};
+use theory_syntax::{Command, Judgement, Step, Triple};
 use dom_terms::{DataSort, OutOfMemory, same_data_sort};
 use formula_syntax::Formula;
 use std::alloc::Global;

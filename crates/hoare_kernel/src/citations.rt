@@ -2,12 +2,12 @@
 ghost use Rattle.std.specs.Prelude.{◌≡◌, ◌==◌, MatchOption, Some, None, map, true};
 ghost use Rattle.std.specs.List.{find};
 ghost use Rattle.std.specs.Option.{option_copied};
-ghost use Rattle.dom_syntax.specs.Judgements.{judgement_of, step_of};
+ghost use Rattle.theory_syntax.specs.Judgements.{judgement_of, step_of};
 ghost use Rattle.hoare_kernel.specs.Citable.{AreCitable};
 ghost use Rattle.hoare_kernel.specs.Sizes.{JudgementIsSmall};
 ghost use Rattle.hoare_kernel.specs.Tests as test;
 
-use dom_syntax::{Judgement, Step};
+use theory_syntax::{Judgement, Step};
 
 /// Whether the steps are numbered 1, 2, 3 .., as those of a well-formed theory are.
 pub fn are_numbered(steps: &[Step]) -> bool

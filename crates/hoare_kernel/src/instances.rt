@@ -2,8 +2,8 @@
 ghost use Rattle.std.specs.Prelude.{◌≡◌, IfOk, map, []};
 ghost use Rattle.dom_terms.specs.Sorts.{data_sort_of};
 ghost use Rattle.formula_syntax.specs.Formulas.{formula_of};
-ghost use Rattle.dom_syntax.specs.Commands.{command_of};
-ghost use Rattle.dom_syntax.specs.Judgements.{judgement_of, step_of, triple_of};
+ghost use Rattle.theory_syntax.specs.Commands.{command_of};
+ghost use Rattle.theory_syntax.specs.Judgements.{judgement_of, step_of, triple_of};
 ghost use Rattle.hoare_kernel.specs.Citable.{AreCitable};
 ghost use Rattle.hoare_kernel.specs.Sizes.{JudgementIsSmall, StepsAreSmall};
 ghost use Rattle.hoare_kernel.specs.Tests as test;
@@ -12,7 +12,7 @@ use crate::chains::is_chain;
 use crate::citations::are_numbered;
 use crate::same::{is_replaced, same};
 use crate::terms::evaluates;
-use dom_syntax::{Command, Judgement, Reason, Step, Triple};
+use theory_syntax::{Command, Judgement, Reason, Step, Triple};
 use dom_terms::{List, Numbers, OutOfMemory, Text};
 use std::alloc::Global;
 

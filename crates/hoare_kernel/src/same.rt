@@ -2,12 +2,12 @@
 ghost use Rattle.std.specs.Prelude.{◌≡◌, IfOk};
 ghost use Rattle.formula_syntax.specs.Formulas.{formula_of};
 ghost use Rattle.dom_terms.specs.Terms.{prog_var_of, term_of};
-ghost use Rattle.dom_syntax.specs.Commands.{command_of};
-ghost use Rattle.dom_syntax.specs.SameCommands as commands;
+ghost use Rattle.theory_syntax.specs.Commands.{command_of};
+ghost use Rattle.theory_syntax.specs.SameCommands as commands;
 ghost use Rattle.hoare_kernel.specs.Sizes.{IsSmall};
 ghost use Rattle.hoare_kernel.specs.Tests as test;
 
-use dom_syntax::{Command, same_command};
+use theory_syntax::{Command, same_command};
 use dom_terms::{Copied, OutOfMemory, ProgVar, Term};
 use formula_syntax::{AnyVar, Formula, Pair, is_substitution, same_formula};
 use std::alloc::Global;

@@ -2,14 +2,14 @@
 ghost use Rattle.std.specs.Prelude.{◌≡◌, ◌↔◌, ◌&&◌, IfOk, IsTrue, map};
 ghost use Rattle.model_rules.specs.Accepted.{IsAccepted};
 ghost use Rattle.formula_syntax.specs.Formulas.{formula_of};
-ghost use Rattle.dom_syntax.specs.Judgements.{judgement_of, step_of, triple_of};
-ghost use Rattle.dom_syntax.specs.Theories.{procedure_of, theory_of};
+ghost use Rattle.theory_syntax.specs.Judgements.{judgement_of, step_of, triple_of};
+ghost use Rattle.theory_syntax.specs.Theories.{procedure_of, theory_of};
 ghost use Rattle.hoare_kernel.specs.Sizes.{JudgementIsSmall, ProcedureIsSmall, ProceduresAreSmall, StepsAreSmall, TheoryIsSmall};
 ghost use Rattle.hoare_kernel.specs.Tests as test;
 
 use crate::instances::are_instances;
 use crate::same::{are_equal, same};
-use dom_syntax::{Judgement, Procedure, Step, Theory, Triple};
+use theory_syntax::{Judgement, Procedure, Step, Theory, Triple};
 use dom_terms::{OutOfMemory, same_data_sort};
 use std::alloc::Global;
 

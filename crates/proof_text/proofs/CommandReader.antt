@@ -11,7 +11,7 @@ use Rattle.token_readers.specs.Reading.{Answer, Read, Deep, ret, then, sep_list,
 use Rattle.token_readers.proofs.Sound.{Sound, After, Behind, s_ret, s_then, s_when, s_case, s_deep, s_expect, s_expect_up, s_close}
 use Rattle.token_readers.proofs.Only.{Only, OrDeep, deep, read, Prefix_free, o_last, o_then}
 use Rattle.token_readers.proofs.Lists.{SpellsList, last, more, s_list, list_only}
-use Rattle.dom_syntax.specs.Commands.{block_with}
+use Rattle.theory_syntax.specs.Commands.{block_with}
 use Rattle.proof_text.specs.Expressions.{semicolon, term_at, in_brackets, block_at, value_at, setting_at, command_at}
 use Rattle.proof_text.proofs.LeafReader.{name_sound, name_only}
 use Rattle.proof_text.proofs.TermReader.{term_sound, term_only}

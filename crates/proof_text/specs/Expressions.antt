@@ -10,7 +10,7 @@ use Rattle.model_terms.specs.Terms.{Term, literal, variable, sum, difference, ap
 use Rattle.model_formulas.specs.Formulas.{Named, truth, conjunction, equality, empty}
 use Rattle.model_terms.specs.Stores.{ProgVar, named}
 use Rattle.model_commands.specs.Commands.{Command, skip, block, assign, create_node, node_name}
-use Rattle.dom_syntax.specs.Commands.{block_with}
+use Rattle.theory_syntax.specs.Commands.{block_with}
 use Rattle.model_text.specs.Lexemes.{Lexeme, name_lexeme, number_lexeme, literal_lexeme}
 use Rattle.model_grammar.specs.Expressions.{sort_among}
 use Rattle.model_limits.specs.Limits.{standard_limits}

@@ -1,14 +1,14 @@
 // Commands.
 ghost use Rattle.std.specs.Prelude.{◌≡◌, map};
 ghost use Rattle.dom_terms.specs.Terms.{prog_var_of, term_of};
-ghost use Rattle.dom_syntax.specs.Commands.{command_of};
+ghost use Rattle.theory_syntax.specs.Commands.{command_of};
 ghost use Rattle.token_readers.specs.Reading.{sep_list};
 ghost use Rattle.token_readers.specs.Giving.{Gives};
 ghost use Rattle.token_readers.specs.Leaves.{lexemes_in};
 ghost use Rattle.proof_text.specs.Expressions.{semicolon, term_at, in_brackets, value_at, setting_at, command_at};
 
 use crate::terms::{sort_named, term};
-use dom_syntax::{Block, Command};
+use theory_syntax::{Block, Command};
 use dom_terms::{ProgVar, Term, Vars};
 use std::alloc::Global;
 use text_tokens::Token;

@@ -3,7 +3,7 @@ ghost use Rattle.std.specs.Prelude.{◌≡◌, map};
 ghost use Rattle.std.specs.Option.{option_map};
 ghost use Rattle.dom_terms.specs.Sorts.{data_sort_of};
 ghost use Rattle.dom_terms.specs.Terms.{prog_var_of};
-ghost use Rattle.dom_syntax.specs.Judgements.{judgement_of};
+ghost use Rattle.theory_syntax.specs.Judgements.{judgement_of};
 ghost use Rattle.token_readers.specs.Reading.{leaf};
 ghost use Rattle.token_readers.specs.Giving.{Gives};
 ghost use Rattle.token_readers.specs.Leaves.{seen, lexemes_in};
@@ -11,7 +11,7 @@ ghost use Rattle.proof_text.specs.Readers.{leaf_sort, judgement_at};
 
 use crate::commands::command;
 use crate::formulas::formula;
-use dom_syntax::{Judgement, Triple};
+use theory_syntax::{Judgement, Triple};
 use dom_terms::{DataSort, Vars};
 use std::alloc::Global;
 use text_tokens::Token;

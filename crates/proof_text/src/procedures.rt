@@ -2,7 +2,7 @@
 ghost use Rattle.std.specs.Prelude.{◌≡◌, [], ◌∷◌, map};
 ghost use Rattle.dom_terms.specs.Sorts.{data_sort_of};
 ghost use Rattle.dom_terms.specs.Terms.{prog_var_of};
-ghost use Rattle.dom_syntax.specs.Theories.{procedure_of};
+ghost use Rattle.theory_syntax.specs.Theories.{procedure_of};
 ghost use Rattle.token_readers.specs.Giving.{Gives};
 ghost use Rattle.token_readers.specs.Leaves.{lexemes_in};
 ghost use Rattle.token_readers.proofs.Lists.{with_front};
@@ -13,7 +13,7 @@ use crate::declarations::{declarations, joined};
 use crate::formulas::formula;
 use crate::judgements::data_sort;
 use crate::steps::steps;
-use dom_syntax::{Procedure, Procedures};
+use theory_syntax::{Procedure, Procedures};
 use dom_terms::{DataSort, Text, Vars};
 use std::alloc::Global;
 use text_tokens::Token;

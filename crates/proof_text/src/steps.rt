@@ -1,7 +1,7 @@
 // Steps of proofs.
 ghost use Rattle.std.specs.Prelude.{◌≡◌, map};
 ghost use Rattle.dom_terms.specs.Terms.{prog_var_of, term_of};
-ghost use Rattle.dom_syntax.specs.Judgements.{step_of};
+ghost use Rattle.theory_syntax.specs.Judgements.{step_of};
 ghost use Rattle.token_readers.specs.Reading.{leaf, sep_list, many};
 ghost use Rattle.token_readers.specs.Giving.{Gives};
 ghost use Rattle.token_readers.specs.Leaves.{lexemes_in, leaf_number, leaf_step};
@@ -10,7 +10,7 @@ ghost use Rattle.proof_text.specs.Readers.{comma, bracketed_at, arguments_at, st
 
 use crate::judgements::judgement;
 use crate::terms::term;
-use dom_syntax::{Reason, Step, Steps};
+use theory_syntax::{Reason, Step, Steps};
 use dom_terms::{Numbers, Terms, Vars};
 use std::alloc::Global;
 use text_tokens::Token;

@@ -2,14 +2,14 @@
 ghost use Rattle.std.specs.Prelude.{◌≡◌, IfOk, IsErrOf};
 ghost use Rattle.model_commands.specs.Theories.{Theory as Spelled};
 ghost use Rattle.model_grammar.specs.Grammar.{SpellsTheory};
-ghost use Rattle.dom_syntax.specs.Theories.{theory_of};
+ghost use Rattle.theory_syntax.specs.Theories.{theory_of};
 ghost use Rattle.token_readers.specs.Giving.{Gives};
 ghost use Rattle.token_readers.specs.Spelling.{whole};
 ghost use Rattle.token_readers.specs.Leaves.{lexemes_in};
 ghost use Rattle.proof_text.specs.Readers.{theory_at};
 
 use crate::procedures::procedures;
-use dom_syntax::Theory;
+use theory_syntax::Theory;
 use dom_terms::LogicVars;
 use std::alloc::Global;
 use text_tokens::{Token, Tokens};

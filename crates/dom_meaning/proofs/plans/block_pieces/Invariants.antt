@@ -1,7 +1,7 @@
 use Rattle.std.proofs.Common.{◌≡◌, map, Bor}
 use Rattle.model_machine.specs.Machine.{run}
-use Rattle.dom_syntax.specs.declared.commands.Command.{Command}
-use Rattle.dom_syntax.specs.Commands.{command_of}
+use Rattle.theory_syntax.specs.declared.commands.Command.{Command}
+use Rattle.theory_syntax.specs.Commands.{command_of}
 use Rattle.dom_meaning.specs.Configs.{piece_of}
 use Rattle.dom_meaning.proofs.plans.block_pieces.Given as goal
 

@@ -6,10 +6,10 @@ use Rattle.model_machine.specs.Outcomes.{step_limit}
 use Rattle.dom_terms.specs.Terms.{prog_var_of, term_of}
 use Rattle.dom_terms.specs.Stores.{store_of}
 use Rattle.grove_data.specs.Trees.{forest_of}
-use Rattle.dom_syntax.specs.Commands.{command_of, command_step}
-use Rattle.dom_syntax.specs.declared.commands.Command.TheOpen.{Command-F}
-use Rattle.dom_syntax.specs.declared.commands.Command.TheFolds.{fold-roll-Command}
-use Rattle.dom_syntax.specs.declared.commands.Command.TheVariants.{rolls-Create}
+use Rattle.theory_syntax.specs.Commands.{command_of, command_step}
+use Rattle.theory_syntax.specs.declared.commands.Command.TheOpen.{Command-F}
+use Rattle.theory_syntax.specs.declared.commands.Command.TheFolds.{fold-roll-Command}
+use Rattle.theory_syntax.specs.declared.commands.Command.TheVariants.{rolls-Create}
 use Rattle.dom_meaning.specs.Faults.{TellsLimit}
 use Rattle.dom_meaning.proofs.plans.command_planned.Goals as goal
 

@@ -4,7 +4,7 @@ use Rattle.model_machine.specs.Outcomes.{Outcome, outcome}
 use Rattle.model_limits.specs.Limits.{standard_limits}
 use Rattle.dom_terms.specs.declared.terms.ProgVar.{ProgVar}
 use Rattle.dom_terms.specs.Terms.{prog_var_of}
-use Rattle.dom_syntax.specs.Theories.{theory_of}
+use Rattle.theory_syntax.specs.Theories.{theory_of}
 use Rattle.dom_meaning.specs.Configs.{config_of}
 use Rattle.dom_meaning.specs.Runs.{IsOutcome}
 use Rattle.dom_meaning.proofs.runs.run_plain.Goals as goal

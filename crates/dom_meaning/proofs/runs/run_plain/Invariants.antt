@@ -3,7 +3,7 @@ use Rattle.model_commands.specs.Theories.{procedures_of}
 use Rattle.model_limits.specs.Limits.{standard_limits}
 use Rattle.model_machine.specs.Outcomes.{outcome}
 use Rattle.dom_terms.specs.Terms.{prog_var_of}
-use Rattle.dom_syntax.specs.Theories.{theory_of}
+use Rattle.theory_syntax.specs.Theories.{theory_of}
 use Rattle.dom_meaning.specs.Configs.{config_of}
 use Rattle.dom_meaning.specs.Built.{IsRunnable}
 use Rattle.dom_meaning.proofs.runs.run_plain.Given as goal

@@ -3,7 +3,7 @@ use Rattle.model_commands.specs.Theories.{procedures_of}
 use Rattle.model_machine.specs.Machine.{step, next, done, at_fault}
 use Rattle.model_machine.specs.Outcomes.{Outcome, ends_at, has_fault, first_command}
 use Rattle.dom_terms.specs.Terms.{prog_var_of}
-use Rattle.dom_syntax.specs.Theories.{theory_of}
+use Rattle.theory_syntax.specs.Theories.{theory_of}
 use Rattle.dom_meaning.specs.declared.configurations.Config.{Config}
 use Rattle.dom_meaning.specs.Configs.{config_of}
 use Rattle.dom_meaning.specs.Faults.{fault_kind_of}

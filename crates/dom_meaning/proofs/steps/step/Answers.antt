@@ -5,7 +5,7 @@ use Rattle.model_machine.specs.Outcomes.{step_limit}
 use Rattle.model_files.proofs.WellFormedTheories.{well-formed-bodies}
 use Rattle.dom_terms.specs.Stores.{store_of}
 use Rattle.grove_data.specs.Trees.{forest_of}
-use Rattle.dom_syntax.specs.Theories.{theory_of}
+use Rattle.theory_syntax.specs.Theories.{theory_of}
 use Rattle.dom_meaning.specs.Configs.{config_of, pick_of, piece_of, pieces_in}
 use Rattle.dom_meaning.specs.Faults.{fault_kind_of, TellsLimit}
 use Rattle.dom_meaning.proofs.FirstPieces.{others, is_last, piece_is_built, piece_fits, piece_limit, it_faults, it_picks, it_becomes}

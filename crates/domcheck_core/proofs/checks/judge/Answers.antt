@@ -1,5 +1,5 @@
 use Rattle.std.proofs.Common.{◌≡◌, true, false, Bool}
-use Rattle.dom_syntax.specs.Theories.{theory_of}
+use Rattle.theory_syntax.specs.Theories.{theory_of}
 use Rattle.domcheck_core.specs.Answers.{CheckAnswer, says_yes, says_no}
 use Rattle.domcheck_core.proofs.Counts.{few_lexemes}
 use Rattle.domcheck_core.proofs.Small.{theory_small}

@@ -3,7 +3,7 @@ use Rattle.std.proofs.lemmas.Bool.{and_parts}
 use Rattle.model_text.specs.Lexemes.{Lexeme}
 use Rattle.model_grammar.specs.Grammar.{SpellsTheory}
 use Rattle.model_grammar.specs.Files.{IsOfForm}
-use Rattle.dom_syntax.specs.Theories.{theory_of}
+use Rattle.theory_syntax.specs.Theories.{theory_of}
 use Rattle.proof_text.proofs.Exact.{one_theory}
 use Rattle.domcheck_core.proofs.Spelling.{same_lexemes}
 use Rattle.domcheck_core.proofs.Tested.{neither, tested}

@@ -4,8 +4,8 @@ use Rattle.std.specs.List.{list_all}
 use Rattle.model_grammar.specs.FirstForm.{declares_none, is_first_procedure}
 use Rattle.dom_terms.specs.Terms.{prog_var_of}
 use Rattle.dom_terms.specs.Values.{value_seen}
-use Rattle.dom_syntax.specs.declared.theories.Procedure.{Procedure}
-use Rattle.dom_syntax.specs.Theories.{procedure_of, theory_of}
+use Rattle.theory_syntax.specs.declared.theories.Procedure.{Procedure}
+use Rattle.theory_syntax.specs.Theories.{procedure_of, theory_of}
 use Rattle.domcheck_core.proofs.Outcomes.{built_at, whole, ran, on_grove}
 use Rattle.domcheck_core.proofs.runs.run_on.Goals as goal
 

@@ -1,6 +1,6 @@
 use Rattle.std.proofs.Common.{◌≡◌, map, drop}
 use Rattle.dom_terms.specs.Terms.{prog_var_of}
-use Rattle.dom_syntax.specs.Commands.{block_of}
+use Rattle.theory_syntax.specs.Commands.{block_of}
 use Rattle.first_form.specs.FormTests.{does_block_fit}
 use Rattle.first_form.proofs.commands.+does_command_fit.Given as goal
 

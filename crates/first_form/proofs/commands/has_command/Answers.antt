@@ -1,7 +1,7 @@
 use Rattle.std.proofs.Common.{◌≡◌, ◌≤◌, ◌∙◌, ap, true, refl, List, [], ◌∷◌, length, arith}
 use Rattle.model_commands.specs.SortTests.{has_command}
-use Rattle.dom_syntax.specs.Commands.{block_of}
-use Rattle.dom_syntax.specs.declared.commands.Command.{Command}
+use Rattle.theory_syntax.specs.Commands.{block_of}
+use Rattle.theory_syntax.specs.declared.commands.Command.{Command}
 use Rattle.first_form.proofs.commands.has_command.Goals as goal
 
 -- a list that isn't empty

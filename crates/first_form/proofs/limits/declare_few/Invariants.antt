@@ -1,6 +1,6 @@
 use Rattle.std.proofs.Common.{◌≡◌, length, map, true}
 use Rattle.std.specs.List.{list_all}
-use Rattle.dom_syntax.specs.Theories.{procedure_of}
+use Rattle.theory_syntax.specs.Theories.{procedure_of}
 use Rattle.model_files.specs.FileLimits.{variables_within}
 use Rattle.model_grammar.specs.FirstForm.{is_first_procedure}
 use Rattle.first_form.proofs.limits.declare_few.Given as goal

@@ -1,7 +1,7 @@
 use Rattle.std.proofs.Common.{rules}
 use Rattle.std.proofs.lemmas.List.{length-map}
 use Rattle.dom_terms.specs.Terms.{prog_var_of}
-use Rattle.dom_syntax.specs.Theories.{procedure_of}
+use Rattle.theory_syntax.specs.Theories.{procedure_of}
 use Rattle.first_form.proofs.FormTheorem.{declared-count}
 use Rattle.first_form.proofs.limits.declares_few.Goals as goal
 

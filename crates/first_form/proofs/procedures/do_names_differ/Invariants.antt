@@ -1,6 +1,6 @@
 use Rattle.std.proofs.Common.{◌≡◌, ℕ, List, [], length, map}
 use Rattle.std.specs.HashSet.{contains_text}
-use Rattle.dom_syntax.specs.Theories.{procedure_of}
+use Rattle.theory_syntax.specs.Theories.{procedure_of}
 use Rattle.first_form.specs.FormTests.{do_names_differ, is_name_among}
 use Rattle.first_form.proofs.procedures.do_names_differ.Given as goal
 

@@ -1,5 +1,5 @@
 use Rattle.std.proofs.Common.{◌≡◌, length, map}
-use Rattle.dom_syntax.specs.Theories.{procedure_of}
+use Rattle.theory_syntax.specs.Theories.{procedure_of}
 use Rattle.first_form.specs.FormTests.{do_procedures_fit}
 use Rattle.first_form.proofs.procedures.do_procedures_fit.Given as goal
 

@@ -2,7 +2,7 @@ use Rattle.std.proofs.Common.{◌≡◌, sym, ◌∙◌, Result, Ok, Err, Bool, 
 use Rattle.std.specs.Prelude.{◌↔◌}
 use Rattle.model_commands.specs.Theories.{Theory}
 use Rattle.model_files.specs.FileFaults.{IsWellFormedTheory}
-use Rattle.dom_syntax.specs.Theories.{theory_of}
+use Rattle.theory_syntax.specs.Theories.{theory_of}
 use Rattle.model_grammar.specs.FirstForm.{is_first_form}
 use Rattle.first_form.specs.FormTests.{does_theory_fit}
 use Rattle.first_form.proofs.FormTheorem.{fitting_is, is_fitting}

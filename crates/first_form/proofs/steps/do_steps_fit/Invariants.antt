@@ -1,6 +1,6 @@
 use Rattle.std.proofs.Common.{◌≡◌, ◌+◌, length, map}
 use Rattle.dom_terms.specs.Terms.{prog_var_of}
-use Rattle.dom_syntax.specs.Judgements.{step_of}
+use Rattle.theory_syntax.specs.Judgements.{step_of}
 use Rattle.first_form.specs.FormTests.{do_steps_fit}
 use Rattle.first_form.proofs.steps.do_steps_fit.Given as goal
 

@@ -4,9 +4,9 @@ use Rattle.model_formulas.specs.Formulas.{Named}
 use Rattle.model_commands.specs.Theories.{StepOf}
 use Rattle.dom_terms.specs.Sorts.{data_sort_of}
 use Rattle.formula_syntax.specs.Formulas.{formula_of}
-use Rattle.dom_syntax.specs.Commands.{block_of}
-use Rattle.dom_syntax.specs.Judgements.{step_of}
-use Rattle.dom_syntax.specs.declared.commands.Command.{Command}
+use Rattle.theory_syntax.specs.Commands.{block_of}
+use Rattle.theory_syntax.specs.Judgements.{step_of}
+use Rattle.theory_syntax.specs.declared.commands.Command.{Command}
 use Rattle.hoare_kernel.specs.Tests.{ends, reached}
 use Rattle.hoare_kernel.proofs.chains.is_chain.Goals as goal
 

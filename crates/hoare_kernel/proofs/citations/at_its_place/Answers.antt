@@ -3,7 +3,7 @@ use Rattle.std.specs.List.{slice_get}
 use Rattle.std.specs.Option.{option_copied}
 use Rattle.std.specs.Slice.{IsGetResult}
 use Rattle.std.proofs.lemmas.Option.{slice_get_past, slice_get_read}
-use Rattle.dom_syntax.specs.declared.steps.Step.{Step}
+use Rattle.theory_syntax.specs.declared.steps.Step.{Step}
 use Rattle.hoare_kernel.proofs.Steps.{none_is_zero, at_its_place}
 use Rattle.hoare_kernel.proofs.citations.at_its_place.Goals as goal
 

@@ -1,6 +1,6 @@
 use Rattle.std.proofs.Common.{sym, subst, arith}
-use Rattle.dom_syntax.specs.Judgements.{judgement_of}
-use Rattle.dom_syntax.specs.declared.steps.Step.{Step}
+use Rattle.theory_syntax.specs.Judgements.{judgement_of}
+use Rattle.theory_syntax.specs.declared.steps.Step.{Step}
 use Rattle.hoare_kernel.specs.Sizes.{JudgementIsSmall}
 use Rattle.hoare_kernel.proofs.Steps.{small_at, citable_before}
 use Rattle.hoare_kernel.proofs.instances.are_instances.Goals as goal

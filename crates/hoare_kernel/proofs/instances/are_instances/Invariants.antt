@@ -1,5 +1,5 @@
 use Rattle.std.proofs.Common.{◌≡◌, [], map, take, drop}
-use Rattle.dom_syntax.specs.Judgements.{step_of}
+use Rattle.theory_syntax.specs.Judgements.{step_of}
 use Rattle.hoare_kernel.specs.Tests.{instances_test}
 use Rattle.hoare_kernel.proofs.instances.are_instances.Given as goal
 

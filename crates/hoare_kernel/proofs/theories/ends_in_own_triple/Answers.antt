@@ -1,6 +1,6 @@
 use Rattle.std.proofs.Common.{◌≡◌, ◌∙◌, sym, ap, subst, arith, map, length, ◌-◌, Some}
-use Rattle.dom_syntax.specs.declared.steps.Step.{Step}
-use Rattle.dom_syntax.specs.Judgements.{step_of, judgement_of}
+use Rattle.theory_syntax.specs.declared.steps.Step.{Step}
+use Rattle.theory_syntax.specs.Judgements.{step_of, judgement_of}
 use Rattle.hoare_kernel.specs.Sizes.{JudgementIsSmall}
 use Rattle.hoare_kernel.specs.Tests.{last_step}
 use Rattle.hoare_kernel.proofs.Steps.{at_last, small_at}

@@ -1,6 +1,6 @@
 use Rattle.std.proofs.Common.{◌≡◌, ◌+◌, ◌-◌, ◌*◌, map}
 use Rattle.dom_terms.specs.Terms.{prog_var_of}
-use Rattle.dom_syntax.specs.Commands.{command_of}
+use Rattle.theory_syntax.specs.Commands.{command_of}
 use Rattle.token_readers.specs.Reading.{sep_list}
 use Rattle.token_readers.specs.Leaves.{lexemes_in}
 use Rattle.token_readers.proofs.Lists.{with_front}

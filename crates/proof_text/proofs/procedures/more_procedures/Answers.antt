@@ -3,7 +3,7 @@ use Rattle.std.proofs.lemmas.Result.{err_from_is_err_and}
 use Rattle.std.proofs.lemmas.List.{map_push}
 use Rattle.std.specs.Option.{option_map}
 use Rattle.model_text.specs.Lexemes.{Lexeme}
-use Rattle.dom_syntax.specs.Theories.{procedure_of}
+use Rattle.theory_syntax.specs.Theories.{procedure_of}
 use Rattle.token_readers.specs.Reading.{after, first, the_terminal, is_terminal}
 use Rattle.token_readers.specs.Leaves.{lexemes_in}
 use Rattle.token_readers.proofs.Lists.{many_goes_on, many_breaks, many_done}

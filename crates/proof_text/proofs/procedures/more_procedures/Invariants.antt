@@ -1,5 +1,5 @@
 use Rattle.std.proofs.Common.{◌≡◌, ◌-◌, map, codes, [], ◌∷◌}
-use Rattle.dom_syntax.specs.Theories.{procedure_of}
+use Rattle.theory_syntax.specs.Theories.{procedure_of}
 use Rattle.token_readers.specs.Reading.{many, the_terminal}
 use Rattle.token_readers.specs.Leaves.{lexemes_in}
 use Rattle.token_readers.proofs.Lists.{with_front}

@@ -2,7 +2,7 @@ use Rattle.std.proofs.Common.{◌≡◌, ◌++◌, ◌∷◌, [], sym, map}
 use Rattle.std.proofs.lemmas.Result.{err_from_is_err_and}
 use Rattle.std.proofs.lemmas.List.{map_push}
 use Rattle.dom_terms.specs.Terms.{prog_var_of}
-use Rattle.dom_syntax.specs.Judgements.{step_of}
+use Rattle.theory_syntax.specs.Judgements.{step_of}
 use Rattle.token_readers.specs.Leaves.{leaf_step}
 use Rattle.token_readers.proofs.Lists.{many_goes_on, many_breaks, many_done}
 use Rattle.proof_text.specs.Readers.{step_tail}

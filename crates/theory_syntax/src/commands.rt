@@ -1,6 +1,6 @@
 // Commands and blocks.
 ghost use Rattle.std.specs.Prelude.{◌≡◌, IfOk, map};
-ghost use Rattle.dom_syntax.specs.Commands.{command_of};
+ghost use Rattle.theory_syntax.specs.Commands.{command_of};
 
 use dom_terms::{Cond, Copied, List, OutOfMemory, ProgVar, Term, Terms, Text, Vars};
 use std::alloc::Global;

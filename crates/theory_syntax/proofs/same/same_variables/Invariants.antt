@@ -1,7 +1,7 @@
 use Rattle.std.proofs.Common.{◌≡◌, map, drop}
 use Rattle.dom_terms.specs.Terms.{prog_var_of}
-use Rattle.dom_syntax.specs.SameCommands.{same_vars}
-use Rattle.dom_syntax.proofs.same.same_variables.Given as goal
+use Rattle.theory_syntax.specs.SameCommands.{same_vars}
+use Rattle.theory_syntax.proofs.same.same_variables.Given as goal
 
 abbrev pub invariant-loop-variable : goal.invariant-loop-variable
 invariant-loop-variable l =

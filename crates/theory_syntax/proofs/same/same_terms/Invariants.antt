@@ -1,7 +1,7 @@
 use Rattle.std.proofs.Common.{◌≡◌, map, drop}
 use Rattle.dom_terms.specs.Terms.{term_of}
-use Rattle.dom_syntax.specs.SameCommands.{same_terms}
-use Rattle.dom_syntax.proofs.same.same_terms.Given as goal
+use Rattle.theory_syntax.specs.SameCommands.{same_terms}
+use Rattle.theory_syntax.proofs.same.same_terms.Given as goal
 
 abbrev pub invariant-loop-term : goal.invariant-loop-term
 invariant-loop-term l =

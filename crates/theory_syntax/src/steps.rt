@@ -1,6 +1,6 @@
 // Steps of proofs, with the reasons why they hold.
 ghost use Rattle.std.specs.Prelude.{◌≡◌, IfOk};
-ghost use Rattle.dom_syntax.specs.Judgements.{reason_of, step_of};
+ghost use Rattle.theory_syntax.specs.Judgements.{reason_of, step_of};
 
 use crate::judgements::Judgement;
 use dom_terms::{Copied, List, Numbers, OutOfMemory, Terms, Text};

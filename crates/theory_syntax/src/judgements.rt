@@ -1,6 +1,6 @@
 // Triples and judgements.
 ghost use Rattle.std.specs.Prelude.{◌≡◌, IfOk};
-ghost use Rattle.dom_syntax.specs.Judgements.{triple_of, judgement_of};
+ghost use Rattle.theory_syntax.specs.Judgements.{triple_of, judgement_of};
 
 use crate::commands::Command;
 use dom_terms::{Copied, DataSort, OutOfMemory};

@@ -1,9 +1,9 @@
 use Rattle.std.proofs.Common.{◌≡◌, ◌∙◌, sym, refl, false, List, [], ◌∷◌, ◌≤◌, length, arith}
 use Rattle.std.proofs.lemmas.List.{at_drop_all}
-use Rattle.dom_syntax.specs.Commands.{block_of}
-use Rattle.dom_syntax.specs.SameCommands.{same_block}
-use Rattle.dom_syntax.specs.declared.commands.Command.{Command}
-use Rattle.dom_syntax.proofs.same.+same_command.Goals as goal
+use Rattle.theory_syntax.specs.Commands.{block_of}
+use Rattle.theory_syntax.specs.SameCommands.{same_block}
+use Rattle.theory_syntax.specs.declared.commands.Command.{Command}
+use Rattle.theory_syntax.proofs.same.+same_command.Goals as goal
 
 -- no commands are left of the one, and some of the other
 some-left : (others : List Command) → 1 ≤ length others

@@ -1,6 +1,6 @@
 // Procedures and theories.
 ghost use Rattle.std.specs.Prelude.{◌≡◌, IfOk};
-ghost use Rattle.dom_syntax.specs.Theories.{procedure_of, theory_of};
+ghost use Rattle.theory_syntax.specs.Theories.{procedure_of, theory_of};
 
 use crate::commands::Command;
 use crate::steps::Steps;

@@ -5,8 +5,8 @@ use Rattle.model_commands.specs.Commands as model
 use Rattle.model_commands.specs.Commands.{stop, ◌then◌}
 use Rattle.dom_terms.specs.Terms.{prog_var_of, term_of}
 use Rattle.dom_terms.specs.Conditions.{cond_of}
-use Rattle.dom_syntax.specs.declared.commands.Command.{Command, fold-Command}
-use Rattle.dom_syntax.specs.declared.commands.Command.TheOpen.{Command-F}
+use Rattle.theory_syntax.specs.declared.commands.Command.{Command, fold-Command}
+use Rattle.theory_syntax.specs.declared.commands.Command.TheOpen.{Command-F}
 
 -- the commands of a list, one after another
 abbrev pub block_with : List model.Command → model.Block

@@ -4,8 +4,8 @@ ghost use Rattle.model_terms.specs.Stores.{same_name};
 ghost use Rattle.model_formulas.specs.SameFormulas as formula_tests;
 ghost use Rattle.dom_terms.specs.Terms.{prog_var_of, term_of};
 ghost use Rattle.dom_terms.specs.Conditions.{cond_of};
-ghost use Rattle.dom_syntax.specs.Commands.{command_of, block_of};
-ghost use Rattle.dom_syntax.specs.SameCommands as tests;
+ghost use Rattle.theory_syntax.specs.Commands.{command_of, block_of};
+ghost use Rattle.theory_syntax.specs.SameCommands as tests;
 
 use crate::commands::{Block, Command};
 use dom_terms::{Cond, ProgVar, Term, Terms, Vars, same_logic_var, same_prog_var, same_text};

@@ -11,7 +11,7 @@ use Rattle.model_terms.specs.Stores.{ProgVar, same_name}
 use Rattle.model_terms.proofs.StoreLaws.{same_name-is, same_name-refl}
 use Rattle.model_terms.specs.Conditions.{Cond, cond_true, cond_false, cond_variable, cond_equal, cond_at_most, cond_not, cond_and, cond_or}
 use Rattle.model_commands.specs.Commands.{Command, skip, block, assign, create_node, node_name, child_nodes, parent_node, list_item, append_child, remove_child, if_else, while_do, local, call, Block, stop, ◌then◌}
-use Rattle.dom_syntax.specs.SameCommands.{same_terms, same_vars, same_cond, same_command, same_block}
+use Rattle.theory_syntax.specs.SameCommands.{same_terms, same_vars, same_cond, same_command, same_block}
 
 term-refl : (t : Term) → same_term t t ≡ true
 term-refl t = (same_formula-both (length_is t) (length_is t)).1 refl

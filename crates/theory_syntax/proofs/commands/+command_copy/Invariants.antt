@@ -1,6 +1,6 @@
 use Rattle.std.proofs.Common.{◌≡◌, map, take}
-use Rattle.dom_syntax.specs.Commands.{command_of}
-use Rattle.dom_syntax.proofs.commands.+command_copy.Given as goal
+use Rattle.theory_syntax.specs.Commands.{command_of}
+use Rattle.theory_syntax.proofs.commands.+command_copy.Given as goal
 
 abbrev pub invariant-copied_block-loop-command : goal.invariant-copied_block-loop-command
 invariant-copied_block-loop-command l =

@@ -5,10 +5,10 @@ use Rattle.model_commands.specs.Theories as model
 use Rattle.dom_terms.specs.Sorts.{data_sort_of}
 use Rattle.dom_terms.specs.Terms.{prog_var_of, logic_var_of}
 use Rattle.formula_syntax.specs.Formulas.{formula_of}
-use Rattle.dom_syntax.specs.Commands.{command_of}
-use Rattle.dom_syntax.specs.Judgements.{step_of}
-use Rattle.dom_syntax.specs.declared.theories.Procedure.{Procedure}
-use Rattle.dom_syntax.specs.declared.theories.Theory.{Theory}
+use Rattle.theory_syntax.specs.Commands.{command_of}
+use Rattle.theory_syntax.specs.Judgements.{step_of}
+use Rattle.theory_syntax.specs.declared.theories.Procedure.{Procedure}
+use Rattle.theory_syntax.specs.declared.theories.Theory.{Theory}
 
 -- the procedure
 abbrev pub procedure_of : Procedure → model.ProcedureOf Named

@@ -1,7 +1,7 @@
 use Rattle.std.proofs.Common.{◌≡◌, drop}
-use Rattle.dom_syntax.specs.Commands.{block_of}
-use Rattle.dom_syntax.specs.SameCommands.{same_block}
-use Rattle.dom_syntax.proofs.same.+same_command.Given as goal
+use Rattle.theory_syntax.specs.Commands.{block_of}
+use Rattle.theory_syntax.specs.SameCommands.{same_block}
+use Rattle.theory_syntax.proofs.same.+same_command.Given as goal
 
 abbrev pub invariant-do_blocks_agree-loop-command : goal.invariant-do_blocks_agree-loop-command
 invariant-do_blocks_agree-loop-command l =

@@ -8,13 +8,13 @@ use Rattle.dom_terms.specs.Sorts.{data_sort_of}
 use Rattle.dom_terms.specs.Terms.{term_of}
 use Rattle.formula_syntax.specs.Formulas.{formula_of}
 use Rattle.formula_syntax.specs.Entailments.{entailment_of}
-use Rattle.dom_syntax.specs.Commands.{command_of}
-use Rattle.dom_syntax.specs.declared.judgements.Triple.{Triple}
-use Rattle.dom_syntax.specs.declared.judgements.Judgement.{Judgement}
-use Rattle.dom_syntax.specs.declared.judgements.Judgement.TheVariants as j
-use Rattle.dom_syntax.specs.declared.steps.Reason.{Reason}
-use Rattle.dom_syntax.specs.declared.steps.Reason.TheVariants as r
-use Rattle.dom_syntax.specs.declared.steps.Step.{Step}
+use Rattle.theory_syntax.specs.Commands.{command_of}
+use Rattle.theory_syntax.specs.declared.judgements.Triple.{Triple}
+use Rattle.theory_syntax.specs.declared.judgements.Judgement.{Judgement}
+use Rattle.theory_syntax.specs.declared.judgements.Judgement.TheVariants as j
+use Rattle.theory_syntax.specs.declared.steps.Reason.{Reason}
+use Rattle.theory_syntax.specs.declared.steps.Reason.TheVariants as r
+use Rattle.theory_syntax.specs.declared.steps.Step.{Step}
 
 -- the judgement that the triple holds
 abbrev pub triple_of : Triple → model.JudgementOf Named
