@@ -14,14 +14,13 @@ ghost use Rattle.model_formulas.specs.Satisfaction.{Environment};
 ghost use Rattle.model_terms.specs.Stores.{ProgVar, Store, value_in, value_of};
 ghost use Rattle.model_commands.specs.Commands.{Command, Block, block, Modifies};
 ghost use Rattle.model_commands.specs.Theories.{Procedure, Procedures, triple};
-ghost use Rattle.model_commands.specs.Sorting.{Sorted};
 ghost use Rattle.model_groves.specs.Picks.{Pick};
 ghost use Rattle.model_machine.specs.Machine.{Piece, move, pieces_of, entering, holding_values, start, Config, configuration, beginning, next, step, ended, runs};
 ghost use Rattle.model_limits.specs.Limits.{Limits};
 ghost use Rattle.model_machine.specs.Outcomes.{outcome, no_pick};
 ghost use Rattle.model_machine.specs.Changes.{change_of};
 ghost use Rattle.model_machine.specs.Fitting.{ValuesFit, Fine, FitsConfig};
-ghost use Rattle.model_commands.specs.Sorting.{BodiesSorted};
+ghost use Rattle.model_commands.specs.SortTests.{BodiesSorted, is_sorted};
 ghost use Rattle.model_machine.specs.LocalTriples.{EndsWith, HoldsLocally};
 ghost use Rattle.model_machine.specs.ClassicalTriples.{Stands, TripleFor};
 ghost use Rattle.model_machine.specs.Blocks.{Followed};
@@ -32,7 +31,7 @@ ghost use Rattle.model_machine.specs.Behind.{Behind};
 /// beginning of a run does.
 pub fn a_run_begins_with_what_fits()
     ensures start { (ps : Procedures) (f : Procedure) (values : List Value) (roots : Trees)
-        → Sorted ps f.body → ValuesFit f.params values → Shaped (shape grove) roots
+        → is_sorted ps f.body ≡ true → ValuesFit f.params values → Shaped (shape grove) roots
         → FitsConfig ps (start f values roots) }
     ensures call { (params : List ProgVar) (arguments : List Term) (store : Store)
         → entering params arguments store
@@ -114,7 +113,7 @@ pub fn ends_plainly()
 /// context at the end can be computed. And a local triple is such a one.
 pub fn classical_triples_end_plainly()
     ensures plain { (ps : Procedures) (pre : Formula) (c : Command) (post : Formula) (d : DataSort)
-        → BodiesSorted ps → Sorted ps c → TripleFor ps (λ n. Unit) pre c post d
+        → BodiesSorted ps → is_sorted ps c ≡ true → TripleFor ps (λ n. Unit) pre c post d
         → HoldsLocally ps pre c post d }
     ensures classical { (ps : Procedures) (pre : Formula) (c : Command) (post : Formula)
         (d : DataSort) → HoldsLocally ps pre c post d → TripleFor ps (λ n. Unit) pre c post d }
