@@ -414,13 +414,16 @@ module _ (th : Procedures) where
       },
     )
     move-fine p (run (create_node x e)) st g s fine =
-        creating-fine p x (text_in (value_of st e)) st g (sorted-command th (create_node x e) s).0 fine
+        creating-fine p x (text_in (value_of st e)) st g
+        (sorted-command th (create_node x e) s).0 fine
     move-fine p (run (node_name x e)) st g s fine =
         reading-fine (node_at (value_of st e) g) no_node (λ s i k l. str s) x st g
-        (λ n i k l r q. subst (λ z. FitsValue z (str n)) (sym (sorted-command th (node_name x e) s).0) tt) fine
+        (λ n i k l r q. subst (λ z. FitsValue z (str n))
+        (sym (sorted-command th (node_name x e) s).0) tt) fine
     move-fine p (run (child_nodes x e)) st g s fine =
         reading-fine (node_at (value_of st e) g) no_node (λ s i k l. list_number l) x st g
-        (λ n i k l r q. subst (λ z. FitsValue z (list_number l)) (sym (sorted-command th (child_nodes x e) s).0)
+        (λ n i k l r q. subst (λ z. FitsValue z (list_number l))
+        (sym (sorted-command th (child_nodes x e) s).0)
         (not-zero l (zero-of n i k l r q))) fine
       where
         zero-of : (n : List ℕ) (i : ℕ) (k : Trees) (l : ℕ) (r : Trees)
@@ -438,7 +441,8 @@ module _ (th : Procedures) where
     move-fine p (run (list_item x e f)) st g s fine =
         reading-fine (list_at (value_of st e) g) no_list
         (λ s i k l. item_of (value_of st f) k) x st g
-        (λ n i k l r q. subst (λ z. FitsValue z (item_of (value_of st f) k)) (sym (sorted-command th (list_item x e f) s).0)
+        (λ n i k l r q. subst (λ z. FitsValue z (item_of (value_of st f) k))
+        (sym (sorted-command th (list_item x e f) s).0)
         (item-fits (value_of st f) k (zero-of n i k l r q))) fine
       where
         zero-of : (n : List ℕ) (i : ℕ) (k : Trees) (l : ℕ) (r : Trees)

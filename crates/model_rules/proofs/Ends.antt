@@ -97,7 +97,8 @@ module _ (ps : Procedures) (bodies : BodiesSorted ps) where
       → Well ps ⊥ n (At d around q e) (run c ∷ []) st g
 
   -- from the triple read classically
-  pub to_sound : (n : ℕ) (p : Formula) (c : Command) (q : Formula) (d : DataSort) → is_sorted ps c ≡ true
+  pub to_sound : (n : ℕ) (p : Formula) (c : Command) (q : Formula) (d : DataSort)
+      → is_sorted ps c ≡ true
       → TripleFor ps (UpTo n) p c q d → Sound n p c q d
   to_sound n p c q d so t e around wc st g a picks l =
       stable-Ends (At d around q e) (stable-At d around q e) (runs ps picks (beginning c st g))
