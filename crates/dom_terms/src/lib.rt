@@ -9,6 +9,7 @@ mod copied;
 mod evaluation;
 pub mod limits;
 mod list;
+mod made;
 mod memory;
 mod same;
 mod short;
@@ -24,6 +25,7 @@ pub use copied::Copied;
 pub use evaluation::eval;
 pub use limits::LimitKind;
 pub use list::List;
+pub use made::MadeOf;
 pub use memory::OutOfMemory;
 pub use same::{
     same_data_sort, same_logic_var, same_prog_var, same_sort, same_text, same_value_sort,
