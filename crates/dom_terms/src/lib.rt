@@ -17,6 +17,7 @@ mod sorts;
 mod store;
 mod terms;
 mod text;
+mod truth;
 mod values;
 mod verdicts;
 
@@ -28,12 +29,14 @@ pub use list::List;
 pub use made::MadeOf;
 pub use memory::OutOfMemory;
 pub use same::{
-    same_data_sort, same_logic_var, same_prog_var, same_sort, same_text, same_value_sort,
+    same_data_sort, same_logic_var, same_prog_var, same_sort, same_text, same_value,
+    same_value_sort,
 };
 pub use sorts::{DataSort, Sort, ValueSort};
 pub use store::Store;
 pub use terms::{LogicVar, ProgVar, Term};
 pub use text::Text;
+pub use truth::holds;
 pub use values::Value;
 pub use verdicts::{EvalFault, SideName, Verdict};
 
