@@ -7,6 +7,7 @@
 mod conditions;
 mod copied;
 mod evaluation;
+mod few;
 pub mod limits;
 mod list;
 mod made;
@@ -24,6 +25,7 @@ mod verdicts;
 pub use conditions::Cond;
 pub use copied::Copied;
 pub use evaluation::eval;
+pub use few::Few;
 pub use limits::LimitKind;
 pub use list::List;
 pub use made::MadeOf;
@@ -40,8 +42,8 @@ pub use truth::holds;
 pub use values::Value;
 pub use verdicts::{EvalFault, SideName, Verdict};
 
-/// A list of terms.
-pub type Terms = List<Term>;
+/// A list of terms: one or two lie in the value itself.
+pub type Terms = Few<Term, 2>;
 
 /// A list of program variables.
 pub type Vars = List<ProgVar>;
@@ -52,8 +54,8 @@ pub type LogicVars = List<LogicVar>;
 /// A list of values.
 pub type Values = List<Value>;
 
-/// A list of numbers.
-pub type Numbers = List<u32>;
+/// A list of numbers: up to four lie in the value itself.
+pub type Numbers = Few<u32, 4>;
 
 /// A list of texts.
 pub type Texts = List<Text>;
