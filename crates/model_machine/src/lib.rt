@@ -3,7 +3,7 @@
 //! Stands on model_commands and model_groves.
 #![tactic(auto)]
 
-ghost use Rattle.std.specs.Prelude.{◌≡◌, ℕ, List, [], ◌∷◌, map, true, None};
+ghost use Rattle.std.specs.Prelude.{◌≡◌, ℕ, List, [], ◌∷◌, map, true, Some, None, Contains};
 ghost use Rattle.model_shapes.specs.Sorts.{DataSort, grove, shape, context};
 ghost use Rattle.model_shapes.specs.Values.{Value};
 ghost use Rattle.model_shapes.specs.Trees.{Trees, WellFormed};
@@ -13,11 +13,13 @@ ghost use Rattle.model_formulas.specs.Formulas.{Formula};
 ghost use Rattle.model_formulas.specs.Satisfaction.{Environment};
 ghost use Rattle.model_terms.specs.Stores.{ProgVar, Store, value_in, value_of};
 ghost use Rattle.model_commands.specs.Commands.{Command, Block, block, Modifies};
+ghost use Rattle.model_commands.specs.CommandParts.{commands_in};
 ghost use Rattle.model_commands.specs.Theories.{Procedure, Procedures, triple};
 ghost use Rattle.model_groves.specs.Picks.{Pick};
-ghost use Rattle.model_machine.specs.Machine.{Piece, move, pieces_of, entering, holding_values, start, Config, configuration, beginning, next, step, ended, runs};
+ghost use Rattle.model_machine.specs.Machine.{FaultKind, Piece, run, move, pieces_of, entering, holding_values, start, Config, configuration, beginning, next, step, ended, runs};
 ghost use Rattle.model_limits.specs.Limits.{Limits};
-ghost use Rattle.model_machine.specs.Outcomes.{outcome, no_pick};
+ghost use Rattle.model_machine.specs.Outcomes.{outcome, has_fault, no_pick};
+ghost use Rattle.model_machine.specs.Parts.{parts_of, InSomeBody, after_picks};
 ghost use Rattle.model_machine.specs.Changes.{change_of};
 ghost use Rattle.model_machine.specs.Fitting.{ValuesFit, Fine, FitsConfig};
 ghost use Rattle.model_commands.specs.SortTests.{BodiesSorted, is_sorted};
@@ -91,6 +93,20 @@ pub fn steps_without_a_change_leave_the_grove()
 pub fn no_outcome_is_a_bad_pick()
     ensures { (limits : Limits) (ps : Procedures) (results : List ProgVar) (fuel taken : ℕ)
         (config : Config) → outcome limits ps results fuel taken config ≡ no_pick → ⊥ }
+{}
+
+/// What runs stands in the bodies of the procedures: over any picks, a command that is pending is
+/// part of a body, and one that faults within the fuel is a command of a body.
+pub fn what_runs_stands_in_a_body()
+    ensures pending { (ps : Procedures) (f : Procedure) → Contains ps f → (values : List Value)
+        (roots : Trees) (picks : List Pick) (after : Config)
+        → after_picks ps picks (start f values roots) ≡ Some after
+        → (c : Command) → Contains after.pending (run c) → InSomeBody parts_of ps c }
+    ensures fault { (ps : Procedures) (limits : Limits) (f : Procedure) → Contains ps f
+        → (values : List Value) (roots : Trees) (results : List ProgVar) (fuel taken steps : ℕ)
+        (kind : FaultKind) (c : Command)
+        → outcome limits ps results fuel taken (start f values roots) ≡ has_fault kind steps c
+        → InSomeBody commands_in ps c }
 {}
 
 /// Behind each outcome within the fuel there is a run of as many steps; behind a limit that would
