@@ -1,2 +1,3 @@
 mod StoreLaws
 mod TermLimitLaws
+pub mod PlainTerms
