@@ -12,7 +12,7 @@ use crate::chains::is_chain;
 use crate::citations::are_numbered;
 use crate::same::{is_replaced, same};
 use theory_syntax::{Command, Judgement, Reason, Step, Triple};
-use dom_terms::{List, Numbers, OutOfMemory, Text, evaluates};
+use dom_terms::{Numbers, OutOfMemory, Text, evaluates};
 use std::alloc::Global;
 
 fn is_nothing<T>(items: &[T]) -> bool
@@ -111,7 +111,7 @@ fn is_triple_by(
 {
     if name.as_str() == "seq" {
         is_seq_triple(alloc, earlier, numbered, citations.as_slice(), triple)
-    } else if !is_nothing(citations) {
+    } else if !is_nothing(citations.as_slice()) {
         Ok(false)
     } else if name.as_str() == "skip" {
         is_skip_triple(alloc, triple)
