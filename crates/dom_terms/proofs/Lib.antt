@@ -1,3 +1,4 @@
+mod PlainTerms
+mod SortedParts
 mod StoreLaws
 mod TermLimitLaws
-pub mod PlainTerms
