@@ -1,15 +1,10 @@
 //! Which theories are well formed and of the first form: assignments, at the sort of groves.
 //! Promises to answer exactly that.
-//! Stands on the types of theories and on the definition of file faults.
+//! Stands on the checks of theories.
 #![tactic(auto)]
 
 mod commands;
 mod formulas;
-mod limits;
-mod procedures;
-mod scopes;
-mod steps;
-mod terms;
+mod theories;
 
-pub use limits::variables_within;
-pub use procedures::is_of_first_form;
+pub use theories::is_of_first_form;
