@@ -3,6 +3,7 @@ pub mod Sorts
 pub mod Values
 pub mod Terms
 pub mod Conditions
+pub mod Limits
 pub mod Stores
 pub mod Evaluation
 pub mod Lends

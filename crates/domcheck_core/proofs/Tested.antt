@@ -1,21 +1,40 @@
 -- The test of the tokens of a file or a document, as a test of its lexemes.
-use Rattle.std.proofs.Common.{◌≡◌, ◌∙◌, ℕ, sym, List, map, true, false, Bool, ◌&&◌, ap}
-use Rattle.std.proofs.lemmas.Bool.{and_from}
-use Rattle.model_text.specs.Lexemes.{Lexeme}
+use Rattle.std.proofs.Common.{◌≡◌, ◌∙◌, ℕ, sym, List, map, true, false, Bool, ap, subst, Option, Some, None, is_some}
+use Rattle.model_limits.specs.Limits.{LimitKind}
 use Rattle.model_text.specs.Tokens.{tokens_of}
+use Rattle.model_text.specs.Nesting.{lexemes_of, token_limit}
+use Rattle.dom_terms.specs.declared.limits.LimitKind as own
+use Rattle.dom_terms.specs.Limits.{NamesLimit}
 use Rattle.text_tokens.specs.declared.tokens.Token.{Token}
 use Rattle.text_tokens.specs.Tokens.{token_of}
-use Rattle.token_readers.specs.Leaves.{lexemes_in}
-use Rattle.model_text.specs.Nesting.{lexemes_of, nests_within, texts_within}
+use Rattle.text_tokens.specs.Lexemes.{lexemes_in}
 use Rattle.domcheck_core.proofs.Spelling.{same_lexemes}
 
-pub neither : (a b : Bool) → a ≡ true → b ≡ true → (a && b) ≡ false → ⊥
-neither a b e f h = let both = and_from a b e f in cc
+module _ (most : ℕ) (bytes : List ℕ) (ts : List Token) (named : Option own.LimitKind) where
+  -- what is named is the limit that a token of the bytes passes
+  of_bytes : NamesLimit named (token_limit most 0 (lexemes_in ts)) → map token_of ts ≡ tokens_of bytes
+      → NamesLimit named (token_limit most 0 (lexemes_of bytes))
+  of_bytes h e = subst (λ z. NamesLimit named (token_limit most 0 z)) (same_lexemes bytes ts e) h
 
-pub tested : (most : ℕ) (bytes : List ℕ) (slice ts : List Token) (r b : Bool)
-    → slice ≡ ts → map token_of ts ≡ tokens_of bytes
-    → r ≡ (nests_within most 0 (lexemes_in slice) && texts_within (lexemes_in slice)) → r ≡ b
-    → (nests_within most 0 (lexemes_of bytes) && texts_within (lexemes_of bytes)) ≡ b
-tested most bytes slice ts r b e h q d =
-    ap (λ (z : List Lexeme). nests_within most 0 z && texts_within z)
-    (sym (same_lexemes bytes slice (ap (map token_of) e ∙ h))) ∙ sym q ∙ d
+  -- no token passes one
+  pub none_passes : NamesLimit named (token_limit most 0 (lexemes_in ts))
+      → map token_of ts ≡ tokens_of bytes → is_some named ≡ false
+      → token_limit most 0 (lexemes_of bytes) ≡ None
+  none_passes h e n = by_name named n (of_bytes h e)
+    where
+      by_name : (o : Option own.LimitKind) → is_some o ≡ false
+          → NamesLimit o (token_limit most 0 (lexemes_of bytes))
+          → token_limit most 0 (lexemes_of bytes) ≡ None
+      by_name None n k = k
+      by_name (Some kind) n k = absurd cc
+
+  -- one does
+  pub one_passes : NamesLimit named (token_limit most 0 (lexemes_in ts))
+      → map token_of ts ≡ tokens_of bytes → is_some named ≡ true
+      → token_limit most 0 (lexemes_of bytes) ≡ None → ⊥
+  one_passes h e n none = by_name named n (of_bytes h e)
+    where
+      by_name : (o : Option own.LimitKind) → is_some o ≡ true
+          → NamesLimit o (token_limit most 0 (lexemes_of bytes)) → ⊥
+      by_name None n k = cc
+      by_name (Some kind) n k = cc

@@ -4,12 +4,11 @@ ghost use Rattle.logic_text.specs.RawGroves.{raw_forest_of};
 ghost use Rattle.model_answers.specs.Documents.{SpellsDocument};
 ghost use Rattle.domcheck_core.specs.Answers.{NoDocument};
 
-use crate::limits::are_within;
 use dom_terms::{OutOfMemory, limits};
 use logic_text::{RawGrove, read_grove};
 use outside_io::MOST_BYTES;
 use std::alloc::Global;
-use text_tokens::token_list;
+use text_tokens::{token_limit, token_list};
 use token_readers::TextFault;
 
 /// The grove that the bytes spell, whatever its numbers, or none where they spell no document.
@@ -21,7 +20,7 @@ pub fn read_document(alloc: Global, bytes: &[u8]) -> Result<Option<RawGrove>, Ou
         return Ok(None);
     }
     let tokens = token_list(alloc, bytes)?;
-    if !are_within(tokens.as_slice(), limits::DOCUMENT_NESTING) {
+    if token_limit(&tokens, limits::DOCUMENT_NESTING).is_some() {
         return Ok(None);
     }
     match read_grove(alloc, &tokens) {

@@ -5,13 +5,12 @@ ghost use Rattle.model_grammar.specs.Files.{SpellsFile};
 ghost use Rattle.domcheck_core.specs.Answers.{Unreadable};
 
 use crate::form::is_of_form;
-use crate::limits::are_within;
 use theory_syntax::Theory;
 use dom_terms::{OutOfMemory, limits};
 use outside_io::MOST_BYTES;
 use proof_text::read_theory;
 use std::alloc::Global;
-use text_tokens::token_list;
+use text_tokens::{token_limit, token_list};
 use token_readers::TextFault;
 
 /// The theory that the bytes spell, or none where they spell none of the form that is read.
@@ -23,7 +22,7 @@ pub fn read_file(alloc: Global, bytes: &[u8]) -> Result<Option<Theory>, OutOfMem
         return Ok(None);
     }
     let tokens = token_list(alloc, bytes)?;
-    if !are_within(tokens.as_slice(), limits::FILE_NESTING) {
+    if token_limit(&tokens, limits::FILE_NESTING).is_some() {
         return Ok(None);
     }
     match read_theory(alloc, &tokens) {

@@ -1,13 +1,12 @@
 -- The documents that are read: their bytes and their lexemes.
-use Rattle.std.specs.Prelude.{ℕ, ◌≤◌, List, length, IsTrue}
+use Rattle.std.specs.Prelude.{◌≡◌, ℕ, ◌≤◌, List, length, None}
 use Rattle.model_shapes.specs.Trees.{Trees}
 use Rattle.model_documents.specs.Grammar.{SpellsGrove}
-use Rattle.model_text.specs.Nesting.{nests_within, texts_within, lexemes_of}
+use Rattle.model_text.specs.Nesting.{token_limit, lexemes_of}
 use Rattle.model_limits.specs.Limits.{standard_limits}
 
 -- A DOCUMENT: these bytes spell this grove, whatever its numbers.
 pub record SpellsDocument (bytes : List ℕ) (document : Trees) : Type 0 where
   pub small : length bytes ≤ standard_limits.file_bytes
-  pub nesting : IsTrue (nests_within standard_limits.document_nesting 0 (lexemes_of bytes))
-  pub texts : IsTrue (texts_within (lexemes_of bytes))
+  pub tokens : token_limit standard_limits.document_nesting 0 (lexemes_of bytes) ≡ None
   pub spelled : SpellsGrove document (lexemes_of bytes)

@@ -1,10 +1,10 @@
 -- The files that are read today: their bytes, their lexemes, and what is asked of their theory.
 use Rattle.model_limits.specs.Limits.{standard_limits}
-use Rattle.std.specs.Prelude.{ℕ, ◌≤◌, List, length, IsTrue}
+use Rattle.std.specs.Prelude.{◌≡◌, ℕ, ◌≤◌, List, length, IsTrue, None}
 use Rattle.model_commands.specs.Theories.{Theory}
 use Rattle.model_files.specs.FileFaults.{IsWellFormedTheory}
 use Rattle.model_files.specs.FileLimits.{variables_within, step_count}
-use Rattle.model_text.specs.Nesting.{nests_within, texts_within, lexemes_of}
+use Rattle.model_text.specs.Nesting.{token_limit, lexemes_of}
 use Rattle.model_grammar.specs.Grammar.{SpellsTheory}
 use Rattle.model_grammar.specs.FirstForm.{is_first_form}
 
@@ -19,7 +19,6 @@ pub record IsOfForm (theory : Theory) : Type 0 where
 -- A FILE: these bytes spell this theory.
 pub record SpellsFile (bytes : List ℕ) (theory : Theory) : Type 0 where
   pub small : length bytes ≤ standard_limits.file_bytes
-  pub nesting : IsTrue (nests_within standard_limits.file_nesting 0 (lexemes_of bytes))
-  pub texts : IsTrue (texts_within (lexemes_of bytes))
+  pub tokens : token_limit standard_limits.file_nesting 0 (lexemes_of bytes) ≡ None
   pub spelled : SpellsTheory theory (lexemes_of bytes)
   pub of_form : IsOfForm theory

@@ -1,20 +1,11 @@
 -- The limits of values: which subterm of a term is the first whose value passes one.
 -- All are the language's own: values have no limits in the meaning.
-use Rattle.std.specs.Prelude.{int_le, List, [], ◌∷◌, length, nat_le, Bool, true, false, ◌&&◌, Option, Some, None}
+use Rattle.std.specs.Prelude.{int_le, List, [], ◌∷◌, length, nat_le, ◌&&◌, Option, None}
+pub use Rattle.model_limits.specs.FirstOf.{or_else, unless}
 use Rattle.model_limits.specs.Limits.{LimitKind, number_limit, text_limit, Limits, greatest, least}
 use Rattle.model_shapes.specs.Values.{Value, int, str}
 use Rattle.model_terms.specs.Terms.{Term, literal, variable, sum, difference, appended}
 use Rattle.model_terms.specs.Stores.{Store, value_of}
-
--- the first of two, where there is one
-abbrev pub or_else : {A : Type 0} → Option A → Option A → Option A
-or_else None b = b
-or_else (Some a) b = Some a
-
--- the limit that is passed where the test fails
-abbrev pub unless : {A : Type 0} → Bool → A → Option A
-unless true a = None
-unless false a = Some a
 
 -- a value past its limit
 abbrev pub value_limit : Limits → Value → Option LimitKind

@@ -1,7 +1,8 @@
 -- What is asked of the tokens of a text before it is read: how many brackets are open at one token,
 -- and how long the text is that a literal stands for.
-use Rattle.std.specs.Prelude.{ℕ, ◌+◌, ◌-◌, Bool, true, false, ◌&&◌, ◌||◌, cond, List, [], ◌∷◌, length, map, bytes_eq, codes, nat_le}
-use Rattle.model_limits.specs.Limits.{standard_limits}
+use Rattle.std.specs.Prelude.{ℕ, ◌+◌, ◌-◌, Bool, true, false, ◌||◌, cond, List, [], ◌∷◌, length, map, bytes_eq, codes, nat_le, Option, None}
+use Rattle.model_limits.specs.Limits.{LimitKind, nesting_limit, text_limit, standard_limits}
+use Rattle.model_limits.specs.FirstOf.{or_else, unless}
 use Rattle.model_text.specs.Tokens.{tokens_of}
 use Rattle.model_text.specs.Lexemes.{Lexeme, terminal, literal_lexeme, lexeme_of}
 
@@ -28,17 +29,21 @@ abbrev pub open_behind : ℕ → Lexeme → ℕ
 open_behind before lexeme = cond (opens lexeme) (before + 1)
     (cond (closes lexeme) (before - 1) before)
 
--- never are more brackets open than the most, where so many are open before
-abbrev pub nests_within : ℕ → ℕ → List Lexeme → Bool
-nests_within most before [] = true
-nests_within most before (lexeme ∷ rest) =
-    nat_le (open_behind before lexeme) most && nests_within most (open_behind before lexeme) rest
-
--- no literal stands for a longer text than the most
+-- a literal stands for no longer text than the most
 abbrev pub text_within : Lexeme → Bool
 text_within (literal_lexeme text) = nat_le (length text) standard_limits.text_bytes
 text_within lexeme = true
 
-abbrev pub texts_within : List Lexeme → Bool
-texts_within [] = true
-texts_within (lexeme ∷ rest) = text_within lexeme && texts_within rest
+-- the limit that a lexeme passes, where so many brackets are open before it: that of open brackets,
+-- with this as the most, or that of its text
+abbrev pub lexeme_limit : ℕ → ℕ → Lexeme → Option LimitKind
+lexeme_limit most before lexeme =
+    or_else (unless (nat_le (open_behind before lexeme) most) nesting_limit)
+    (unless (text_within lexeme) text_limit)
+
+-- the limit that the first lexeme passes that passes one
+abbrev pub token_limit : ℕ → ℕ → List Lexeme → Option LimitKind
+token_limit most before [] = None
+token_limit most before (lexeme ∷ rest) =
+    or_else (lexeme_limit most before lexeme)
+    (token_limit most (open_behind before lexeme) rest)

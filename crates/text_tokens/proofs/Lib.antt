@@ -3,3 +3,4 @@ pub mod NumberLemmas
 pub mod PositionLemmas
 pub mod ReadingLemmas
 pub mod SymbolLemmas
+pub mod BracketLemmas

@@ -4,6 +4,7 @@
 //! Stands on the types of terms, on the definition of tokens and on the Unicode tables.
 #![tactic(auto)]
 
+mod limits;
 mod literals;
 mod numbers;
 mod pieces;
@@ -14,6 +15,7 @@ mod symbols;
 mod tokens;
 mod words;
 
+pub use limits::token_limit;
 pub use numbers::number_value;
 pub use reading::token_list;
 pub use reserved::is_reserved;

@@ -1,15 +1,7 @@
--- What single lexemes stand for in the grammar, and the lexemes of a list of tokens.
-use Rattle.std.specs.Prelude.{ℕ, nat_le, cond, List, map, Option, Some, None, codes}
-use Rattle.model_text.specs.Lexemes.{Lexeme, terminal, step_word, name_lexeme, number_lexeme, is_reserved, lexeme_of}
-use Rattle.text_tokens.specs.declared.tokens.Token.{Token}
-use Rattle.text_tokens.specs.Tokens.{token_of}
-
--- what the grammar sees of a token of the program, and of a list of them
-abbrev pub seen : Token → Lexeme
-seen token = lexeme_of (token_of token)
-
-abbrev pub lexemes_in : List Token → List Lexeme
-lexemes_in = map seen
+-- What single lexemes stand for in the grammar.
+use Rattle.std.specs.Prelude.{ℕ, nat_le, cond, List, Option, Some, None, codes}
+use Rattle.model_text.specs.Lexemes.{Lexeme, terminal, step_word, name_lexeme, number_lexeme, is_reserved}
+pub use Rattle.text_tokens.specs.Lexemes.{seen, lexemes_in}
 
 -- a name
 abbrev pub leaf_name : Lexeme → Option (List ℕ)

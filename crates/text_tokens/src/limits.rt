@@ -1,0 +1,56 @@
+// The first token that passes a limit.
+ghost use Rattle.std.specs.Prelude.{◌≡◌, ◌<◌, map};
+ghost use Rattle.model_text.specs.Lexemes.{lexeme_of};
+ghost use Rattle.model_text.specs.Nesting as model;
+ghost use Rattle.dom_terms.specs.Limits.{NamesLimit};
+ghost use Rattle.text_tokens.specs.Tokens.{token_of};
+ghost use Rattle.text_tokens.specs.Lexemes.{lexemes_in};
+
+use crate::tokens::{Token, TokenKind, Tokens};
+use dom_terms::LimitKind;
+use dom_terms::limits::TEXT_BYTES;
+
+// How many brackets are open behind the token, where so many are open before it.
+#[tactic(auto, using(crate::proofs::BracketLemmas::brackets))]
+fn open_behind(before: u64, token: &Token) -> u64
+    requires { before < 4_294_967_296 }
+    ensures { result ≡ model.open_behind before (lexeme_of (token_of token.now)) }
+{
+    if token.kind != TokenKind::Symbol {
+        return before;
+    }
+    match token.text.as_str() {
+        "(" | "[" | "{" | "<" => before + 1,
+        ")" | "]" | "}" | ">" => before.saturating_sub(1),
+        _ => before,
+    }
+}
+
+// Whether a literal stands for no longer text than the most.
+fn is_text_within(token: &Token) -> bool
+    ensures { result ≡ model.text_within (lexeme_of (token_of token.now)) }
+{
+    match token.literal() {
+        Some(text) => text.len() <= TEXT_BYTES,
+        None => true,
+    }
+}
+
+/// The limit that the first token passes that passes one: Nesting where more brackets are open at
+/// it than the most, and Text where it is a literal for a text of more than 4,096 bytes. None comes
+/// exactly where no token passes one.
+pub fn token_limit(tokens: &Tokens, nesting: u32) -> Option<LimitKind>
+    ensures { NamesLimit result (model.token_limit nesting 0 (lexemes_in tokens.now)) }
+{
+    let mut open = 0u64;
+    for token in tokens.as_slice() {
+        open = open_behind(open, token);
+        if open > u64::from(nesting) {
+            return Some(LimitKind::Nesting);
+        }
+        if !is_text_within(token) {
+            return Some(LimitKind::Text);
+        }
+    }
+    None
+}
