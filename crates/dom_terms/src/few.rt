@@ -1,6 +1,7 @@
 // Lists of mostly few items, which lie in the value itself.
 ghost use Rattle.std.specs.Prelude.{◌≡◌, ◌≤◌, ◌↔◌, [], ◌∷◌, ◌++◌, length, map, slice_get};
 ghost use Rattle.std.specs.Prelude.{IsTrue, IsNone, IfOk, OnOk, OnErr, option_copied};
+ghost use Rattle.std.specs.Borrow.{sem};
 
 use crate::copied::Copied;
 use crate::memory::OutOfMemory;
@@ -26,6 +27,8 @@ impl<T, const N: usize> Model for Few<T, N> {
 }
 
 impl<T, const N: usize> Few<T, N> {
+    ghost use Rattle.dom_terms.specs.Lends.{LendsFew};
+
     /// How many items there are.
     pub fn len(&self) -> usize
         ensures { result ≡ length self.now }
@@ -53,6 +56,14 @@ impl<T, const N: usize> Few<T, N> {
         ensures { result.now ≡ self.now }
     {
         self.items.as_slice()
+    }
+
+    /// The items as a slice, to be changed. There stay as many.
+    pub fn as_mut_slice(&mut self) -> &mut [T]
+        ensures* writes_back { sem 𝓛 (LendsFew T.row N.row self.entry result) }
+        ensures items { result.now ≡ self.old }
+    {
+        self.items.as_mut_slice()
     }
 }
 

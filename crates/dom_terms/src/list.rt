@@ -29,7 +29,7 @@ impl<T> Model for List<T> {
 }
 
 impl<T> List<T> {
-    ghost use Rattle.dom_terms.specs.Lends.{LendsLast};
+    ghost use Rattle.dom_terms.specs.Lends.{LendsItems, LendsLast};
 
     /// The empty list. It takes memory only when it grows.
     pub fn new(alloc: Global) -> List<T>
@@ -67,6 +67,14 @@ impl<T> List<T> {
         ensures { result.now ≡ self.now }
     {
         self.items.as_slice()
+    }
+
+    /// The items as a slice, to be changed. There stay as many.
+    pub fn as_mut_slice(&mut self) -> &mut [T]
+        ensures* writes_back { sem 𝓛 (LendsItems T.row self.entry result) }
+        ensures items { result.now ≡ self.old }
+    {
+        self.items.as_mut_slice()
     }
 
     /// The last item: none exactly where there is no item.

@@ -3,3 +3,4 @@ pub mod Pieces
 pub mod Seen
 pub mod Steps
 pub mod Worked
+pub mod OfTokens

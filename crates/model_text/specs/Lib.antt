@@ -1,3 +1,4 @@
 pub mod Tokens
 pub mod Lexemes
 pub mod Nesting
+pub mod FaultTokens
