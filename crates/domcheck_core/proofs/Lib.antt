@@ -7,7 +7,6 @@ pub mod Bare
 pub mod Outcomes
 pub mod Fitting
 pub mod Running
-pub mod Small
 pub mod Counts
 pub mod Spelling
 pub mod Tested

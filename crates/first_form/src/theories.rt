@@ -5,7 +5,7 @@ ghost use Rattle.model_files.specs.FileFaults.{IsWellFormedTheory};
 ghost use Rattle.model_grammar.specs.FirstForm as form;
 ghost use Rattle.theory_syntax.specs.Judgements.{judgement_of, reason_of, step_of};
 ghost use Rattle.theory_syntax.specs.Theories.{procedure_of, theory_of};
-ghost use Rattle.dom_syntax.specs.Sizes.{IsTheorySmall};
+ghost use Rattle.model_files.specs.Sizes.{TheoryIsSmall};
 
 use crate::commands::is_first_command;
 use crate::formulas::is_first_formula;
@@ -85,7 +85,7 @@ fn is_first_form(theory: &Theory) -> bool
 /// Whether the theory is well formed and of the first form: programs of assignments, at the sort of
 /// groves, proved by the rules skip, assign and seq, without logic variables.
 pub fn is_of_first_form(alloc: Global, theory: &Theory) -> Result<bool, OutOfMemory>
-    requires small { IsTheorySmall (theory_of theory.now) }
+    requires small { TheoryIsSmall (theory_of theory.now) }
     ensures { IfOk result (λ b. IsTrue b
         ↔ (IsWellFormedTheory (theory_of theory.now)
         × IsTrue (form.is_first_form (theory_of theory.now)))) }

@@ -7,7 +7,7 @@ use Rattle.std.proofs.lemmas.Bool.{and_parts, and_from, cond-true, cond-false, e
 use Rattle.theory_syntax.specs.declared.steps.Step.{Step}
 use Rattle.theory_syntax.specs.Judgements.{step_of, judgement_of}
 use Rattle.hoare_kernel.specs.Citable.{AreCitable}
-use Rattle.hoare_kernel.specs.Sizes.{StepsAreSmall, JudgementIsSmall}
+use Rattle.model_files.specs.Sizes.{StepsAreSmall, JudgementIsSmall}
 use Rattle.hoare_kernel.specs.Tests.{are_numbered, cited, last_step}
 
 -- the step at the last place is the last step

@@ -3,7 +3,7 @@
 use Rattle.std.specs.Prelude.{◌≡◌, Bool, true, List, map}
 use Rattle.theory_syntax.specs.declared.steps.Step.{Step}
 use Rattle.theory_syntax.specs.Judgements.{step_of}
-use Rattle.hoare_kernel.specs.Sizes.{StepsAreSmall}
+use Rattle.model_files.specs.Sizes.{StepsAreSmall}
 use Rattle.hoare_kernel.specs.Tests.{are_numbered}
 
 -- the formulas are small, and where the flag is raised, the steps are numbered from 1

@@ -1,3 +1,2 @@
 pub mod Citable
-pub mod Sizes
 pub mod Tests

@@ -5,7 +5,7 @@ ghost use Rattle.formula_syntax.specs.Formulas.{formula_of};
 ghost use Rattle.theory_syntax.specs.Commands.{block_of, command_of};
 ghost use Rattle.theory_syntax.specs.Judgements.{judgement_of, step_of, triple_of};
 ghost use Rattle.hoare_kernel.specs.Citable.{AreCitable};
-ghost use Rattle.hoare_kernel.specs.Sizes.{IsSmall, JudgementIsSmall};
+ghost use Rattle.model_files.specs.Sizes.{IsSmall, JudgementIsSmall};
 ghost use Rattle.hoare_kernel.specs.Tests as test;
 
 use crate::citations::cited;

@@ -4,7 +4,7 @@ ghost use Rattle.std.specs.List.{find};
 ghost use Rattle.std.specs.Option.{option_copied};
 ghost use Rattle.theory_syntax.specs.Judgements.{judgement_of, step_of};
 ghost use Rattle.hoare_kernel.specs.Citable.{AreCitable};
-ghost use Rattle.hoare_kernel.specs.Sizes.{JudgementIsSmall};
+ghost use Rattle.model_files.specs.Sizes.{JudgementIsSmall};
 ghost use Rattle.hoare_kernel.specs.Tests as test;
 
 use theory_syntax::{Judgement, Step};

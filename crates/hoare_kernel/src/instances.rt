@@ -5,7 +5,7 @@ ghost use Rattle.formula_syntax.specs.Formulas.{formula_of};
 ghost use Rattle.theory_syntax.specs.Commands.{command_of};
 ghost use Rattle.theory_syntax.specs.Judgements.{judgement_of, step_of, triple_of};
 ghost use Rattle.hoare_kernel.specs.Citable.{AreCitable};
-ghost use Rattle.hoare_kernel.specs.Sizes.{JudgementIsSmall, StepsAreSmall};
+ghost use Rattle.model_files.specs.Sizes.{JudgementIsSmall, StepsAreSmall};
 ghost use Rattle.hoare_kernel.specs.Tests as test;
 
 use crate::chains::is_chain;

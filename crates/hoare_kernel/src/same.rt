@@ -4,7 +4,7 @@ ghost use Rattle.formula_syntax.specs.Formulas.{formula_of};
 ghost use Rattle.dom_terms.specs.Terms.{prog_var_of, term_of};
 ghost use Rattle.theory_syntax.specs.Commands.{command_of};
 ghost use Rattle.theory_syntax.specs.SameCommands as commands;
-ghost use Rattle.hoare_kernel.specs.Sizes.{IsSmall};
+ghost use Rattle.model_files.specs.Sizes.{IsSmall};
 ghost use Rattle.hoare_kernel.specs.Tests as test;
 
 use theory_syntax::{Command, same_command};

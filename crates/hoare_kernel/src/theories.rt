@@ -4,7 +4,7 @@ ghost use Rattle.model_rules.specs.Accepted.{IsAccepted};
 ghost use Rattle.formula_syntax.specs.Formulas.{formula_of};
 ghost use Rattle.theory_syntax.specs.Judgements.{judgement_of, step_of, triple_of};
 ghost use Rattle.theory_syntax.specs.Theories.{procedure_of, theory_of};
-ghost use Rattle.hoare_kernel.specs.Sizes.{JudgementIsSmall, ProcedureIsSmall, ProceduresAreSmall, StepsAreSmall, TheoryIsSmall};
+ghost use Rattle.model_files.specs.Sizes.{JudgementIsSmall, ProcedureIsSmall, ProceduresAreSmall, StepsAreSmall, TheoryIsSmall};
 ghost use Rattle.hoare_kernel.specs.Tests as test;
 
 use crate::instances::are_instances;

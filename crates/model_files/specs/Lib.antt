@@ -1,3 +1,4 @@
 pub mod RuleNames
 pub mod FileFaults
 pub mod FileLimits
+pub mod Sizes

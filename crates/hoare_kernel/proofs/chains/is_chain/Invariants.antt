@@ -3,7 +3,7 @@ use Rattle.dom_terms.specs.Sorts.{data_sort_of}
 use Rattle.formula_syntax.specs.Formulas.{formula_of}
 use Rattle.theory_syntax.specs.Commands.{block_of}
 use Rattle.theory_syntax.specs.Judgements.{step_of}
-use Rattle.hoare_kernel.specs.Sizes.{IsSmall}
+use Rattle.model_files.specs.Sizes.{IsSmall}
 use Rattle.hoare_kernel.specs.Tests.{reached}
 use Rattle.hoare_kernel.proofs.chains.is_chain.Given as goal
 

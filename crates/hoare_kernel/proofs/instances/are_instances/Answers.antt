@@ -1,7 +1,7 @@
 use Rattle.std.proofs.Common.{sym, subst, arith}
 use Rattle.theory_syntax.specs.Judgements.{judgement_of}
 use Rattle.theory_syntax.specs.declared.steps.Step.{Step}
-use Rattle.hoare_kernel.specs.Sizes.{JudgementIsSmall}
+use Rattle.model_files.specs.Sizes.{JudgementIsSmall}
 use Rattle.hoare_kernel.proofs.Steps.{small_at, citable_before}
 use Rattle.hoare_kernel.proofs.instances.are_instances.Goals as goal
 

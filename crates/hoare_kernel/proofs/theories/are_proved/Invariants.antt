@@ -1,6 +1,6 @@
 use Rattle.std.proofs.Common.{◌≡◌, drop, map}
 use Rattle.theory_syntax.specs.Theories.{procedure_of}
-use Rattle.hoare_kernel.specs.Sizes.{ProceduresAreSmall}
+use Rattle.model_files.specs.Sizes.{ProceduresAreSmall}
 use Rattle.hoare_kernel.specs.Tests.{accepted_test}
 use Rattle.hoare_kernel.proofs.theories.are_proved.Given as goal
 

@@ -1,7 +1,7 @@
 use Rattle.std.proofs.Common.{◌≡◌, ◌∙◌, sym, ap, subst, arith, map, length, ◌-◌, Some}
 use Rattle.theory_syntax.specs.declared.steps.Step.{Step}
 use Rattle.theory_syntax.specs.Judgements.{step_of, judgement_of}
-use Rattle.hoare_kernel.specs.Sizes.{JudgementIsSmall}
+use Rattle.model_files.specs.Sizes.{JudgementIsSmall}
 use Rattle.hoare_kernel.specs.Tests.{last_step}
 use Rattle.hoare_kernel.proofs.Steps.{at_last, small_at}
 use Rattle.hoare_kernel.proofs.theories.ends_in_own_triple.Goals as goal

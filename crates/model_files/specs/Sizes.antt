@@ -1,8 +1,10 @@
--- The sizes that the calls ask for: no formula of a theory has as many parts as a number can count.
-use Rattle.std.specs.Prelude.{◌<◌, List, [], ◌∷◌}
+-- The sizes that every call may count on: no formula of a theory has as many parts as a number of 32
+-- bits can count, and no theory as many procedures and proof steps.
+use Rattle.std.specs.Prelude.{◌<◌, ◌+◌, length, List, [], ◌∷◌}
 use Rattle.model_formulas.specs.Formulas.{Named}
 use Rattle.model_formulas.specs.Parts.{parts}
 use Rattle.model_commands.specs.Theories.{JudgementOf, entails, triple, StepOf, ProcedureOf, Theory}
+use Rattle.model_files.specs.FileLimits.{step_count}
 
 -- a formula has fewer than 4,294,967,295 parts
 abbrev pub IsSmall : Named → Type 0
@@ -26,5 +28,7 @@ abbrev pub ProceduresAreSmall : List (ProcedureOf Named) → Type 0
 ProceduresAreSmall [] = Unit
 ProceduresAreSmall (f ∷ fs) = ProcedureIsSmall f × ProceduresAreSmall fs
 
-abbrev pub TheoryIsSmall : Theory → Type 0
-TheoryIsSmall theory = ProceduresAreSmall theory.procedures
+-- and so have those of a theory, whose procedures and proof steps together are fewer too
+pub record TheoryIsSmall (theory : Theory) : Type 0 where
+  pub procedures : ProceduresAreSmall theory.procedures
+  pub counts : length theory.procedures + step_count theory.procedures < 4294967295
