@@ -2,7 +2,7 @@ use Rattle.std.proofs.Common.{◌≡◌, true, false, Bool}
 use Rattle.theory_syntax.specs.Theories.{theory_of}
 use Rattle.domcheck_core.specs.Answers.{CheckAnswer, says_yes, says_no}
 use Rattle.domcheck_core.proofs.Counts.{few_lexemes}
-use Rattle.domcheck_core.proofs.Small.{theory_small}
+use Rattle.model_grammar.proofs.Sizes.{theory_small}
 use Rattle.domcheck_core.proofs.Judged.{said}
 use Rattle.domcheck_core.proofs.checks.judge.Goals as goal
 
