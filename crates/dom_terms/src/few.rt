@@ -9,7 +9,8 @@ use smallvec::SmallVec;
 use std::alloc::Global;
 use std::marker::Model;
 
-/// A list, seen as the list of its items. It takes memory only beyond so many of them.
+/// A list, seen as the list of its items. The first `N` lie in the value itself, so that it takes
+/// memory only where there are more.
 #[derive(Debug, Drop)]
 pub struct Few<T, const N: usize> {
     items: SmallVec<T, N>,
