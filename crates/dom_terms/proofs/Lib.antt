@@ -1,1 +1,2 @@
 mod StoreLaws
+mod TermLimitLaws

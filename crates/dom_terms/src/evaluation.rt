@@ -3,7 +3,7 @@ ghost use Rattle.std.specs.Prelude.{◌≡◌, ℤ, IfOk, FitsSigned};
 ghost use Rattle.std.specs.Int.{w64};
 ghost use Rattle.std.specs.Option.{SomeIff};
 ghost use Rattle.model_shapes.specs.Sorts as model;
-ghost use Rattle.model_shapes.specs.Values.{FitsValue, int, str};
+ghost use Rattle.model_shapes.specs.Values.{FitsValue, int, str, boolean};
 ghost use Rattle.model_terms.specs.Stores.{Computes, default, value_in, value_of};
 ghost use Rattle.model_limits.specs.Limits.{standard_limits};
 ghost use Rattle.model_terms.specs.TermLimits.{value_limit, term_limit};
@@ -78,7 +78,11 @@ fn number_within(number: Option<i64>) -> Result<Value, EvalFault>
 }
 
 // The value of a variable, or its sort's default where the store doesn't have it.
-fn value_or_default(alloc: Global, variable: &ProgVar, store: &Store) -> Result<Value, OutOfMemory>
+pub(crate) fn value_or_default(
+    alloc: Global,
+    variable: &ProgVar,
+    store: &Store,
+) -> Result<Value, OutOfMemory>
     ensures value { IfOk result (λ value.
         value_seen value ≡ value_in (store_of store.now) (prog_var_of variable.now)) }
     ensures sort { IfOk result (λ value.
@@ -115,7 +119,7 @@ fn within_limit(value: Value) -> Result<Value, EvalFault>
 }
 
 // The integer that a value is.
-fn integer(value: Value) -> i64
+pub(crate) fn integer(value: Value) -> i64
     requires { FitsValue model.int_sort (value_seen value) }
     ensures { int result ≡ value_seen value }
 {
@@ -132,6 +136,17 @@ fn text(value: Value) -> Text
 {
     match value {
         Value::Str(text) => text,
+        _ => unreachable!(),
+    }
+}
+
+// The truth value that a value is.
+pub(crate) fn truth(value: Value) -> bool
+    requires { FitsValue model.bool_sort (value_seen value) }
+    ensures { boolean result ≡ value_seen value }
+{
+    match value {
+        Value::Bool(truth) => truth,
         _ => unreachable!(),
     }
 }

@@ -1,11 +1,11 @@
 -- Conditions of commands, their truth in a store, and the formula of a condition.
 -- All are the language's own; formulas of conditions are those of the rules for choice and loops.
-use Rattle.std.specs.Prelude.{◌≡◌, int_le, Bool, true, false, not, ◌&&◌, ◌||◌}
+use Rattle.std.specs.Prelude.{◌≡◌, int_le, List, [], ◌∷◌, ◌++◌, Bool, true, false, not, ◌&&◌, ◌||◌}
 use Rattle.model_shapes.specs.Sorts.{ValueSort, int_sort, bool_sort}
 use Rattle.model_shapes.specs.Values.{Value, boolean}
-use Rattle.model_terms.specs.Terms.{Term}
+use Rattle.model_terms.specs.Terms.{Term, variable}
 use Rattle.model_shapes.specs.Tests.{same_value}
-use Rattle.model_terms.specs.Stores.{ProgVar, sort_of, Store, value_in, value_of, int_in, Computes}
+use Rattle.model_terms.specs.Stores.{ProgVar, as_var, sort_of, Store, value_in, value_of, int_in, Computes}
 
 -- true, false, a bool variable, E = F, E <= F, (not B), (B and C), (B or C)
 pub data Cond : Type 0 where
@@ -30,6 +30,17 @@ truth_of store (cond_at_most a b) = int_le (int_in (value_of store a)) (int_in (
 truth_of store (cond_not c) = not (truth_of store c)
 truth_of store (cond_and c d) = truth_of store c && truth_of store d
 truth_of store (cond_or c d) = truth_of store c || truth_of store d
+
+-- the terms of a condition, from left to right
+abbrev pub terms_of_cond : Cond → List Term
+terms_of_cond cond_true = []
+terms_of_cond cond_false = []
+terms_of_cond (cond_variable x) = variable (as_var x) ∷ []
+terms_of_cond (cond_equal a b) = a ∷ b ∷ []
+terms_of_cond (cond_at_most a b) = a ∷ b ∷ []
+terms_of_cond (cond_not c) = terms_of_cond c
+terms_of_cond (cond_and c d) = terms_of_cond c ++ terms_of_cond d
+terms_of_cond (cond_or c d) = terms_of_cond c ++ terms_of_cond d
 
 -- a condition of a command: well sorted and without logic variables
 abbrev pub Tests : Cond → Type 0
