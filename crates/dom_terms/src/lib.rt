@@ -16,6 +16,7 @@ mod same;
 mod short;
 mod sorts;
 mod store;
+mod term_sorts;
 mod terms;
 mod text;
 mod truth;
@@ -36,6 +37,7 @@ pub use same::{
 };
 pub use sorts::{DataSort, Sort, ValueSort};
 pub use store::Store;
+pub use term_sorts::{both_have, evaluates, has_sort};
 pub use terms::{LogicVar, ProgVar, Term};
 pub use text::Text;
 pub use truth::holds;

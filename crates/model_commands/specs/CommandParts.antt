@@ -4,7 +4,8 @@
 use Rattle.std.specs.Prelude.{List, [], ◌∷◌, ◌++◌, map}
 use Rattle.std.specs.List.{flat_map}
 use Rattle.model_terms.specs.Variables.{Var}
-use Rattle.model_terms.specs.Terms.{Term, literal, variable, sum, difference, appended}
+use Rattle.model_terms.specs.Terms.{Term}
+pub use Rattle.model_terms.specs.TermSorts.{variables_of_term}
 use Rattle.model_terms.specs.Stores.{ProgVar, as_var}
 pub use Rattle.model_terms.specs.Conditions.{terms_of_cond}
 use Rattle.model_formulas.specs.Formulas.{Named, conjunction, disjunction, implication, negation, existential, universal, equality, at_most, node_formula, one_tree, one_root, concatenation, grove_sum, grove_sum_hole, application, hole_adjoint, context_adjoint, same_as, length_is, value_meets}
@@ -55,14 +56,6 @@ terms_of (if_else c a b) = terms_of_cond c
 terms_of (while_do c b) = terms_of_cond c
 terms_of (call results name arguments) = arguments
 terms_of command = []
-
--- the variables of a term
-abbrev pub variables_of_term : Term → List Var
-variables_of_term (literal v) = []
-variables_of_term (variable x) = x ∷ []
-variables_of_term (sum a b) = variables_of_term a ++ variables_of_term b
-variables_of_term (difference a b) = variables_of_term a ++ variables_of_term b
-variables_of_term (appended a b) = variables_of_term a ++ variables_of_term b
 
 -- the variables that a command has of its own
 abbrev pub own_variables : Command → List Var
