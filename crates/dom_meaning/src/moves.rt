@@ -93,7 +93,8 @@ fn text(value: Value) -> Text
 }
 
 /// The tree of the second node moves to the end of the children of the first, or from these to the
-/// roots.
+/// roots. It faults where a value names no node; else where the first stands in the tree of the
+/// second, or where the second is no child of the first.
 pub(crate) fn moved(
     alloc: Global,
     place: Place,
@@ -140,12 +141,7 @@ fn moved_to(
 }
 
 // The child goes below the parent, unless the parent stands in its tree.
-fn appended(
-    alloc: Global,
-    parent: &Tree,
-    child: &Tree,
-    grove: &Grove,
-) -> Result<Plan, OutOfMemory>
+fn appended(alloc: Global, parent: &Tree, child: &Tree, grove: &Grove) -> Result<Plan, OutOfMemory>
     ensures { IfOk result (λ plan. (piece : Piece) (store : stores.Store)
         → move_of plan piece store (forest_of grove.now)
         ≡ appending (tree_of parent.now) (tree_of child.now) store (forest_of grove.now)) }
@@ -158,12 +154,7 @@ fn appended(
 }
 
 // The child goes to the roots, where it is one of the parent's.
-fn removed(
-    alloc: Global,
-    parent: &Tree,
-    child: &Tree,
-    grove: &Grove,
-) -> Result<Plan, OutOfMemory>
+fn removed(alloc: Global, parent: &Tree, child: &Tree, grove: &Grove) -> Result<Plan, OutOfMemory>
     ensures { IfOk result (λ plan. (piece : Piece) (store : stores.Store)
         → move_of plan piece store (forest_of grove.now)
         ≡ removing (tree_of parent.now) (tree_of child.now) store (forest_of grove.now)) }
