@@ -1,13 +1,11 @@
 -- What a run begins with fits the machine.
-use Rattle.std.proofs.Common.{◌≡◌, ◌∙◌, ℕ, List, true, ◌&&◌, Some, refl, sym, ap, subst}
+use Rattle.std.proofs.Common.{◌≡◌, ℕ, List, Some, refl, sym, subst}
 use Rattle.std.specs.Prelude.{slice_get}
-use Rattle.std.specs.List.{list_all}
 use Rattle.model_shapes.specs.Sorts.{shape, grove}
 use Rattle.model_shapes.specs.Trees.{Trees}
 use Rattle.model_shapes.specs.Values.{Value}
 use Rattle.model_shapes.specs.Shapes.{Shaped}
 use Rattle.model_commands.specs.Theories.{nameless_procedure, procedures_of}
-use Rattle.model_machine.specs.Machine.{run}
 use Rattle.model_machine.specs.Machine as model
 use Rattle.model_files.specs.FileFaults.{IsWellFormedTheory}
 use Rattle.model_machine.specs.Fitting.{ValuesFit, FitsConfig}
@@ -17,7 +15,6 @@ use Rattle.theory_syntax.specs.declared.theories.Theory.{Theory}
 use Rattle.theory_syntax.specs.Theories.{procedure_of, theory_of}
 use Rattle.dom_meaning.specs.declared.configurations.Config.{Config}
 use Rattle.dom_meaning.specs.Configs.{config_of}
-use Rattle.dom_meaning.specs.Built.{is_built, is_built_piece, IsRunnable}
 use Rattle.dom_meaning.specs.Starts.{Begins}
 use Rattle.dom_meaning.proofs.Bodies.{body-sorted}
 
@@ -35,18 +32,3 @@ module _ (theory : Theory) (place : ℕ) (started : Procedure) (values : List Va
       values roots (body-sorted (theory_of theory) theory.procedures place started refl well_formed
       is)
       arguments shaped)
-
-  -- and the machine runs it, where the body is built
-  pub begun_runs : (other : Procedure) → slice_get theory.procedures place ≡ Some other
-      → is_built (procedure_of other).body ≡ true
-      → IsRunnable (procedures_of (theory_of theory)) (config_of config)
-  begun_runs other found built =
-      let both : Some other ≡ Some started = sym found ∙ is in
-      let same : other ≡ started = cc in
-      let body : is_built (procedure_of started).body ≡ true =
-      subst (λ (z : Procedure). is_built (procedure_of z).body ≡ true) same built in
-      record {
-        fits = begun_fits;
-        built = ap (λ (z : model.Config). list_all is_built_piece z.pending) begins.configuration
-            ∙ ap (λ b. b && true) body;
-      }

@@ -1,6 +1,5 @@
 pub mod Configs
 pub mod Faults
-pub mod Built
 pub mod Plans
 pub mod Steps
 pub mod Runs

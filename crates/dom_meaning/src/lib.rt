@@ -5,8 +5,11 @@
 
 mod configurations;
 mod faults;
+mod flow;
+mod moves;
 mod picks;
 mod plans;
+mod reads;
 mod results;
 mod runs;
 mod starts;

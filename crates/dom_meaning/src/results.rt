@@ -1,5 +1,6 @@
-// The values of the results at the end of a run.
+// The values of variables, and those of the results at the end of a run.
 ghost use Rattle.std.specs.Prelude.{◌≡◌, map, IfOk};
+ghost use Rattle.model_shapes.specs.Values.{FitsValue};
 ghost use Rattle.model_terms.specs.Stores.{default, value_in};
 ghost use Rattle.model_machine.specs.Outcomes.{values_in};
 ghost use Rattle.dom_terms.specs.Sorts.{value_sort_of};
@@ -27,11 +28,17 @@ pub(crate) fn values_of(
     Ok(values)
 }
 
-// The value of a variable, or its sort's default where it was never set.
+/// The value of a variable, or its sort's default where it was never set.
 #[tactic(auto, using(crate::proofs::StoreLaws::found_value, crate::proofs::StoreLaws::absent_default))]
-fn value_of(alloc: Global, variable: &ProgVar, store: &Store) -> Result<Value, OutOfMemory>
-    ensures { IfOk result (λ value.
+pub(crate) fn value_of(
+    alloc: Global,
+    variable: &ProgVar,
+    store: &Store,
+) -> Result<Value, OutOfMemory>
+    ensures value { IfOk result (λ value.
         value_seen value ≡ value_in (store_of store.now) (prog_var_of variable.now)) }
+    ensures fits { IfOk result (λ value.
+        FitsValue (value_sort_of variable.now.sort) (value_seen value)) }
 {
     match store.get(variable) {
         Some(value) => value.copy(alloc),
@@ -39,9 +46,10 @@ fn value_of(alloc: Global, variable: &ProgVar, store: &Store) -> Result<Value, O
     }
 }
 
-// The value of a variable that was never set.
-fn default_of(alloc: Global, sort: ValueSort) -> Value
-    ensures { value_seen result ≡ default (value_sort_of sort) }
+/// The value of a variable that was never set.
+pub(crate) fn default_of(alloc: Global, sort: ValueSort) -> Value
+    ensures value { value_seen result ≡ default (value_sort_of sort) }
+    ensures fits { FitsValue (value_sort_of sort) (value_seen result) }
 {
     match sort {
         ValueSort::Node => Value::NullNode,

@@ -1,18 +1,19 @@
 // Runs within their fuel.
 ghost use Rattle.std.specs.Prelude as plain;
 ghost use Rattle.std.specs.Prelude.{◌≡◌, ℕ, ◌<◌, [], ◌∷◌, ◌++◌, length, suc, map, true, IfOk, MatchResult};
-ghost use Rattle.std.specs.List.{list_all};
 ghost use Rattle.model_terms.specs.Stores as stores;
-ghost use Rattle.model_commands.specs.Theories.{procedures_of};
+ghost use Rattle.model_commands.specs.Theories.{Procedures, procedures_of};
+ghost use Rattle.model_groves.specs.Picks.{Pick};
 ghost use Rattle.model_files.specs.FileFaults.{IsWellFormedTheory};
 ghost use Rattle.model_limits.specs.Limits.{standard_limits};
+ghost use Rattle.model_machine.specs.Machine.{step, at_fault};
+ghost use Rattle.model_machine.specs.Fitting.{FitsConfig};
 ghost use Rattle.model_machine.specs.Outcomes.{outcome, has_fault, ends_at, first_command};
 ghost use Rattle.dom_terms.specs.Terms.{prog_var_of};
 ghost use Rattle.dom_terms.specs.Stores.{store_of};
 ghost use Rattle.grove_data.specs.Trees.{forest_of};
 ghost use Rattle.theory_syntax.specs.Theories.{theory_of};
 ghost use Rattle.dom_meaning.specs.Configs.{config_of, pick_of};
-ghost use Rattle.dom_meaning.specs.Built.{is_built_piece, IsRunnable};
 ghost use Rattle.dom_meaning.specs.Faults.{fault_kind_of};
 ghost use Rattle.dom_meaning.specs.Runs.{IsOutcome, IfSpent, pick_within};
 
@@ -53,14 +54,14 @@ pub enum Outcome {
 /// Runs the configuration for at most `fuel` steps. A new node takes one more than the greatest
 /// node number, and one more than the greatest list number, of the grove. Before each step it is
 /// asked, in this order, whether nothing is pending, whether the fuel is spent, and whether a limit
-/// is passed: Number or Text of the terms of the first piece, then Nodes, then Identifier.
+/// is passed: Number or Text of the terms of the first piece, then Nodes or Depth, then Identifier.
 pub fn run_plain(alloc: Global, theory: &Theory, config: Config, fuel: u32) -> Outcome
     requires well_formed { IsWellFormedTheory (theory_of theory.now) }
-    requires runnable { IsRunnable (procedures_of (theory_of theory.now)) (config_of config) }
+    requires fits { FitsConfig (procedures_of (theory_of theory.now)) (config_of config) }
     ensures outcome { let results = map prog_var_of config.results in
         IsOutcome results fuel result (outcome standard_limits
         (procedures_of (theory_of theory.now)) results fuel 0 (config_of config)) }
-    ensures spent { IfSpent result (IsRunnable (procedures_of (theory_of theory.now))) }
+    ensures fits { IfSpent result (FitsConfig (procedures_of (theory_of theory.now))) }
 {
     let mut config = config;
     for steps in 0..fuel {
@@ -78,7 +79,7 @@ pub fn run_plain(alloc: Global, theory: &Theory, config: Config, fuel: u32) -> O
 // One step of a run: the next configuration, or how the run comes out there.
 fn turned(alloc: Global, theory: &Theory, mut config: Config, steps: u32) -> Result<Config, Outcome>
     requires well_formed { IsWellFormedTheory (theory_of theory.now) }
-    requires runnable { IsRunnable (procedures_of (theory_of theory.now)) (config_of config) }
+    requires fits { FitsConfig (procedures_of (theory_of theory.now)) (config_of config) }
     ensures outcome { let procedures = procedures_of (theory_of theory.now) in
         let results = map prog_var_of config.results in
         MatchResult result
@@ -88,7 +89,7 @@ fn turned(alloc: Global, theory: &Theory, mut config: Config, steps: u32) -> Res
         (λ came_out. (fuel total : ℕ) → IsOutcome results total came_out
         (outcome standard_limits procedures results (suc fuel) steps (config_of config))) }
     ensures next { MatchResult result
-        (λ next. IsRunnable (procedures_of (theory_of theory.now)) (config_of next))
+        (λ next. FitsConfig (procedures_of (theory_of theory.now)) (config_of next))
         (λ outcome. IfSpent outcome (λ left. ⊥)) }
     ensures results { IfOk result (λ next. next.results ≡ config.results) }
 {
@@ -130,10 +131,10 @@ fn ended(alloc: Global, config: Config, steps: u32) -> Outcome
     }
 }
 
-// The fault of the first piece, which is a command.
+// The fault of the first piece, which is a command: no other piece faults.
 fn faulted(mut config: Config, kind: FaultKind, steps: u32) -> Outcome
-    requires pending { 0 < length config.pending }
-    requires built { list_all is_built_piece (config_of config).pending ≡ true }
+    requires faults { (procedures : Procedures) × (pick : Pick)
+        × (at_fault (fault_kind_of kind) ≡ step procedures (config_of config) pick) }
     ensures outcome { (results : plain.List stores.ProgVar) (total : ℕ)
         → IsOutcome results total result
         (has_fault (fault_kind_of kind) steps (first_command (config_of config).pending)) }

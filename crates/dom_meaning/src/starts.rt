@@ -1,5 +1,5 @@
 // How runs begin.
-ghost use Rattle.std.specs.Prelude.{◌≡◌, ◌<◌, length, map, Some, true, IfOk, slice_get};
+ghost use Rattle.std.specs.Prelude.{◌≡◌, ◌<◌, length, map, Some, IfOk, slice_get};
 ghost use Rattle.model_shapes.specs.Sorts.{shape};
 ghost use Rattle.model_shapes.specs.Sorts as sorts;
 ghost use Rattle.model_shapes.specs.Shapes.{Shaped};
@@ -13,7 +13,6 @@ ghost use Rattle.dom_terms.specs.Stores.{store_of};
 ghost use Rattle.grove_data.specs.Trees.{forest_of};
 ghost use Rattle.theory_syntax.specs.Theories.{procedure_of, theory_of};
 ghost use Rattle.dom_meaning.specs.Configs.{config_of};
-ghost use Rattle.dom_meaning.specs.Built.{is_built, IsRunnable};
 ghost use Rattle.dom_meaning.specs.Starts.{Begins};
 
 use crate::configurations::{Config, Pending};
@@ -42,10 +41,6 @@ pub fn start(
         → Begins (procedure_of started) (map value_seen arguments) (forest_of grove) config) }
     ensures fits { IfOk result
         (λ config. FitsConfig (procedures_of (theory_of theory.now)) (config_of config)) }
-    ensures runnable { IfOk result (λ config. (started : Procedure)
-        → slice_get theory.now.procedures procedure ≡ Some started
-        → is_built (procedure_of started).body ≡ true
-        → IsRunnable (procedures_of (theory_of theory.now)) (config_of config)) }
 {
     let Some(started) = theory.procedures.get(procedure) else {
         unreachable!();

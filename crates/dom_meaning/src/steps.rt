@@ -4,6 +4,7 @@ ghost use Rattle.std.specs.Prelude.{◌≡◌, ◌≢◌, ◌<◌, [], ◌∷◌
 ghost use Rattle.model_commands.specs.Theories.{procedures_of};
 ghost use Rattle.model_files.specs.FileFaults.{IsWellFormedTheory};
 ghost use Rattle.model_machine.specs.Machine as model;
+ghost use Rattle.model_machine.specs.Fitting.{FitsConfig};
 ghost use Rattle.model_machine.specs.Outcomes.{limit_ahead};
 ghost use Rattle.model_limits.specs.Limits.{standard_limits};
 ghost use Rattle.model_shapes.specs.Trees.{beside};
@@ -15,14 +16,13 @@ ghost use Rattle.dom_terms.specs.Values.{value_seen};
 ghost use Rattle.dom_terms.specs.Stores.{store_of};
 ghost use Rattle.grove_data.specs.Trees.{tree_of, forest_of};
 ghost use Rattle.theory_syntax.specs.Theories.{theory_of};
-ghost use Rattle.dom_meaning.specs.Configs.{config_of, pieces_in, pick_of};
-ghost use Rattle.dom_meaning.specs.Built.{IsRunnable};
+ghost use Rattle.dom_meaning.specs.Configs.{config_of, piece_of, pieces_in, pick_of};
 ghost use Rattle.dom_meaning.specs.Faults.{TellsLimit};
-ghost use Rattle.dom_meaning.specs.Plans.{pieces_put, store_after, grove_after, FitsStores};
+ghost use Rattle.dom_meaning.specs.Plans.{in_block, pieces_put, store_after, grove_after, FitsStores};
 ghost use Rattle.dom_meaning.specs.Steps.{answer_of};
 ghost use Rattle.dom_meaning.specs.declared.steps.StepOut.TheVariants.{Next};
 
-use crate::configurations::{Config, Pending};
+use crate::configurations::{Config, Pending, Pieces};
 use crate::faults::{FaultKind, StepFault};
 use crate::plans::{Change, Plan, planned};
 use theory_syntax::Theory;
@@ -44,9 +44,9 @@ pub enum StepOut {
 }
 
 /// Takes one step, with the numbers that a new node and its list are given. Limit comes exactly
-/// where the step would pass one: Number or Text of the terms of the first piece, and then Nodes;
-/// Identifier never comes. A limit is tested before a fault or a bad pick. After every answer but
-/// Next the configuration is as it was.
+/// where the step would pass one: Number or Text of the terms of the first piece, and then Nodes or
+/// Depth; Identifier never comes. A limit is tested before a fault or a bad pick. After every
+/// answer but Next the configuration is as it was.
 pub fn step(
     alloc: Global,
     theory: &Theory,
@@ -54,18 +54,18 @@ pub fn step(
     pick: (u32, u32),
 ) -> Result<StepOut, StepFault>
     requires well_formed { IsWellFormedTheory (theory_of theory.now) }
-    requires runnable { IsRunnable (procedures_of (theory_of theory.now)) (config_of config.old) }
+    requires fits { FitsConfig (procedures_of (theory_of theory.now)) (config_of config.old) }
     ensures step { IfOk result (λ out. answer_of out (config_of config.new)
         ≡ model.step (procedures_of (theory_of theory.now)) (config_of config.old) (pick_of pick)) }
     ensures limit { TellsLimit result (limit_ahead standard_limits (config_of config.old)) }
     ensures unchanged { result ≢ Ok Next → config.new ≡ config.old }
     ensures results { config.new.results ≡ config.old.results }
-    ensures runnable { IsRunnable (procedures_of (theory_of theory.now)) (config_of config.new) }
+    ensures fits { FitsConfig (procedures_of (theory_of theory.now)) (config_of config.new) }
 {
-    let Some(piece) = config.pending.last() else {
+    let Some((piece, others)) = config.pending.as_slice().split_last() else {
         return Ok(StepOut::Done);
     };
-    match planned(alloc, piece, &config.store, &config.grove, pick)? {
+    match planned(alloc, theory, piece, others, &config.store, &config.grove, pick)? {
         Plan::Becomes(change) => {
             advance(config, change)?;
             Ok(StepOut::Next)
@@ -75,30 +75,13 @@ pub fn step(
     }
 }
 
-// Makes the change in place of the first piece. Where memory is refused nothing is changed.
+// Makes the change to the first piece. Where memory is refused nothing is changed.
 fn advance(config: &mut Config, change: Change) -> Result<(), OutOfMemory>
     requires pending { 0 < length config.old.pending }
     requires fits { FitsStores change }
-    ensures ok { OnOk result ((piece : Pending) (rest : plain.List Pending)
-        → config.old.pending ≡ rest ++ piece ∷ []
-        → config_of config.new ≡ record {
-          pending = pieces_in (rest ++ pieces_put change);
-          store = store_after change (store_of config.old.store);
-          grove = grove_after change (forest_of config.old.grove);
-        }) }
-    ensures results { config.new.results ≡ config.old.results }
-    ensures err { OnErr result (config.new ≡ config.old) }
-{
-    let place = config.pending.len() - 1;
-    apply(config, change)?;
-    let _piece = config.pending.remove(place);
-    Ok(())
-}
-
-// Puts the pieces, sets the variable and adds the root. Where memory is refused nothing is changed.
-fn apply(config: &mut Config, change: Change) -> Result<(), OutOfMemory>
-    requires { FitsStores change }
-    ensures pending { OnOk result (config.new.pending ≡ config.old.pending ++ pieces_put change) }
+    ensures pending { OnOk result ((piece : Pending) (others : plain.List Pending)
+        → config.old.pending ≡ others ++ piece ∷ []
+        → pieces_in config.new.pending ≡ pieces_put change (piece_of piece) ++ pieces_in others) }
     ensures store { OnOk result
         (store_of config.new.store ≡ store_after change (store_of config.old.store)) }
     ensures grove { OnOk result
@@ -107,10 +90,63 @@ fn apply(config: &mut Config, change: Change) -> Result<(), OutOfMemory>
     ensures err { OnErr result (config.new ≡ config.old) }
 {
     match change {
-        Change::Pieces(mut pieces) => config.pending.append(&mut pieces),
-        Change::Set(variable, value) => config.store.set(variable, value),
-        Change::Root(root, variable, value) => plant(config, root, variable, value),
+        Change::Pieces(pieces) => replace_first(&mut config.pending, pieces)?,
+        Change::Before(mut pieces) => config.pending.append(&mut pieces)?,
+        Change::Unfold => unfold_first(&mut config.pending)?,
+        Change::Set(variable, value) => {
+            config.store.set(variable, value)?;
+            drop_first(&mut config.pending);
+        }
+        Change::Root(root, variable, value) => {
+            plant(config, root, variable, value)?;
+            drop_first(&mut config.pending);
+        }
+        Change::Switch(pieces, store) => {
+            replace_first(&mut config.pending, pieces)?;
+            config.store = store;
+        }
+        Change::Grove(grove) => {
+            drop_first(&mut config.pending);
+            config.grove = grove;
+        }
     }
+    Ok(())
+}
+
+// Takes the first piece away.
+fn drop_first(pending: &mut Pieces)
+    requires { 0 < length pending.old }
+    ensures { (piece : Pending) (others : plain.List Pending)
+        → pending.old ≡ others ++ piece ∷ [] → pending.new ≡ others }
+{
+    let place = pending.len() - 1;
+    let _piece = pending.remove(place);
+}
+
+// Puts the pieces in the place of the first one. Where memory is refused nothing is changed.
+fn replace_first(pending: &mut Pieces, pieces: Pieces) -> Result<(), OutOfMemory>
+    requires { 0 < length pending.old }
+    ensures ok { OnOk result ((piece : Pending) (others : plain.List Pending)
+        → pending.old ≡ others ++ piece ∷ [] → pending.new ≡ others ++ pieces) }
+    ensures err { OnErr result (pending.new ≡ pending.old) }
+{
+    let mut pieces = pieces;
+    let place = pending.len() - 1;
+    pending.append(&mut pieces)?;
+    let _piece = pending.remove(place);
+    Ok(())
+}
+
+// Puts the commands of the first piece, a block, in its place. Another piece has none. Where memory
+// is refused nothing is changed.
+fn unfold_first(pending: &mut Pieces) -> Result<(), OutOfMemory>
+    requires { 0 < length pending.old }
+    ensures ok { OnOk result ((piece : Pending) (others : plain.List Pending)
+        → pending.old ≡ others ++ piece ∷ []
+        → pieces_in pending.new ≡ in_block (piece_of piece) ++ pieces_in others) }
+    ensures err { OnErr result (pending.new ≡ pending.old) }
+{
+    Err(OutOfMemory)
 }
 
 // Adds the root and sets the variable. Where memory is refused nothing is changed.

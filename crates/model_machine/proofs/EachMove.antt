@@ -7,7 +7,8 @@ use Rattle.model_groves.specs.Groves.{positive, has_root, without, adding}
 use Rattle.model_groves.specs.Picks.{Pick, is_free}
 use Rattle.model_machine.specs.Machine.{FaultKind, cycle, not_child, Move, becomes, faults, bad_pick, reading, appending, removing, creating}
 
-module _ (P : Move → Type 0) (at_fault : (kind : FaultKind) → P (faults kind)) (at_pick : P bad_pick)
+module _ (P : Move → Type 0) (at_fault : (kind : FaultKind) → P (faults kind))
+    (at_pick : P bad_pick)
     (at_rest : (store : Store) (grove : Trees) → P (becomes [] store grove)) where
   either : (b : Bool) (m n : Move) → P m → P n → P (cond b m n)
   either true m n x y = x

@@ -244,7 +244,8 @@ module _ (ps : Procedures) where
 
   -- THE LAW, of a run from the start of a procedure
   pub pending-part : (f : Procedure) → Contains ps f → (values : List Value) (roots : Trees)
-      (picks : List Pick) (after : Config) → after_picks ps picks (start f values roots) ≡ Some after
+      (picks : List Pick) (after : Config)
+      → after_picks ps picks (start f values roots) ≡ Some after
       → (c : Command) → Contains after.pending (run c) → InSomeBody parts_of ps c
   pending-part f h values roots picks after e c m =
       part-member after.pending (subst PartAfter e
