@@ -1,5 +1,5 @@
 -- What the tests of formulas, commands and terms say.
-use Rattle.std.proofs.Common.{◌≡◌, Bool, true, ◌&&◌, List, [], ◌∷◌, refl, sym, ap, subst, ◌∙◌, IsTrue}
+use Rattle.std.proofs.Common.{◌≡◌, Bool, true, [], ◌∷◌, refl, sym, ap, subst, ◌∙◌, IsTrue}
 use Rattle.model_formulas.specs.SameFormulas.{formula_eq}
 use Rattle.model_formulas.specs.Formulas.{Named}
 use Rattle.model_formulas.specs.Nameless.{nameless}
@@ -7,15 +7,11 @@ use Rattle.model_terms.specs.Stores.{ProgVar, as_var}
 use Rattle.model_groves.specs.Groves.{is_yes}
 use Rattle.model_commands.specs.Commands.{Command, skip}
 use Rattle.std.specs.Prelude.{◌↔◌}
-use Rattle.std.specs.List.{list_all}
-use Rattle.std.proofs.Common.{◌++◌}
 use Rattle.model_terms.specs.Variables.{Var}
-use Rattle.model_commands.specs.SortTests.{is_program}
 use Rattle.theory_syntax.specs.SameCommands.{same_command}
 use Rattle.theory_syntax.proofs.SameCommands.{same_command-is, same_command-refl}
 use Rattle.model_terms.specs.Terms.{Term}
 use Rattle.std.proofs.lemmas.Bool.Decides.{same_from_decides}
-use Rattle.std.proofs.lemmas.List.Folds.{list_all-append}
 use mathlib.Core.Path.{fun_ext}
 use Rattle.model_terms.specs.VariableTests.{var_eq}
 use Rattle.model_terms.specs.Terms.{variable}

@@ -10,10 +10,10 @@ ghost use Rattle.hoare_kernel.specs.Tests as test;
 
 use crate::citations::cited;
 use crate::same::{are_equal, same};
-use theory_syntax::{Command, Judgement, Step, Triple};
 use dom_terms::{DataSort, OutOfMemory, same_data_sort};
 use formula_syntax::Formula;
 use std::alloc::Global;
+use theory_syntax::{Command, Judgement, Step, Triple};
 
 // The formula after the command, where the judgement is its triple from the formula before.
 fn after<'a>(

@@ -11,9 +11,9 @@ ghost use Rattle.hoare_kernel.specs.Tests as test;
 use crate::chains::is_chain;
 use crate::citations::are_numbered;
 use crate::same::{is_replaced, same};
-use theory_syntax::{Command, Judgement, Reason, Step, Triple};
 use dom_terms::{Numbers, OutOfMemory, Text, evaluates};
 use std::alloc::Global;
+use theory_syntax::{Command, Judgement, Reason, Step, Triple};
 
 fn is_nothing<T>(items: &[T]) -> bool
     ensures { result ≡ test.no_items items.now }

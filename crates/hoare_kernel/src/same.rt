@@ -7,10 +7,10 @@ ghost use Rattle.theory_syntax.specs.SameCommands as commands;
 ghost use Rattle.model_files.specs.Sizes.{IsSmall};
 ghost use Rattle.hoare_kernel.specs.Tests as test;
 
-use theory_syntax::{Command, same_command};
 use dom_terms::{Copied, OutOfMemory, ProgVar, Term};
 use formula_syntax::{AnyVar, Formula, Pair, is_substitution, same_formula};
 use std::alloc::Global;
+use theory_syntax::{Command, same_command};
 
 /// Whether the formulas are the same up to the names of bound variables.
 pub fn same(alloc: Global, left: &Formula, right: &Formula) -> Result<bool, OutOfMemory>

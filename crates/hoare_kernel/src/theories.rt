@@ -9,9 +9,9 @@ ghost use Rattle.hoare_kernel.specs.Tests as test;
 
 use crate::instances::are_instances;
 use crate::same::{are_equal, same};
-use theory_syntax::{Judgement, Procedure, Step, Theory, Triple};
 use dom_terms::{OutOfMemory, same_data_sort};
 use std::alloc::Global;
+use theory_syntax::{Judgement, Procedure, Step, Theory, Triple};
 
 // Whether the formulas of the triple are the procedure's requires and ensures.
 fn has_own_formulas(
