@@ -1,10 +1,11 @@
 // Nodes that are added, and trees that are moved.
 ghost use Rattle.std.specs.Prelude as plain;
-ghost use Rattle.std.specs.Prelude.{◌≡◌, [], ◌∷◌, IfOk};
+ghost use Rattle.std.specs.Prelude.{◌≡◌, [], ◌∷◌, true, IfOk};
 ghost use Rattle.model_shapes.specs.Sorts as sorts;
 ghost use Rattle.model_shapes.specs.Trees.{WellFormed};
 ghost use Rattle.model_shapes.specs.Values.{FitsValue, str};
-ghost use Rattle.model_terms.specs.Stores.{Computes, value_of, text_in};
+ghost use Rattle.model_terms.specs.Stores.{value_of, text_in};
+ghost use Rattle.model_terms.specs.TermSorts.{evaluates};
 ghost use Rattle.model_commands.specs.Commands as commands;
 ghost use Rattle.model_groves.specs.Groves.{node_at};
 ghost use Rattle.model_machine.specs.Machine.{Piece, run, creating, appending, removing};
@@ -39,7 +40,7 @@ pub(crate) fn created(
     grove: &Grove,
     pick: (u32, u32),
 ) -> Result<Plan, StepFault>
-    requires name { Computes sorts.str_sort (term_of name.now) }
+    requires name { evaluates sorts.str_sort (term_of name.now) ≡ true }
     requires well_formed { WellFormed (forest_of grove.now) }
     ensures plan { IfOk result (λ plan. (piece : Piece)
         → move_of plan piece (store_of store.now) (forest_of grove.now)
@@ -88,8 +89,8 @@ pub(crate) fn appended(
     store: &Store,
     grove: &Grove,
 ) -> Result<Plan, StepFault>
-    requires parent { Computes sorts.node_sort (term_of parent.now) }
-    requires child { Computes sorts.node_sort (term_of child.now) }
+    requires parent { evaluates sorts.node_sort (term_of parent.now) ≡ true }
+    requires child { evaluates sorts.node_sort (term_of child.now) ≡ true }
     requires well_formed { WellFormed (forest_of grove.now) }
     ensures plan { IfOk result (λ plan. (piece : Piece)
         → move_of plan piece (store_of store.now) (forest_of grove.now)
@@ -111,8 +112,8 @@ pub(crate) fn removed(
     store: &Store,
     grove: &Grove,
 ) -> Result<Plan, StepFault>
-    requires parent { Computes sorts.node_sort (term_of parent.now) }
-    requires child { Computes sorts.node_sort (term_of child.now) }
+    requires parent { evaluates sorts.node_sort (term_of parent.now) ≡ true }
+    requires child { evaluates sorts.node_sort (term_of child.now) ≡ true }
     requires well_formed { WellFormed (forest_of grove.now) }
     ensures plan { IfOk result (λ plan. (piece : Piece)
         → move_of plan piece (store_of store.now) (forest_of grove.now)
