@@ -8,7 +8,7 @@ use Rattle.model_terms.specs.Stores.{Store, set, sort_of}
 use Rattle.model_groves.specs.Groves.{nodes_where, parental, first_number}
 use Rattle.model_commands.specs.Commands.{block}
 use Rattle.model_commands.specs.Theories as model
-use Rattle.model_machine.specs.Machine.{Piece, run, pieces_of, Move, becomes, faults, bad_pick}
+use Rattle.model_machine.specs.Machine.{Piece, run, pieces_of, Move, becomes, faults, bad_pick, appending, removing}
 use Rattle.dom_terms.specs.Terms.{prog_var_of}
 use Rattle.dom_terms.specs.Values.{value_seen}
 use Rattle.dom_terms.specs.Stores.{store_of}
@@ -19,6 +19,8 @@ use Rattle.dom_meaning.specs.declared.plans.Change.{Change}
 use Rattle.dom_meaning.specs.declared.plans.Change.TheVariants as c
 use Rattle.dom_meaning.specs.declared.plans.Plan.{Plan}
 use Rattle.dom_meaning.specs.declared.plans.Plan.TheVariants as p
+use Rattle.dom_meaning.specs.declared.moves.Place.{Place}
+use Rattle.dom_meaning.specs.declared.moves.Place.TheVariants as m
 use Rattle.dom_meaning.specs.declared.reads.Read.{Read}
 use Rattle.dom_meaning.specs.declared.reads.Read.TheVariants as r
 use Rattle.dom_meaning.specs.Configs.{pieces_in}
@@ -74,6 +76,11 @@ move_of (p.Becomes change) piece store grove =
     becomes (pieces_put change piece) (store_after change store) (grove_after change grove)
 move_of (p.Faults kind) piece store grove = faults (fault_kind_of kind)
 move_of p.BadPick piece store grove = bad_pick
+
+-- the second tree moves to the end of the children of the first, or from these to the roots
+abbrev pub moving_to : Place → Trees → Trees → Store → Trees → Move
+moving_to m.Children = appending
+moving_to m.Roots = removing
 
 -- what is read off a node: its name, the number of its list, or its parent in the grove
 abbrev pub value_read : Read → Trees → Name → ℕ → Trees → ℕ → values.Value

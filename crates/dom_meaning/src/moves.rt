@@ -4,6 +4,7 @@ ghost use Rattle.std.specs.Prelude.{◌≡◌, [], ◌∷◌, true, IfOk};
 ghost use Rattle.model_shapes.specs.Sorts as sorts;
 ghost use Rattle.model_shapes.specs.Trees.{WellFormed};
 ghost use Rattle.model_shapes.specs.Values.{FitsValue, str};
+ghost use Rattle.model_terms.specs.Stores as stores;
 ghost use Rattle.model_terms.specs.Stores.{value_of, text_in};
 ghost use Rattle.model_terms.specs.TermSorts.{evaluates};
 ghost use Rattle.model_commands.specs.Commands as commands;
@@ -15,21 +16,31 @@ ghost use Rattle.model_terms.specs.TermLimits.{terms_limit};
 ghost use Rattle.dom_terms.specs.Terms.{prog_var_of, term_of};
 ghost use Rattle.dom_terms.specs.Values.{value_seen};
 ghost use Rattle.dom_terms.specs.Stores.{store_of};
-ghost use Rattle.grove_data.specs.Trees.{forest_of};
+ghost use Rattle.grove_data.specs.Trees.{tree_of, forest_of};
 ghost use Rattle.dom_meaning.specs.Configs.{pick_of};
 ghost use Rattle.dom_meaning.specs.Faults.{TellsLimit};
-ghost use Rattle.dom_meaning.specs.Plans.{move_of};
+ghost use Rattle.dom_meaning.specs.Plans.{move_of, moving_to};
 
-use crate::faults::StepFault;
+use crate::faults::{FaultKind, StepFault};
 use crate::picks::is_free;
 use crate::plans::{Change, Plan};
+use crate::reads::node_named;
 use dom_terms::limits::NODES;
-use dom_terms::{Copied, LimitKind, List, ProgVar, Store, Term, Text, Value, eval};
-use grove_data::{Grove, Tree, has_at_most};
+use dom_terms::{Copied, LimitKind, List, OutOfMemory, ProgVar, Store, Term, Text, Value, eval};
+use grove_data::{Grove, Tree, has_at_most, has_root, is_within, moved_below, moved_to_roots};
 use std::alloc::Global;
 
 // The most nodes that a grove may have.
 const MOST_NODES: usize = NODES;
+
+/// Where a tree is moved to.
+#[derive(Clone, Copy)]
+pub(crate) enum Place {
+    /// The end of the children of a node.
+    Children,
+    /// The roots.
+    Roots,
+}
 
 /// A root is added, with the text as its name and the numbers of the pick.
 pub(crate) fn created(
@@ -81,9 +92,12 @@ fn text(value: Value) -> Text
     }
 }
 
-/// The tree of the second node moves to the end of the children of the first.
-pub(crate) fn appended(
-    _alloc: Global,
+/// The tree of the second node moves to the end of the children of the first, or from these to the
+/// roots. It faults where a value names no node; else where the first stands in the tree of the
+/// second, or where the second is no child of the first.
+pub(crate) fn moved(
+    alloc: Global,
+    place: Place,
     parent: &Term,
     child: &Term,
     store: &Store,
@@ -93,36 +107,61 @@ pub(crate) fn appended(
     requires child { evaluates sorts.node_sort (term_of child.now) ≡ true }
     requires well_formed { WellFormed (forest_of grove.now) }
     ensures plan { IfOk result (λ plan. (piece : Piece)
-        → move_of plan piece (store_of store.now) (forest_of grove.now)
-        ≡ appending
+        → move_of plan piece (store_of store.now) (forest_of grove.now) ≡ moving_to place
         (node_at (value_of (store_of store.now) (term_of parent.now)) (forest_of grove.now))
         (node_at (value_of (store_of store.now) (term_of child.now)) (forest_of grove.now))
         (store_of store.now) (forest_of grove.now)) }
     ensures limit { TellsLimit result (terms_limit standard_limits (store_of store.now)
         (term_of parent.now ∷ term_of child.now ∷ [])) }
 {
-    Err(StepFault::OutOfMemory)
+    let parent = eval(alloc, parent, store)?;
+    let child = eval(alloc, child, store)?;
+    match (node_named(&parent, grove), node_named(&child, grove)) {
+        (Some(parent), Some(child)) => Ok(moved_to(alloc, place, parent, child, grove)?),
+        _ => Ok(Plan::Faults(FaultKind::NoNode)),
+    }
 }
 
-/// The tree of the second node, a child of the first, moves to the roots.
-pub(crate) fn removed(
-    _alloc: Global,
-    parent: &Term,
-    child: &Term,
-    store: &Store,
+// The child goes to the place.
+fn moved_to(
+    alloc: Global,
+    place: Place,
+    parent: &Tree,
+    child: &Tree,
     grove: &Grove,
-) -> Result<Plan, StepFault>
-    requires parent { evaluates sorts.node_sort (term_of parent.now) ≡ true }
-    requires child { evaluates sorts.node_sort (term_of child.now) ≡ true }
-    requires well_formed { WellFormed (forest_of grove.now) }
-    ensures plan { IfOk result (λ plan. (piece : Piece)
-        → move_of plan piece (store_of store.now) (forest_of grove.now)
-        ≡ removing
-        (node_at (value_of (store_of store.now) (term_of parent.now)) (forest_of grove.now))
-        (node_at (value_of (store_of store.now) (term_of child.now)) (forest_of grove.now))
-        (store_of store.now) (forest_of grove.now)) }
-    ensures limit { TellsLimit result (terms_limit standard_limits (store_of store.now)
-        (term_of parent.now ∷ term_of child.now ∷ [])) }
+) -> Result<Plan, OutOfMemory>
+    ensures { IfOk result (λ plan. (piece : Piece) (store : stores.Store)
+        → move_of plan piece store (forest_of grove.now)
+        ≡ moving_to place (tree_of parent.now) (tree_of child.now) store (forest_of grove.now)) }
 {
-    Err(StepFault::OutOfMemory)
+    match place {
+        Place::Children => appended(alloc, parent, child, grove),
+        Place::Roots => removed(alloc, parent, child, grove),
+    }
+}
+
+// The child goes below the parent, unless the parent stands in its tree.
+fn appended(alloc: Global, parent: &Tree, child: &Tree, grove: &Grove) -> Result<Plan, OutOfMemory>
+    ensures { IfOk result (λ plan. (piece : Piece) (store : stores.Store)
+        → move_of plan piece store (forest_of grove.now)
+        ≡ appending (tree_of parent.now) (tree_of child.now) store (forest_of grove.now)) }
+{
+    if is_within(child, parent.id) {
+        return Ok(Plan::Faults(FaultKind::Cycle));
+    }
+    let moved = moved_below(alloc, grove, child, parent.id)?;
+    Ok(Plan::Becomes(Change::Grove(moved)))
+}
+
+// The child goes to the roots, where it is one of the parent's.
+fn removed(alloc: Global, parent: &Tree, child: &Tree, grove: &Grove) -> Result<Plan, OutOfMemory>
+    ensures { IfOk result (λ plan. (piece : Piece) (store : stores.Store)
+        → move_of plan piece store (forest_of grove.now)
+        ≡ removing (tree_of parent.now) (tree_of child.now) store (forest_of grove.now)) }
+{
+    if !has_root(&parent.kids, child.id) {
+        return Ok(Plan::Faults(FaultKind::NotChild));
+    }
+    let moved = moved_to_roots(alloc, grove, child)?;
+    Ok(Plan::Becomes(Change::Grove(moved)))
 }

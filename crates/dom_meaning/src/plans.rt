@@ -18,7 +18,7 @@ ghost use Rattle.dom_meaning.specs.Plans.{move_of};
 use crate::configurations::{Pending, Pieces};
 use crate::faults::{FaultKind, StepFault};
 use crate::flow::{assigned, called, chosen, given_back, opened, repeated, restored};
-use crate::moves::{appended, created, removed};
+use crate::moves::{Place, created, moved};
 use crate::reads::{Read, item_read, node_read};
 use theory_syntax::{Command, Theory};
 use dom_terms::{List, ProgVar, Store, Value};
@@ -122,8 +122,12 @@ fn command_planned(
         Command::Item(variable, list, place) => {
             item_read(alloc, variable, list, place, store, grove)
         }
-        Command::Append(parent, child) => appended(alloc, parent, child, store, grove),
-        Command::Remove(parent, child) => removed(alloc, parent, child, store, grove),
+        Command::Append(parent, child) => {
+            moved(alloc, Place::Children, parent, child, store, grove)
+        }
+        Command::Remove(parent, child) => {
+            moved(alloc, Place::Roots, parent, child, store, grove)
+        }
         Command::If(cond, first, second) => chosen(alloc, cond, first, second, store),
         Command::While(cond, block) => repeated(alloc, cond, block, store),
         Command::Local(variable, block) => Ok(opened(alloc, variable, block, store)?),
