@@ -6,7 +6,7 @@ use Rattle.std.proofs.lemmas.Slice.Eq.{bytes_eq-Decides}
 use Rattle.model_shapes.proofs.Truth.{both_true}
 use Rattle.model_formulas.specs.Formulas.{Named}
 use Rattle.model_commands.specs.Theories.{ProcedureOf, Theory, nameless_procedure, procedures_of, procedure_named}
-use Rattle.model_commands.specs.Sorting.{Sorted}
+use Rattle.model_commands.specs.SortTests.{is_sorted}
 use Rattle.model_files.specs.FileFaults.{twice_kind, declarations, header, steps_from, procedures_from, first_fault_at, IsWellFormedTheory}
 use Rattle.model_commands.proofs.StoreLaws.{not-true}
 use Rattle.model_files.proofs.Places.{passes-each, first-none, both-none}
@@ -63,7 +63,8 @@ module _ (theory : Theory) where
   -- the body of the procedure at a place has parts of the right sorts
   pub body-sorted : (ps : List Procedure) (place : ℕ) (f : Procedure)
       → map procedure_of ps ≡ theory.procedures → IsWellFormedTheory theory
-      → slice_get ps place ≡ Some f → Sorted (procedures_of theory) (procedure_of f).body
+      → slice_get ps place ≡ Some f
+      → is_sorted (procedures_of theory) (procedure_of f).body ≡ true
   body-sorted ps place f same w is =
       let faultless : first_fault_at (procedures_from theory [] 1 (map procedure_of ps)) ≡ None =
       subst (λ z. first_fault_at (procedures_from theory [] 1 z) ≡ None) (sym same)

@@ -1,54 +1,61 @@
 -- What the machine does with the piece that is kept last.
-use Rattle.std.proofs.Common.{◌≡◌, ◌-◌, List, [], ◌∷◌, ◌++◌, length, take, Some, true, sym, ap, ◌∙◌}
-use Rattle.std.specs.Prelude.{slice_get}
+use Rattle.std.proofs.Common.{◌≡◌, List, [], ◌∷◌, ◌++◌, sym, ap, ◌∙◌, subst}
+use Rattle.model_shapes.specs.Trees.{Trees}
+use Rattle.model_shapes.specs.Values.{FitsValue}
+use Rattle.model_terms.specs.Stores.{Store, sort_of}
+use Rattle.model_terms.proofs.StoreLaws.{set-same}
 use Rattle.model_commands.specs.Theories.{Procedures}
+use Rattle.model_commands.specs.SortTests.{BodiesSorted}
 use Rattle.model_machine.specs.Machine as model
 use Rattle.model_groves.specs.Picks.{Pick}
-use Rattle.model_machine.specs.Machine.{Piece, Move, becomes, faults, bad_pick, move, next, at_fault, at_bad_pick, stepped, step}
+use Rattle.model_machine.specs.Machine.{Piece, run, restore, return, Move, becomes, faults, bad_pick, move, configuration, next, done, at_fault, at_bad_pick, stepped, step}
 use Rattle.model_limits.specs.Limits.{standard_limits}
 use Rattle.model_machine.specs.Outcomes.{step_limit, limit_ahead}
-use Rattle.model_machine.specs.Fitting.{FitsPiece}
+use Rattle.model_machine.specs.Fitting.{FitsPiece, FitPieces, FitsConfig}
+use Rattle.model_machine.proofs.Fine.{FineMove, move-fine}
+use Rattle.dom_terms.specs.Terms.{prog_var_of}
+use Rattle.dom_terms.specs.Values.{value_seen}
 use Rattle.dom_terms.specs.Stores.{store_of}
 use Rattle.grove_data.specs.Trees.{forest_of}
 use Rattle.dom_meaning.specs.declared.configurations.Pending.{Pending}
 use Rattle.dom_meaning.specs.declared.configurations.Config.{Config}
 use Rattle.dom_meaning.specs.declared.plans.Change.{Change}
+use Rattle.dom_meaning.specs.declared.plans.Change.TheVariants as c
 use Rattle.dom_meaning.specs.Configs.{piece_of, pieces_in, config_of}
-use Rattle.dom_meaning.specs.Built.{is_built_piece, IsRunnable}
-use Rattle.dom_meaning.specs.Plans.{pieces_put, store_after, grove_after}
-use Rattle.dom_meaning.proofs.PieceLaws.{last-of, first_piece, pieces_in-append}
-use Rattle.dom_meaning.proofs.StepLaws.{first-built, first-fits, first-step, first-limit}
+use Rattle.dom_meaning.specs.Plans.{pieces_put, store_after, grove_after, FitsStores}
+use Rattle.dom_meaning.proofs.PieceLaws.{pieces_in-append}
 
--- the configuration after a change in place of the piece at the end
-abbrev pub changed : Config → List Pending → Change → model.Config
-changed config before change = record {
-  pending = pieces_in (before ++ pieces_put change);
-  store = store_after change (store_of config.store);
-  grove = grove_after change (forest_of config.grove);
-}
+-- a change that the machine makes sets variables to values of their sorts
+safe : (ps : Procedures) (change : Change) (piece : Piece) (store : Store) (grove : Trees)
+    → FineMove ps (becomes (pieces_put change piece) (store_after change store)
+    (grove_after change grove))
+    → FitsStores change
+safe ps (c.Set x v) piece store grove fine =
+    subst (FitsValue (sort_of (prog_var_of x)))
+    (set-same (prog_var_of x) (value_seen v) store) (fine.1.proper.fits (prog_var_of x))
+safe ps (c.Root tree x v) piece store grove fine =
+    subst (FitsValue (sort_of (prog_var_of x)))
+    (set-same (prog_var_of x) (value_seen v) store) (fine.1.proper.fits (prog_var_of x))
+safe ps (c.Pieces pieces) piece store grove fine = tt
+safe ps (c.Before pieces) piece store grove fine = tt
+safe ps c.Unfold piece store grove fine = tt
+safe ps (c.Switch pieces other) piece store grove fine = tt
+safe ps (c.Grove other) piece store grove fine = tt
 
-module _ (ps : Procedures) (config : Config) (piece : Pending)
-    (last : Some piece ≡ slice_get config.pending (length config.pending - 1)) where
-  -- the others
-  abbrev pub others : List Pending
-  others = take (length config.pending - 1) config.pending
-
+module _ (ps : Procedures) (config : Config) (piece : Pending) (others : List Pending)
+    (last : config.pending ≡ others ++ piece ∷ []) where
   first : (config_of config).pending ≡ piece_of piece ∷ pieces_in others
-  first = first_piece config.pending piece last
+  first = ap pieces_in last ∙ pieces_in-append others (piece ∷ [])
 
-  pub is_last : config.pending ≡ others ++ piece ∷ []
-  is_last = last-of config.pending piece last
-
-  pub piece_is_built : IsRunnable ps (config_of config) → is_built_piece (piece_of piece) ≡ true
-  piece_is_built = first-built ps (config_of config) (piece_of piece) (pieces_in others) first
-
-  pub piece_fits : IsRunnable ps (config_of config) → FitsPiece ps (piece_of piece)
-  piece_fits = first-fits ps (config_of config) (piece_of piece) (pieces_in others) first
+  pub piece_fits : FitsConfig ps (config_of config) → FitsPiece ps (piece_of piece)
+  piece_fits fits = (subst (FitPieces ps) first fits.pieces).0
 
   pub piece_limit : limit_ahead standard_limits (config_of config)
       ≡ step_limit standard_limits (piece_of piece) (pieces_in others) (store_of config.store)
       (forest_of config.grove)
-  piece_limit = first-limit ps (config_of config) (piece_of piece) (pieces_in others) first
+  piece_limit =
+      ap (λ z. limit_ahead standard_limits (configuration z (store_of config.store)
+      (forest_of config.grove))) first
 
   -- the step, by the move of the piece
   step_of : (pick : Pick) (m : Move)
@@ -56,7 +63,8 @@ module _ (ps : Procedures) (config : Config) (piece : Pending)
       → stepped (pieces_in others) m ≡ step ps (config_of config) pick
   step_of pick m e =
       ap (stepped (pieces_in others)) e
-      ∙ sym (first-step ps (config_of config) (piece_of piece) (pieces_in others) first pick)
+      ∙ sym (ap (λ z. step ps (configuration z (store_of config.store) (forest_of config.grove))
+      pick) first)
 
   pub it_faults : (pick : Pick) (kind : model.FaultKind)
       → faults kind ≡ move ps pick (piece_of piece) (store_of config.store) (forest_of config.grove)
@@ -68,17 +76,26 @@ module _ (ps : Procedures) (config : Config) (piece : Pending)
       → at_bad_pick ≡ step ps (config_of config) pick
   it_picks pick e = step_of pick bad_pick e
 
-  pub it_becomes : (pick : Pick) (change : Change) (after : model.Config)
-      → becomes (pieces_in (pieces_put change)) (store_after change (store_of config.store))
-      (grove_after change (forest_of config.grove))
-      ≡ move ps pick (piece_of piece) (store_of config.store) (forest_of config.grove)
-      → after ≡ changed config others change → next after ≡ step ps (config_of config) pick
-  it_becomes pick change after e is =
-      ap next is
-      ∙ ap (λ z. next (record {
-        pending = z;
-        store = store_after change (store_of config.store);
-        grove = grove_after change (forest_of config.grove);
-      })) (pieces_in-append others (pieces_put change))
-      ∙ step_of pick (becomes (pieces_in (pieces_put change))
-      (store_after change (store_of config.store)) (grove_after change (forest_of config.grove))) e
+  module _ (pick : Pick) (change : Change)
+      (moves : becomes (pieces_put change (piece_of piece))
+      (store_after change (store_of config.store)) (grove_after change (forest_of config.grove))
+      ≡ move ps pick (piece_of piece) (store_of config.store) (forest_of config.grove)) where
+    -- the change may be made
+    pub it_is_safe : BodiesSorted ps → FitsConfig ps (config_of config) → FitsStores change
+    it_is_safe bodies fits =
+        safe ps change (piece_of piece) (store_of config.store) (forest_of config.grove)
+        (subst (FineMove ps) (sym moves)
+        (move-fine ps bodies pick (piece_of piece) (store_of config.store)
+        (forest_of config.grove) (piece_fits fits) fits.fine))
+
+    -- the configuration after it is the next one
+    pub it_becomes : (after : Config)
+        → pieces_in after.pending ≡ pieces_put change (piece_of piece) ++ pieces_in others
+        → store_of after.store ≡ store_after change (store_of config.store)
+        → forest_of after.grove ≡ grove_after change (forest_of config.grove)
+        → next (config_of after) ≡ step ps (config_of config) pick
+    it_becomes after pending store grove =
+        (λ i. next (configuration (pending i) (store i) (grove i)))
+        ∙ step_of pick (becomes (pieces_put change (piece_of piece))
+        (store_after change (store_of config.store)) (grove_after change (forest_of config.grove)))
+        moves

@@ -1,7 +1,9 @@
 pub mod PickLaws
 pub mod PieceLaws
-pub mod GroveLaws
-pub mod StepLaws
+pub mod TermLaws
+pub mod Reading
+pub mod Calls
+pub mod Faulting
 pub mod FirstPieces
 pub mod StoreLaws
 pub mod RunLaws

@@ -1,5 +1,6 @@
 pub mod Configs
 pub mod Faults
+pub mod OwnTerms
 pub mod Plans
 pub mod Steps
 pub mod Runs

@@ -3,7 +3,7 @@ ghost use Rattle.std.specs.Prelude.{◌≡◌, IfOk, map};
 ghost use Rattle.dom_terms.specs.Terms.{prog_var_of};
 
 use theory_syntax::Command;
-use dom_terms::{Copied, List, OutOfMemory, ProgVar, Store, Value, Vars};
+use dom_terms::{Copied, List, MadeOf, OutOfMemory, ProgVar, Store, Value, Vars};
 use grove_data::Grove;
 use std::alloc::Global;
 
@@ -58,6 +58,18 @@ impl Copied for Pending {
                 Ok(Self::Return(caller, results, variables.copy(alloc)?))
             }
         }
+    }
+}
+
+impl MadeOf<Command> for Pending {
+    ghost use Rattle.dom_meaning.specs.declared.configurations.Pending.TheVariants.{Run};
+
+    ghost make = { Run };
+
+    fn made(command: Command) -> Pending
+        ensures { result ≡ Run command }
+    {
+        Self::Run(command)
     }
 }
 

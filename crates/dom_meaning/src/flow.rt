@@ -1,13 +1,13 @@
 // What is planned for assignments, choice, loops, local variables and calls.
-ghost use Rattle.std.specs.Prelude.{◌≡◌, [], ◌∷◌, cond as either, map, option_copied, IfOk};
+ghost use Rattle.std.specs.Prelude.{◌≡◌, [], ◌∷◌, true, cond as either, map, find, bytes_eq, option_copied, IfOk};
 ghost use Rattle.std.specs.Option.{option_map};
 ghost use Rattle.model_shapes.specs.Trees.{Trees};
 ghost use Rattle.model_terms.specs.Stores as stores;
-ghost use Rattle.model_terms.specs.Stores.{Computes, value_in, value_of};
-ghost use Rattle.model_terms.specs.Conditions.{Tests, truth_of};
+ghost use Rattle.model_terms.specs.Stores.{value_in, value_of};
+ghost use Rattle.model_terms.specs.TermSorts.{evaluates};
+ghost use Rattle.model_terms.specs.Conditions.{condition_sorted, terms_of_cond, truth_of};
 ghost use Rattle.model_commands.specs.Commands as commands;
-ghost use Rattle.model_commands.specs.CommandParts.{terms_of_cond};
-ghost use Rattle.model_commands.specs.Sorting.{Feed, Receive, CallFits};
+ghost use Rattle.model_commands.specs.Sorting.{Receive};
 ghost use Rattle.model_commands.specs.Theories.{procedures_of, procedure_named};
 ghost use Rattle.model_machine.specs.Machine as machine;
 ghost use Rattle.model_machine.specs.Machine.{Piece, run, becomes, entering, returning, calling};
@@ -24,6 +24,7 @@ ghost use Rattle.theory_syntax.specs.Commands.{block_of, command_of};
 ghost use Rattle.theory_syntax.specs.Theories.{theory_of};
 ghost use Rattle.dom_meaning.specs.Configs.{pieces_in};
 ghost use Rattle.dom_meaning.specs.Faults.{TellsLimit};
+ghost use Rattle.dom_meaning.specs.OwnTerms.{Fed, Enters};
 ghost use Rattle.dom_meaning.specs.Plans.{move_of, nameless_of};
 
 use crate::configurations::{Pending, Pieces};
@@ -33,7 +34,7 @@ use crate::results::{default_of, value_of};
 use theory_syntax::{Block, Command, Procedure, Theory};
 use dom_terms::{
     Cond, Copied, EvalFault, LimitKind, List, OutOfMemory, ProgVar, Store, Term, Terms, Text,
-    Value, Vars, eval, same_text,
+    Value, Vars, eval, holds, same_text,
 };
 use std::alloc::Global;
 
@@ -47,7 +48,7 @@ pub(crate) fn assigned(
     value: &Term,
     store: &Store,
 ) -> Result<Plan, StepFault>
-    requires { Computes (value_sort_of variable.now.sort) (term_of value.now) }
+    requires { evaluates (value_sort_of variable.now.sort) (term_of value.now) ≡ true }
     ensures plan { IfOk result (λ plan. (piece : Piece) (grove : Trees)
         → move_of plan piece (store_of store.now) grove
         ≡ becomes [] (stores.set (prog_var_of variable.now)
@@ -105,7 +106,7 @@ pub(crate) fn chosen(
     second: &Block,
     store: &Store,
 ) -> Result<Plan, StepFault>
-    requires { Tests (cond_of cond.now) }
+    requires { condition_sorted (cond_of cond.now) ≡ true }
     ensures plan { IfOk result (λ plan. (piece : Piece) (grove : Trees)
         → move_of plan piece (store_of store.now) grove
         ≡ becomes (run (commands.block (either (truth_of (store_of store.now) (cond_of cond.now))
@@ -124,7 +125,7 @@ pub(crate) fn repeated(
     block: &Block,
     store: &Store,
 ) -> Result<Plan, StepFault>
-    requires { Tests (cond_of cond.now) }
+    requires { condition_sorted (cond_of cond.now) ≡ true }
     ensures plan { IfOk result (λ plan. (piece : Piece) (grove : Trees)
         → move_of plan piece (store_of store.now) grove
         ≡ becomes (either (truth_of (store_of store.now) (cond_of cond.now))
@@ -150,6 +151,11 @@ fn block_piece(alloc: Global, block: &Block) -> Result<Pieces, OutOfMemory>
 
 /// The body of the procedure with the name, and behind it the return. The store is that of the
 /// callee: its parameters with the values of the arguments.
+#[tactic(auto, using(
+    crate::proofs::Calls::not_called,
+    crate::proofs::Calls::fed_params,
+    crate::proofs::Calls::calls_it
+))]
 pub(crate) fn called(
     alloc: Global,
     theory: &Theory,
@@ -159,8 +165,8 @@ pub(crate) fn called(
     others: &[Pending],
     store: &Store,
 ) -> Result<Plan, StepFault>
-    requires { CallFits (procedure_named name.now (procedures_of (theory_of theory.now)))
-        (map prog_var_of results.now) (map term_of arguments.now) }
+    requires { Enters (procedure_named name.now (procedures_of (theory_of theory.now)))
+        (map term_of arguments.now) }
     ensures plan { IfOk result (λ plan. (piece : Piece) (grove : Trees)
         → move_of plan piece (store_of store.now) grove
         ≡ calling (procedure_named name.now (procedures_of (theory_of theory.now)))
@@ -181,11 +187,19 @@ pub(crate) fn called(
 }
 
 // The first procedure with the name.
+#[tactic(auto, using(crate::proofs::Calls::found_by_name))]
 fn procedure_with<'a>(theory: &'a Theory, name: &Text) -> Option<&'a Procedure>
     ensures { option_map nameless_of (option_copied result)
         ≡ procedure_named name.now (procedures_of (theory_of theory.now)) }
 {
-    let procedures = theory.procedures.as_slice();
+    first_named(theory.procedures.as_slice(), name)
+}
+
+// The first of these with the name.
+fn first_named<'a>(procedures: &'a [Procedure], name: &Text) -> Option<&'a Procedure>
+    ensures { option_copied result ≡ find (λ procedure. bytes_eq name.now procedure.name)
+        procedures.now }
+{
     procedures
         .iter()
         .find(|procedure| same_text(name, &procedure.name))
@@ -199,7 +213,7 @@ fn entered(
     arguments: &[Term],
     store: &Store,
 ) -> Result<Store, EvalFault>
-    requires { Feed (map prog_var_of params.now) (map term_of arguments.now) }
+    requires { Fed (map prog_var_of params.now) (map term_of arguments.now) }
     ensures store { IfOk result (λ callee. store_of callee
         ≡ entering (map prog_var_of params.now) (map term_of arguments.now) (store_of store.now)) }
     ensures limit { Reports result (terms_limit standard_limits (store_of store.now)
@@ -218,6 +232,7 @@ fn entered(
 }
 
 // How many returns are pending.
+#[tactic(auto, using(crate::proofs::PieceLaws::returns_counted))]
 fn returns_among(pending: &[Pending]) -> usize
     ensures { result ≡ returns_in (pieces_in pending.now) }
 {
@@ -287,15 +302,4 @@ fn with_results(
     let mut store = with_results(alloc, results, variables, callee, caller)?;
     store.set(variable.copy(alloc)?, value_of(alloc, result, callee)?)?;
     Ok(store)
-}
-
-// stub
-fn holds(_alloc: Global, cond: &Cond, store: &Store) -> Result<bool, EvalFault>
-    requires { Tests (cond_of cond.now) }
-    ensures value { IfOk result (λ truth.
-        truth ≡ truth_of (store_of store.now) (cond_of cond.now)) }
-    ensures limit { Reports result (terms_limit standard_limits (store_of store.now)
-        (terms_of_cond (cond_of cond.now))) }
-{
-    Err(EvalFault::OutOfMemory)
 }

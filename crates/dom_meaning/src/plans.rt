@@ -1,7 +1,6 @@
 // What is planned for the first piece. Planning only reads the configuration.
 ghost use Rattle.std.specs.Prelude.{◌≡◌, IfOk};
 ghost use Rattle.model_shapes.specs.Trees.{WellFormed};
-ghost use Rattle.model_commands.specs.Sorting.{Sorted};
 ghost use Rattle.model_commands.specs.Theories.{procedures_of};
 ghost use Rattle.model_machine.specs.Machine.{run, move};
 ghost use Rattle.model_limits.specs.Limits.{standard_limits};
@@ -13,6 +12,7 @@ ghost use Rattle.theory_syntax.specs.Commands.{command_of};
 ghost use Rattle.theory_syntax.specs.Theories.{theory_of};
 ghost use Rattle.dom_meaning.specs.Configs.{piece_of, pieces_in, pick_of};
 ghost use Rattle.dom_meaning.specs.Faults.{TellsLimit};
+ghost use Rattle.dom_meaning.specs.OwnTerms.{TermsFit};
 ghost use Rattle.dom_meaning.specs.Plans.{move_of};
 
 use crate::configurations::{Pending, Pieces};
@@ -56,6 +56,7 @@ pub(crate) enum Plan {
 }
 
 /// What is planned for the piece, with the others pending behind it.
+#[tactic(auto, using(crate::proofs::TermLaws::terms_fit, crate::proofs::TermLaws::received))]
 pub(crate) fn planned(
     alloc: Global,
     theory: &Theory,
@@ -95,7 +96,7 @@ fn command_planned(
     grove: &Grove,
     pick: (u32, u32),
 ) -> Result<Plan, StepFault>
-    requires sorted { Sorted (procedures_of (theory_of theory.now)) (command_of command.now) }
+    requires terms { TermsFit (procedures_of (theory_of theory.now)) (command_of command.now) }
     requires well_formed { WellFormed (forest_of grove.now) }
     ensures plan { IfOk result (λ plan.
         move_of plan (run (command_of command.now)) (store_of store.now) (forest_of grove.now)

@@ -1,11 +1,11 @@
 // What commands read off the grove.
-ghost use Rattle.std.specs.Prelude as plain;
-ghost use Rattle.std.specs.Prelude.{◌≡◌, ◌≢◌, [], ◌∷◌, IfOk, MatchOption, option_copied};
+ghost use Rattle.std.specs.Prelude.{◌≡◌, ◌≢◌, [], ◌∷◌, true, IfOk, MatchOption, option_copied};
 ghost use Rattle.model_shapes.specs.Sorts as sorts;
 ghost use Rattle.model_shapes.specs.Trees.{WellFormed};
 ghost use Rattle.model_shapes.specs.Trees as shapes;
 ghost use Rattle.model_shapes.specs.Values.{node_number};
-ghost use Rattle.model_terms.specs.Stores.{Computes, value_of};
+ghost use Rattle.model_terms.specs.Stores.{value_of};
+ghost use Rattle.model_terms.specs.TermSorts.{evaluates};
 ghost use Rattle.model_groves.specs.Groves.{node_at, list_at, nodes_where, parental};
 ghost use Rattle.model_groves.specs.Groves.{first_number, number_at, item_of};
 ghost use Rattle.model_machine.specs.Machine.{Piece, reading, no_node, no_list};
@@ -37,6 +37,7 @@ pub(crate) enum Read {
 }
 
 /// The variable is set to what is read off the node.
+#[tactic(auto, using(crate::proofs::Reading::stands))]
 pub(crate) fn node_read(
     alloc: Global,
     read: Read,
@@ -45,7 +46,7 @@ pub(crate) fn node_read(
     store: &Store,
     grove: &Grove,
 ) -> Result<Plan, StepFault>
-    requires node { Computes sorts.node_sort (term_of node.now) }
+    requires node { evaluates sorts.node_sort (term_of node.now) ≡ true }
     requires well_formed { WellFormed (forest_of grove.now) }
     ensures plan { IfOk result (λ plan. (piece : Piece)
         → move_of plan piece (store_of store.now) (forest_of grove.now)
@@ -72,8 +73,8 @@ pub(crate) fn item_read(
     store: &Store,
     grove: &Grove,
 ) -> Result<Plan, StepFault>
-    requires list { Computes sorts.list_sort (term_of list.now) }
-    requires place { Computes sorts.int_sort (term_of place.now) }
+    requires list { evaluates sorts.list_sort (term_of list.now) ≡ true }
+    requires place { evaluates sorts.int_sort (term_of place.now) ≡ true }
     requires well_formed { WellFormed (forest_of grove.now) }
     ensures plan { IfOk result (λ plan. (piece : Piece)
         → move_of plan piece (store_of store.now) (forest_of grove.now)
@@ -159,6 +160,7 @@ fn item_at(kids: &Forest, place: &Value) -> Value
 }
 
 // The child at a place, or null where there is none.
+#[tactic(auto, using(crate::proofs::Reading::child_there, crate::proofs::Reading::no_child))]
 fn child_at(kids: &Forest, place: usize) -> Value
     ensures { value_seen result ≡ number_at place (forest_of kids.now) }
 {

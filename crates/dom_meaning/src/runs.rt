@@ -1,6 +1,6 @@
 // Runs within their fuel.
 ghost use Rattle.std.specs.Prelude as plain;
-ghost use Rattle.std.specs.Prelude.{◌≡◌, ℕ, ◌<◌, [], ◌∷◌, ◌++◌, length, suc, map, true, IfOk, MatchResult};
+ghost use Rattle.std.specs.Prelude.{◌≡◌, ℕ, suc, map, IfOk, MatchResult};
 ghost use Rattle.model_terms.specs.Stores as stores;
 ghost use Rattle.model_commands.specs.Theories.{Procedures, procedures_of};
 ghost use Rattle.model_groves.specs.Picks.{Pick};
@@ -140,13 +140,12 @@ fn faulted(mut config: Config, kind: FaultKind, steps: u32) -> Outcome
         (has_fault (fault_kind_of kind) steps (first_command (config_of config).pending)) }
     ensures spent { IfSpent result (λ left. ⊥) }
 {
-    let place = config.pending.len() - 1;
-    match config.pending.remove(place) {
-        Pending::Run(command) => Outcome::Fault {
+    match config.pending.pop() {
+        Some(Pending::Run(command)) => Outcome::Fault {
             kind,
             steps,
             command,
         },
-        Pending::Restore(_, _) | Pending::Return(_, _, _) => unreachable!(),
+        _ => unreachable!(),
     }
 }

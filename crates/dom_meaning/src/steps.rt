@@ -1,6 +1,6 @@
 // One step of the machine.
 ghost use Rattle.std.specs.Prelude as plain;
-ghost use Rattle.std.specs.Prelude.{◌≡◌, ◌≢◌, ◌<◌, [], ◌∷◌, ◌++◌, length, Ok, IfOk, OnOk, OnErr};
+ghost use Rattle.std.specs.Prelude.{◌≡◌, ◌≢◌, ◌<◌, [], ◌∷◌, ◌++◌, length, map, reverse, Ok, IfOk, OnOk, OnErr, MatchOption};
 ghost use Rattle.model_commands.specs.Theories.{procedures_of};
 ghost use Rattle.model_files.specs.FileFaults.{IsWellFormedTheory};
 ghost use Rattle.model_machine.specs.Machine as model;
@@ -20,15 +20,18 @@ ghost use Rattle.dom_meaning.specs.Configs.{config_of, piece_of, pieces_in, pick
 ghost use Rattle.dom_meaning.specs.Faults.{TellsLimit};
 ghost use Rattle.dom_meaning.specs.Plans.{in_block, pieces_put, store_after, grove_after, FitsStores};
 ghost use Rattle.dom_meaning.specs.Steps.{answer_of};
+ghost use Rattle.dom_meaning.specs.declared.configurations.Pending.TheVariants.{Run};
 ghost use Rattle.dom_meaning.specs.declared.steps.StepOut.TheVariants.{Next};
+ghost use Rattle.theory_syntax.specs.declared.commands.Command.TheVariants.{Block as BlockOf};
 
 use crate::configurations::{Config, Pending, Pieces};
 use crate::faults::{FaultKind, StepFault};
 use crate::plans::{Change, Plan, planned};
-use theory_syntax::Theory;
+use theory_syntax::{Block, Command, Theory};
 use dom_terms::{OutOfMemory, ProgVar, Value};
 use grove_data::Tree;
 use std::alloc::Global;
+use std::mem::replace;
 
 /// What a step came to.
 #[derive(Clone, Copy, Debug, PartialEq, Eq)]
@@ -139,6 +142,7 @@ fn replace_first(pending: &mut Pieces, pieces: Pieces) -> Result<(), OutOfMemory
 
 // Puts the commands of the first piece, a block, in its place. Another piece has none. Where memory
 // is refused nothing is changed.
+#[tactic(auto, using(crate::proofs::PieceLaws::unfolds, crate::proofs::PieceLaws::left_out))]
 fn unfold_first(pending: &mut Pieces) -> Result<(), OutOfMemory>
     requires { 0 < length pending.old }
     ensures ok { OnOk result ((piece : Pending) (others : plain.List Pending)
@@ -146,11 +150,66 @@ fn unfold_first(pending: &mut Pieces) -> Result<(), OutOfMemory>
         → pieces_in pending.new ≡ in_block (piece_of piece) ++ pieces_in others) }
     ensures err { OnErr result (pending.new ≡ pending.old) }
 {
-    Err(OutOfMemory)
+    match block_of(replace_last(pending, Pending::Run(Command::Skip))) {
+        Some(block) => {
+            unfold_last(pending, block)?;
+        }
+        None => drop_first(pending),
+    }
+    Ok(())
+}
+
+// The block that a piece is.
+fn block_of(piece: Pending) -> Option<Block>
+    ensures { MatchOption result (in_block (piece_of piece) ≡ [])
+        (λ block. piece ≡ Run (BlockOf block)) }
+{
+    match piece {
+        Pending::Run(Command::Block(block)) => Some(block),
+        _ => None,
+    }
+}
+
+// Puts a piece in the place of the last one, and gives that one.
+fn replace_last(pending: &mut Pieces, piece: Pending) -> Pending
+    requires { 0 < length pending.old }
+    ensures { (last : Pending) (others : plain.List Pending)
+        → pending.old ≡ others ++ last ∷ []
+        → (result ≡ last) × (pending.new ≡ others ++ piece ∷ []) }
+{
+    let Some(last) = pending.last_mut() else {
+        unreachable!();
+    };
+    replace(last, piece)
+}
+
+// Puts the commands of the block in the place of the last piece, and the block itself where memory
+// is refused.
+fn unfold_last(pending: &mut Pieces, block: Block) -> Result<(), OutOfMemory>
+    requires { 0 < length pending.old }
+    ensures ok { OnOk result ((piece : Pending) (others : plain.List Pending)
+        → pending.old ≡ others ++ piece ∷ []
+        → pending.new ≡ others ++ map Run (reverse block)) }
+    ensures err { OnErr result ((piece : Pending) (others : plain.List Pending)
+        → pending.old ≡ others ++ piece ∷ []
+        → pending.new ≡ others ++ Run (BlockOf block) ∷ []) }
+{
+    let mut block = block;
+    let place = pending.len() - 1;
+    match pending.append_reversed(&mut block) {
+        Ok(()) => {
+            let _piece = pending.remove(place);
+            Ok(())
+        }
+        Err(refused) => {
+            let _piece = replace_last(pending, Pending::Run(Command::Block(block)));
+            Err(refused)
+        }
+    }
 }
 
 // Adds the root and sets the variable. Where memory is refused nothing is changed.
-#[tactic(auto, using(crate::proofs::GroveLaws::root_at_end))]
+#[tactic(auto, using(grove_data::proofs::Walks::root_at_end))]
 fn plant(
     config: &mut Config,
     root: Tree,

@@ -1,5 +1,5 @@
-use Rattle.std.proofs.Common.{◌≡◌, ◌∙◌, sym, ap, subst}
-use Rattle.model_commands.specs.Commands.{Command, create_node}
+use Rattle.std.proofs.Common.{◌≡◌, ◌∙◌, sym, ap, subst, map}
+use Rattle.model_commands.specs.Commands.{Command, create_node, call}
 use Rattle.model_machine.specs.Machine.{run}
 use Rattle.model_limits.specs.Limits.{standard_limits}
 use Rattle.model_machine.specs.Outcomes.{step_limit}
@@ -9,17 +9,18 @@ use Rattle.grove_data.specs.Trees.{forest_of}
 use Rattle.theory_syntax.specs.Commands.{command_of, command_step}
 use Rattle.theory_syntax.specs.declared.commands.Command.TheOpen.{Command-F}
 use Rattle.theory_syntax.specs.declared.commands.Command.TheFolds.{fold-roll-Command}
-use Rattle.theory_syntax.specs.declared.commands.Command.TheVariants.{rolls-Create}
+use Rattle.theory_syntax.specs.declared.commands.Command.TheVariants.{rolls-Create, rolls-Call}
+use Rattle.dom_meaning.specs.Configs.{pieces_in}
 use Rattle.dom_meaning.specs.Faults.{TellsLimit}
 use Rattle.dom_meaning.proofs.plans.command_planned.Goals as goal
 
 pub returns-in-Create-clause-limit : goal.returns-in-Create-clause-limit
-returns-in-Create-clause-limit c = λ rest.
+returns-in-Create-clause-limit c =
     let is : command_of c.args.command.now
     ≡ create_node (prog_var_of c.in-Create.variable) (term_of c.in-Create.name) =
     ap command_of (c.in-Create.is ∙ sym (rolls-Create c.in-Create.variable c.in-Create.name))
     ∙ fold-roll-Command Command command_step
     (Command-F.Create c.in-Create.variable c.in-Create.name) in
-    subst (λ (z : Command). TellsLimit c.created.result (step_limit standard_limits (run z) rest
-    (store_of c.args.store.now) (forest_of c.args.grove.now))) (sym is)
-    (c.created.ensures.limit rest)
+    subst (λ (z : Command). TellsLimit c.created.result (step_limit standard_limits (run z)
+    (pieces_in c.args.others.now) (store_of c.args.store.now) (forest_of c.args.grove.now)))
+    (sym is) (c.created.ensures.limit (pieces_in c.args.others.now))

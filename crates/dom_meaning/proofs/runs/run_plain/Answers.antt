@@ -43,7 +43,7 @@ loop-steps-preserved c =
     let of_fuel = subst (λ (n : ℕ). outcome standard_limits ps rs n steps config
     ≡ outcome standard_limits ps rs left (suc steps) after) less of_results in
     record {
-      runnable = c.in-Ok.ensures.next;
+      fits = c.in-Ok.ensures.next;
       results = c.in-Ok.ensures.results ∙ c.loop-steps.invariant.results;
       same = c.loop-steps.invariant.same ∙ of_fuel
           ∙ ap (λ n. outcome standard_limits ps rs left n after) more;

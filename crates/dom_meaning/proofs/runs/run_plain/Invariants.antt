@@ -1,16 +1,16 @@
 use Rattle.std.proofs.Common.{◌≡◌, ◌-◌, map}
 use Rattle.model_commands.specs.Theories.{procedures_of}
 use Rattle.model_limits.specs.Limits.{standard_limits}
+use Rattle.model_machine.specs.Fitting.{FitsConfig}
 use Rattle.model_machine.specs.Outcomes.{outcome}
 use Rattle.dom_terms.specs.Terms.{prog_var_of}
 use Rattle.theory_syntax.specs.Theories.{theory_of}
 use Rattle.dom_meaning.specs.Configs.{config_of}
-use Rattle.dom_meaning.specs.Built.{IsRunnable}
 use Rattle.dom_meaning.proofs.runs.run_plain.Given as goal
 
 abbrev pub invariant-loop-steps : goal.invariant-loop-steps
 invariant-loop-steps l = record {
-  runnable : IsRunnable (procedures_of (theory_of l.theory)) (config_of l.config);
+  fits : FitsConfig (procedures_of (theory_of l.theory)) (config_of l.config);
   results : l.config.results ≡ l.fn.config.results;
   same : outcome standard_limits (procedures_of (theory_of l.theory))
       (map prog_var_of l.fn.config.results) l.fuel 0 (config_of l.fn.config)
