@@ -2,6 +2,7 @@
 ghost use Rattle.std.specs.Prelude.{◌≡◌};
 ghost use Rattle.token_readers.specs.Faults.{AtToken, LeavesWithin, FirstLeft};
 ghost use Rattle.token_readers.specs.declared.fault.ReadFault.TheVariants.{Memory};
+ghost use Rattle.token_readers.specs.declared.fault.TextFault.TheVariants.{OutOfMemory as RanOut};
 
 use dom_terms::OutOfMemory;
 use std::alloc::{AllocError, AllocFailed};
@@ -50,6 +51,14 @@ pub enum TextFault {
     },
     /// Memory ran out.
     OutOfMemory,
+}
+
+impl From<OutOfMemory> for TextFault {
+    ghost from_gives = { λ _ e. e ≡ RanOut };
+
+    fn from(_e: OutOfMemory) -> TextFault {
+        TextFault::OutOfMemory
+    }
 }
 
 impl ReadFault {
