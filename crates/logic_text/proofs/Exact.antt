@@ -43,11 +43,11 @@ pub nothing : (n : ℕ) (ts : List Lexeme) (fault : ReadFault) → Fails fault (
 nothing = whole_.fault_spells_none reader SpellsGrove (not_next (codes "+")) refl sound_at only_at
 
 -- at its fault token
-pub fault : (n : ℕ) (ts : List Lexeme) (fault : ReadFault) → Fails fault (whole (reader n) ts)
+pub fault_token : (n : ℕ) (ts : List Lexeme) (fault : ReadFault) → Fails fault (whole (reader n) ts)
     → (count : ℕ) → length ts ≡ count → (answer : TextFault)
     → AtToken answer (FirstLeft count fault) → AreOfTokens ts
     → AtToken answer (IsFaultToken SpellsGrove ts)
-fault = whole_.fault_at_token reader SpellsGrove (not_next (codes "+")) refl sound_at only_at
+fault_token = whole_.fault_at_token reader SpellsGrove (not_next (codes "+")) refl sound_at only_at
 
 -- a list spells at most one grove
 pub at_most_one : (ts : List Lexeme) (a b : Trees) → SpellsGrove a ts → SpellsGrove b ts → a ≡ b

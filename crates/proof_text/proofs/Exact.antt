@@ -96,10 +96,10 @@ fault_with_sorts ts k f = record {
 }
 
 -- the fault token
-pub fault : (n : ℕ) (ts : List Lexeme) (fault : ReadFault) → Fails fault (whole (reader n) ts)
+pub fault_token : (n : ℕ) (ts : List Lexeme) (fault : ReadFault) → Fails fault (whole (reader n) ts)
     → (count : ℕ) → length ts ≡ count → (answer : TextFault)
     → AtToken answer (FirstLeft count fault) → AreOfTokens ts
     → AtToken answer (IsFaultToken SpellsTheory ts)
-fault n ts fault e count same answer t each =
+fault_token n ts fault e count same answer t each =
     at_token (IsFaultToken SpellsRaw ts) (IsFaultToken SpellsTheory ts) (fault_with_sorts ts)
     answer (raw_fault n ts fault e count same answer t each)
