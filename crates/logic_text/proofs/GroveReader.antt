@@ -1,7 +1,9 @@
 -- The reader of groves reads what the grammar spells, and only that.
-use Rattle.std.proofs.Common.{◌≡◌, ℕ, zero, suc, ◌≤◌, true, List, [], ◌∷◌, ◌++◌, Some, refl, sym, ap, subst, append_assoc, append-nil, codes, arith}
+use Rattle.std.proofs.Common.{◌≡◌, ℕ, zero, suc, ◌≤◌, true, List, [], ◌∷◌, ◌++◌, Some, refl, sym, ap, subst, append_assoc, append-nil, codes, arith, bytes_eq}
+use Rattle.std.specs.List.{list_any}
 use Rattle.model_shapes.specs.Trees.{Trees, none, node, hole, beside}
 use Rattle.model_text.specs.Lexemes.{Lexeme, terminal, number_lexeme, literal_lexeme}
+use Rattle.model_text.proofs.OfTokens.{terminals, is_seen, literal_seen, number_seen}
 use Rattle.model_documents.specs.Grammar.{one, SpellsTree, tree, SpellsForest, empty_forest, some_trees, SpellsTrees, last_tree, more_trees, SpellsRoots, last_root, more_roots, SpellsGrove, empty_grove, some_roots}
 use Rattle.grove_data.specs.Trees.{trees_with}
 use Rattle.token_readers.specs.Reading.{Read, ret, when, expect, leaf, not_next}
@@ -30,10 +32,12 @@ number_is (number_lexeme n) a e = let h : n ≡ a = cc in
 number_is _ a e = absurd cc
 
 literal_sound : (n : ℕ) → Sound n (leaf leaf_literal) Literal
-literal_sound n = s_leaf n leaf_literal Literal ([], literal_lexeme [] ∷ [], literal []) literal_is
+literal_sound n = s_leaf n leaf_literal Literal
+    ([], literal_lexeme [] ∷ [], literal [], (literal_seen, tt)) literal_is
 
 number_sound : (n : ℕ) → Sound n (leaf leaf_number) Number
-number_sound n = s_leaf n leaf_number Number (0, number_lexeme 0 ∷ [], numeral 0) number_is
+number_sound n = s_leaf n leaf_number Number
+    (1, number_lexeme 1 ∷ [], numeral 1, (number_seen, tt)) number_is
 
 -- ---- a tree between two marks
 
@@ -41,11 +45,15 @@ pub data Marked (left right : List ℕ) : Trees → List Lexeme → Type 0 where
   marked : {a : Trees} {s : List Lexeme} → SpellsTree a s
       → Marked left right a (terminal left ∷ (s ++ one right))
 
-marked_sound : (left right : List ℕ) (n : ℕ) (reader : Read Trees) → Sound n reader SpellsTree
-    → Sound n (marked_at left right reader) (Marked left right)
+-- the mark is one of the terminals
+abbrev IsMark : List ℕ → Type 0
+IsMark mark = list_any (bytes_eq mark) terminals ≡ true
+
+marked_sound : (left right : List ℕ) → IsMark left → IsMark right → (n : ℕ) (reader : Read Trees)
+    → Sound n reader SpellsTree → Sound n (marked_at left right reader) (Marked left right)
 unfolding marked_at
-marked_sound left right n reader S =
-    s_expect left _ (s_then _ S λ a s la. s_close n right a _ (marked la))
+marked_sound left right l r n reader S =
+    s_expect left l _ (s_then _ S λ a s la. s_close n right r a _ (marked la))
 
 -- a mark that comes is read
 expected : {A : Type 0} (mark : List ℕ) (r : Read A) (ts : List Lexeme) {a : A}
@@ -115,11 +123,11 @@ module _ (left right between : List ℕ) where
     forest_of_list (last l) = ended l
     forest_of_list (more l ls) = gone_on l (forest_of_list ls)
 
-    some_sound : (most n : ℕ) → n ≤ most → (reader : Read Trees) → Sound n reader SpellsTree
-        → Sound n (some_at left right between most reader) M
+    some_sound : IsMark left → IsMark right → (most n : ℕ) → n ≤ most → (reader : Read Trees)
+        → Sound n reader SpellsTree → Sound n (some_at left right between most reader) M
     unfolding some_at
-    some_sound most n h reader S =
-        s_then M (s_list between most n h (marked_sound left right n reader S)) λ trees s ls.
+    some_sound l r most n h reader S =
+        s_then M (s_list between most n h (marked_sound left right l r n reader S)) λ trees s ls.
         s_ret n (trees_with trees) _ (subst (λ (z : List Lexeme). M (trees_with trees) z)
         (sym (append-nil s)) (is _ _ (forest_of_list ls)))
 
@@ -147,7 +155,7 @@ unfolding forest_at
 forest_sound most n h reader S =
     s_case (codes "0f") (s_ret n none _ empty_forest)
     (some_sound (codes "<") (codes ">") (codes "*") SpellsTrees SpellsForest (λ a s l. some_trees l)
-    (λ a s l. last_tree l) (λ a b s t l ls. more_trees l ls) most n h reader S)
+    (λ a s l. last_tree l) (λ a b s t l ls. more_trees l ls) refl refl most n h reader S)
 
 -- trees begin with a mark
 no_empty_forest : {a : Trees} {s : List Lexeme} (rest : List Lexeme) (r other : Read Trees)
@@ -185,16 +193,18 @@ node_sound : (n : ℕ) (forest : Read Trees) → Sound n forest SpellsForest
     → Sound (suc n) (node_at forest) SpellsTree
 unfolding node_at
 node_sound n forest S =
-    s_then _ (literal_sound (suc n)) λ name l ll. s_expect_up n (codes "#") _
+    s_then _ (literal_sound (suc n)) λ name l ll. s_expect_up n (codes "#") refl _
     (s_then _ (number_sound n) λ id m lm.
-    s_expect (codes "[") _ (s_then _ S λ kids s ls. s_expect (codes "]") _ (s_expect (codes "%") _
-    (s_then _ (number_sound n) λ list u lu. s_ret n (node name id kids list none) _
+    s_expect (codes "[") refl _ (s_then _ S λ kids s ls. s_expect (codes "]") refl _
+    (s_expect (codes "%") refl _ (s_then _ (number_sound n) λ list u lu. s_ret n (node name id kids list none) _
     (a_tree ll lm ls lu)))))
 
 tree_sound : (most n : ℕ) → n ≤ most → Sound n (tree_at most n) SpellsTree
 unfolding tree_at
-tree_sound most zero h = s_deep _ _ (λ ts. refl) (node [] 0 none 0 none) _
-    (tree [] 0 0 empty_forest)
+tree_sound most zero h = s_deep _ _ (λ ts. refl) (node [] 1 none 1 none) _
+    (tree [] 1 1 empty_forest) (literal_seen, (is_seen (codes "#") refl, (number_seen,
+    (is_seen (codes "[") refl, (is_seen (codes "0f") refl, (is_seen (codes "]") refl,
+    (is_seen (codes "%") refl, (number_seen, tt))))))))
 tree_sound most (suc n) h = node_sound n (forest_at most (tree_at most n))
     (forest_sound most n (omega arith) (tree_at most n) (tree_sound most n (omega arith)))
 
@@ -222,7 +232,7 @@ unfolding grove_at
 grove_sound most n h =
     s_case (codes "0g") (s_ret n none _ empty_grove)
     (some_sound (codes "[") (codes "]") (codes "+") SpellsRoots SpellsGrove (λ a s l. some_roots l)
-    (λ a s l. last_root l) (λ a b s t l ls. more_roots l ls) most n h (tree_at most n)
+    (λ a s l. last_root l) (λ a b s t l ls. more_roots l ls) refl refl most n h (tree_at most n)
     (tree_sound most n h))
 
 -- roots begin with a mark

@@ -1,9 +1,11 @@
 // Groves from tokens.
-ghost use Rattle.std.specs.Prelude.{◌≡◌, List, map, IfOk, IsErrOf};
+ghost use Rattle.std.specs.Prelude.{◌≡◌, List, map, IfOk};
 ghost use Rattle.model_shapes.specs.Trees.{Trees};
 ghost use Rattle.model_text.specs.Lexemes.{Lexeme};
+ghost use Rattle.model_text.specs.FaultTokens.{AreOfTokens, IsFaultToken};
 ghost use Rattle.model_documents.specs.Grammar.{SpellsGrove};
 ghost use Rattle.token_readers.specs.Reading.{leaf, sep_list};
+ghost use Rattle.token_readers.specs.Faults.{IfBadText};
 ghost use Rattle.token_readers.specs.Giving.{Gives};
 ghost use Rattle.token_readers.specs.Spelling.{whole};
 ghost use Rattle.token_readers.specs.Leaves.{lexemes_in};
@@ -169,17 +171,20 @@ fn whole_grove(alloc: Global, tokens: &[Token]) -> Result<RawGrove, ReadFault>
     }
 }
 
-/// The grove that the tokens spell, all of them. `BadText` comes exactly where they spell none, and
-/// `OutOfMemory` also where trees nest more than `MOST_DEPTH` deep.
+/// The grove that the tokens spell, all of them. `BadText` comes exactly where they spell none, with
+/// the fault token where they are those of a text, and `OutOfMemory` also where trees nest more than
+/// `MOST_DEPTH` deep.
 pub fn read_grove(alloc: Global, tokens: &Tokens) -> Result<RawGrove, TextFault>
     ensures found { IfOk result (λ g. SpellsGrove (raw_forest_of g) (lexemes_in tokens.now)) }
-    ensures bad_text { IsErrOf result TextFault.BadText →
-        (g : Trees) → SpellsGrove g (lexemes_in tokens.now) → ⊥ }
+    ensures bad_text { IfBadText result (λ token.
+        (g : Trees) → SpellsGrove g (lexemes_in tokens.now) → ⊥) }
+    ensures fault_token { AreOfTokens (lexemes_in tokens.now)
+        → IfBadText result (IsFaultToken SpellsGrove (lexemes_in tokens.now)) }
 {
-    match whole_grove(alloc, tokens.as_slice()) {
+    let tokens = tokens.as_slice();
+    match whole_grove(alloc, tokens) {
         Ok(found) => Ok(found),
-        Err(ReadFault::Text(_)) => Err(TextFault::BadText),
-        Err(ReadFault::Memory) => Err(TextFault::OutOfMemory),
+        Err(fault) => Err(fault.of_whole(tokens.len())),
     }
 }
 

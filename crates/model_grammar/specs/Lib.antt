@@ -1,5 +1,3 @@
-pub mod Expressions
-pub mod Grammar
 pub mod FirstForm
 pub mod Files
 pub mod Words

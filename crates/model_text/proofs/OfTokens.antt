@@ -4,7 +4,8 @@ use Rattle.std.specs.Prelude.{◌||◌, slice_get}
 use Rattle.std.specs.List.{list_any}
 use Rattle.std.proofs.lemmas.Slice.Eq.{bytes_eq-Decides}
 use Rattle.model_text.proofs.Computing.{lexing}
-use Rattle.model_text.specs.Lexemes.{Lexeme, terminal, name_lexeme, logic_lexeme, number_lexeme, step_word}
+use Rattle.model_text.specs.Lexemes.{Lexeme, terminal, name_lexeme, logic_lexeme, number_lexeme, literal_lexeme, step_word}
+use Rattle.model_text.specs.Tokens.{quote}
 use Rattle.model_text.specs.Nesting.{lexemes_of}
 use Rattle.model_text.specs.FaultTokens.{IsOfToken, AreOfTokens}
 
@@ -68,6 +69,10 @@ logic_seen = first_in (codes "$x") _ refl
 pub number_seen : IsOfToken (number_lexeme 1)
 unfolding lexing
 number_seen = first_in (codes "1") _ refl
+
+pub literal_seen : IsOfToken (literal_lexeme [])
+unfolding lexing
+literal_seen = first_in (quote ∷ quote ∷ []) _ refl
 
 pub step_seen : IsOfToken (step_word 1)
 unfolding lexing

@@ -1,9 +1,10 @@
 pub mod LeafReader
-pub mod ListReader
 pub mod TermReader
 pub mod FormulaReader
+pub mod ListReader
+pub mod ConditionReader
 pub mod CommandReader
-pub mod JudgementReader
+pub mod SortReader
 pub mod StepReader
 pub mod TheoryReader
 pub mod Exact

@@ -1,3 +1,7 @@
-pub mod Expressions
+pub mod Places
 pub mod Operators
-pub mod Readers
+pub mod Terms
+pub mod Formulas
+pub mod Lists
+pub mod Commands
+pub mod Theories

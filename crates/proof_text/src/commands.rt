@@ -1,35 +1,183 @@
 // Commands.
 ghost use Rattle.std.specs.Prelude.{◌≡◌, map};
+ghost use Rattle.model_grammar.specs.Terms.{in_command};
 ghost use Rattle.dom_terms.specs.Terms.{prog_var_of, term_of};
-ghost use Rattle.theory_syntax.specs.Commands.{command_of};
+ghost use Rattle.theory_syntax.specs.Commands.{block_of, command_of};
 ghost use Rattle.token_readers.specs.Reading.{sep_list};
 ghost use Rattle.token_readers.specs.Giving.{Gives};
 ghost use Rattle.token_readers.specs.Leaves.{lexemes_in};
-ghost use Rattle.proof_text.specs.Expressions.{semicolon, term_at, in_brackets, value_at, setting_at, command_at};
+ghost use Rattle.proof_text.specs.Terms.{term_at};
+ghost use Rattle.proof_text.specs.Operators.{query_of, change_of};
+ghost use Rattle.proof_text.specs.Commands.{cond_at, semicolon, block_rest, block_at, one_at, two_at, setting_at, choice_at, loop_at, local_at, call_at, change_at, command_at};
 
-use crate::terms::{sort_named, term};
+use crate::conditions::condition;
+use crate::bracketed::{terms, variables};
+use crate::sorts::{value_sort, variable};
+use crate::terms::{Place, term};
 use theory_syntax::{Block, Command};
-use dom_terms::{ProgVar, Term, Vars};
+use dom_terms::{ProgVar, Term};
 use std::alloc::Global;
 use text_tokens::Token;
 use token_readers::{ReadFault, after, expect, name};
+
+/// What is asked of the document.
+#[derive(Clone, Copy)]
+pub enum Query {
+    Create,
+    Name,
+    Parent,
+    Children,
+}
+
+fn asked(query: Query, x: ProgVar, argument: Term) -> Command
+    ensures { command_of result ≡ query_of query (prog_var_of x) (term_of argument) }
+{
+    match query {
+        Query::Create => Command::Create(x, argument),
+        Query::Name => Command::Name(x, argument),
+        Query::Parent => Command::Parent(x, argument),
+        Query::Children => Command::Children(x, argument),
+    }
+}
+
+// A query, behind its word.
+#[tactic(auto, unfolding(crate::specs::Commands::one_at))]
+fn one<'a>(
+    alloc: Global,
+    depth: u32,
+    query: Query,
+    x: ProgVar,
+    tokens: &'a [Token],
+) -> Result<(Command, &'a [Token]), ReadFault>
+    ensures { Gives (λ y. (command_of y.0, lexemes_in y.1.now)) result
+        (one_at (term_at in_command depth) (query_of query (prog_var_of x)) (lexemes_in tokens.now))
+        }
+{
+    let rest = expect(tokens, "(")?;
+    let (argument, rest) = term(alloc, Place::Command, depth, rest)?;
+    let rest = expect(rest, ")")?;
+    Ok((asked(query, x, argument), rest))
+}
+
+/// What two terms are asked for: a change of the document, or an item of a list of children.
+#[derive(Drop)]
+pub enum Change {
+    Append,
+    Remove,
+    Item(ProgVar),
+}
+
+fn changed(change: Change, first: Term, second: Term) -> Command
+    ensures { command_of result ≡ change_of change (term_of first) (term_of second) }
+{
+    match change {
+        Change::Append => Command::Append(first, second),
+        Change::Remove => Command::Remove(first, second),
+        Change::Item(x) => Command::Item(x, first, second),
+    }
+}
+
+// Two terms in brackets.
+#[tactic(auto, unfolding(crate::specs::Commands::two_at))]
+fn two<'a>(
+    alloc: Global,
+    depth: u32,
+    change: Change,
+    tokens: &'a [Token],
+) -> Result<(Command, &'a [Token]), ReadFault>
+    ensures { Gives (λ x. (command_of x.0, lexemes_in x.1.now)) result
+        (two_at (term_at in_command depth) (change_of change) (lexemes_in tokens.now)) }
+{
+    let rest = expect(tokens, "(")?;
+    let (first, rest) = term(alloc, Place::Command, depth, rest)?;
+    let rest = expect(rest, ",")?;
+    let (second, rest) = term(alloc, Place::Command, depth, rest)?;
+    let rest = expect(rest, ")")?;
+    Ok((changed(change, first, second), rest))
+}
+
+// What the variable is set to.
+#[tactic(auto, unfolding(crate::specs::Commands::setting_at))]
+fn setting<'a>(
+    alloc: Global,
+    depth: u32,
+    x: ProgVar,
+    tokens: &'a [Token],
+) -> Result<(Command, &'a [Token]), ReadFault>
+    ensures { Gives (λ y. (command_of y.0, lexemes_in y.1.now)) result
+        (setting_at (term_at in_command depth) (prog_var_of x) (lexemes_in tokens.now)) }
+{
+    if let Some(rest) = after(tokens, "createNode") {
+        return one(alloc, depth, Query::Create, x, rest);
+    }
+    if let Some(rest) = after(tokens, "nodeName") {
+        return one(alloc, depth, Query::Name, x, rest);
+    }
+    if let Some(rest) = after(tokens, "parentNode") {
+        return one(alloc, depth, Query::Parent, x, rest);
+    }
+    if let Some(rest) = after(tokens, "childNodes") {
+        return one(alloc, depth, Query::Children, x, rest);
+    }
+    if let Some(rest) = after(tokens, "item") {
+        return two(alloc, depth, Change::Item(x), rest);
+    }
+    let (value, rest) = term(alloc, Place::Command, depth, tokens)?;
+    Ok((Command::Assign(x, value), rest))
+}
+
+// A command that begins with a name or with the word for a change of the document.
+#[tactic(auto, unfolding(crate::specs::Commands::change_at))]
+fn other_command<'a>(
+    alloc: Global,
+    depth: u32,
+    tokens: &'a [Token],
+) -> Result<(Command, &'a [Token]), ReadFault>
+    ensures { Gives (λ x. (command_of x.0, lexemes_in x.1.now)) result
+        (change_at (term_at in_command depth) (lexemes_in tokens.now)) }
+{
+    if let Some(rest) = after(tokens, "appendChild") {
+        return two(alloc, depth, Change::Append, rest);
+    }
+    if let Some(rest) = after(tokens, "removeChild") {
+        return two(alloc, depth, Change::Remove, rest);
+    }
+    let (x, rest) = variable(alloc, tokens)?;
+    let rest = expect(rest, ":=")?;
+    setting(alloc, depth, x, rest)
+}
+
+// What stands behind the word `call`.
+#[tactic(auto, unfolding(crate::specs::Commands::call_at))]
+fn called<'a>(
+    alloc: Global,
+    depth: u32,
+    tokens: &'a [Token],
+) -> Result<(Command, &'a [Token]), ReadFault>
+    ensures { Gives (λ x. (command_of x.0, lexemes_in x.1.now)) result
+        (call_at u32.MAX (term_at in_command depth) (lexemes_in tokens.now)) }
+{
+    let (results, rest) = variables(alloc, tokens)?;
+    let rest = expect(rest, ":=")?;
+    let (procedure, rest) = name(alloc, rest)?;
+    let (arguments, rest) = terms(alloc, Place::Command, depth, rest)?;
+    Ok((Command::Call(results, procedure, arguments), rest))
+}
 
 // One or more commands with semicolons between them.
 #[cycle(command)]
 fn commands<'a>(
     alloc: Global,
-    declared: &Vars,
     depth: u32,
     tokens: &'a [Token],
 ) -> Result<(Block, &'a [Token]), ReadFault>
     ensures { Gives (λ x. (map command_of x.0, lexemes_in x.1.now)) result
-        (sep_list semicolon (command_at (map prog_var_of declared.now) u32.MAX depth) u32.MAX
-        (lexemes_in tokens.now)) }
+        (sep_list semicolon (command_at u32.MAX depth) u32.MAX (lexemes_in tokens.now)) }
 {
     let mut found = Block::new(alloc);
     let mut rest = tokens;
     for _ in 0..u32::MAX {
-        let (item, behind) = command(alloc, declared, depth, rest)?;
+        let (item, behind) = command(alloc, depth, rest)?;
         found.push(item)?;
         match after(behind, ";") {
             Some(next) => rest = next,
@@ -39,77 +187,101 @@ fn commands<'a>(
     Err(ReadFault::Memory)
 }
 
-// A term in brackets.
-#[tactic(auto, unfolding(crate::specs::Expressions::in_brackets))]
-fn bracketed<'a>(
+// What stands behind the brace of a block.
+#[cycle(command)]
+#[tactic(auto, unfolding(crate::specs::Commands::block_rest))]
+fn rest_of_block<'a>(
     alloc: Global,
-    declared: &Vars,
     depth: u32,
     tokens: &'a [Token],
-) -> Result<(Term, &'a [Token]), ReadFault>
-    ensures { Gives (λ x. (term_of x.0, lexemes_in x.1.now)) result
-        (in_brackets (term_at (map prog_var_of declared.now) depth) (lexemes_in tokens.now)) }
+) -> Result<(Block, &'a [Token]), ReadFault>
+    ensures { Gives (λ x. (block_of x.0, lexemes_in x.1.now)) result
+        (block_rest u32.MAX (command_at u32.MAX depth) (lexemes_in tokens.now)) }
 {
-    let rest = expect(tokens, "(")?;
-    let (term, rest) = term(alloc, declared, depth, rest)?;
-    let rest = expect(rest, ")")?;
-    Ok((term, rest))
+    let (block, rest) = commands(alloc, depth, tokens)?;
+    let rest = expect(rest, "}")?;
+    Ok((block, rest))
 }
 
-// What the variable is set to.
-#[tactic(auto, unfolding(crate::specs::Expressions::value_at))]
-fn value<'a>(
+// A block.
+#[cycle(command)]
+#[tactic(auto, unfolding(crate::specs::Commands::block_at))]
+fn block<'a>(
     alloc: Global,
-    declared: &Vars,
-    variable: ProgVar,
+    depth: u32,
+    tokens: &'a [Token],
+) -> Result<(Block, &'a [Token]), ReadFault>
+    ensures { Gives (λ x. (block_of x.0, lexemes_in x.1.now)) result
+        (block_at u32.MAX (command_at u32.MAX depth) (lexemes_in tokens.now)) }
+{
+    let rest = expect(tokens, "{")?;
+    rest_of_block(alloc, depth, rest)
+}
+
+// What stands behind the word `if`.
+#[cycle(command)]
+#[tactic(auto, unfolding(crate::specs::Commands::choice_at))]
+fn choice<'a>(
+    alloc: Global,
     depth: u32,
     tokens: &'a [Token],
 ) -> Result<(Command, &'a [Token]), ReadFault>
     ensures { Gives (λ x. (command_of x.0, lexemes_in x.1.now)) result
-        (value_at (prog_var_of variable) (term_at (map prog_var_of declared.now) depth)
+        (choice_at (cond_at depth) (block_at u32.MAX (command_at u32.MAX depth))
         (lexemes_in tokens.now)) }
 {
-    if let Some(rest) = after(tokens, "createNode") {
-        let (name, rest) = bracketed(alloc, declared, depth, rest)?;
-        return Ok((Command::Create(variable, name), rest));
-    }
-    if let Some(rest) = after(tokens, "nodeName") {
-        let (node, rest) = bracketed(alloc, declared, depth, rest)?;
-        return Ok((Command::Name(variable, node), rest));
-    }
-    let (value, rest) = term(alloc, declared, depth, tokens)?;
-    Ok((Command::Assign(variable, value), rest))
+    let (test, rest) = condition(alloc, depth, tokens)?;
+    let (first, rest) = block(alloc, depth, rest)?;
+    let rest = expect(rest, "else")?;
+    let (second, rest) = block(alloc, depth, rest)?;
+    Ok((Command::If(test, first, second), rest))
 }
 
-// A name and what it is set to.
-#[tactic(auto, unfolding(crate::specs::Expressions::setting_at))]
-fn setting<'a>(
+// What stands behind the word `while`.
+#[cycle(command)]
+#[tactic(auto, unfolding(crate::specs::Commands::loop_at))]
+fn repeated<'a>(
     alloc: Global,
-    declared: &Vars,
     depth: u32,
     tokens: &'a [Token],
 ) -> Result<(Command, &'a [Token]), ReadFault>
     ensures { Gives (λ x. (command_of x.0, lexemes_in x.1.now)) result
-        (setting_at (map prog_var_of declared.now) (term_at (map prog_var_of declared.now) depth)
+        (loop_at (cond_at depth) (block_at u32.MAX (command_at u32.MAX depth))
         (lexemes_in tokens.now)) }
+{
+    let (test, rest) = condition(alloc, depth, tokens)?;
+    let (body, rest) = block(alloc, depth, rest)?;
+    Ok((Command::While(test, body), rest))
+}
+
+// What stands behind the word `local`.
+#[cycle(command)]
+#[tactic(auto, unfolding(crate::specs::Commands::local_at))]
+fn with_local<'a>(
+    alloc: Global,
+    depth: u32,
+    tokens: &'a [Token],
+) -> Result<(Command, &'a [Token]), ReadFault>
+    ensures { Gives (λ x. (command_of x.0, lexemes_in x.1.now)) result
+        (local_at (block_at u32.MAX (command_at u32.MAX depth)) (lexemes_in tokens.now)) }
 {
     let (name, rest) = name(alloc, tokens)?;
-    let rest = expect(rest, ":=")?;
-    let sort = sort_named(declared.as_slice(), name.as_str());
-    value(alloc, declared, ProgVar { name, sort }, depth, rest)
+    let rest = expect(rest, ":")?;
+    let (sort, rest) = value_sort(rest)?;
+    let (body, rest) = block(alloc, depth, rest)?;
+    Ok((Command::Local(ProgVar { name, sort }, body), rest))
 }
 
-/// A command, nested at most so deep; its names have the sorts of their declarations.
+/// A command, nested at most so deep.
 #[cycle(command)]
-#[tactic(auto, unfolding(crate::specs::Expressions::command_at, crate::specs::Expressions::block_at))]
+#[tactic(auto, unfolding(crate::specs::Commands::command_at))]
 pub fn command<'a>(
     alloc: Global,
-    declared: &Vars,
     depth: u32,
     tokens: &'a [Token],
 ) -> Result<(Command, &'a [Token]), ReadFault>
     ensures { Gives (λ x. (command_of x.0, lexemes_in x.1.now)) result
-        (command_at (map prog_var_of declared.now) u32.MAX depth (lexemes_in tokens.now)) }
+        (command_at u32.MAX depth (lexemes_in tokens.now)) }
 {
     if depth == 0 {
         return Err(ReadFault::Memory);
@@ -118,9 +290,20 @@ pub fn command<'a>(
         return Ok((Command::Skip, rest));
     }
     if let Some(rest) = after(tokens, "{") {
-        let (block, rest) = commands(alloc, declared, depth - 1, rest)?;
-        let rest = expect(rest, "}")?;
+        let (block, rest) = rest_of_block(alloc, depth - 1, rest)?;
         return Ok((Command::Block(block), rest));
     }
-    setting(alloc, declared, depth - 1, tokens)
+    if let Some(rest) = after(tokens, "if") {
+        return choice(alloc, depth - 1, rest);
+    }
+    if let Some(rest) = after(tokens, "while") {
+        return repeated(alloc, depth - 1, rest);
+    }
+    if let Some(rest) = after(tokens, "local") {
+        return with_local(alloc, depth - 1, rest);
+    }
+    if let Some(rest) = after(tokens, "call") {
+        return called(alloc, depth - 1, rest);
+    }
+    other_command(alloc, depth - 1, tokens)
 }

@@ -1,33 +1,76 @@
-// Parameters and results.
-ghost use Rattle.std.specs.Prelude.{◌≡◌, ◌++◌, map, IfOk};
+// Declarations, and the words for the sorts of shapes and contexts.
+ghost use Rattle.std.specs.Prelude.{◌≡◌, map};
 ghost use Rattle.std.specs.Option.{option_map};
-ghost use Rattle.dom_terms.specs.Sorts.{value_sort_of};
+ghost use Rattle.dom_terms.specs.Sorts.{sort_of};
 ghost use Rattle.dom_terms.specs.Terms.{prog_var_of};
 ghost use Rattle.token_readers.specs.Reading.{leaf, sep_list};
 ghost use Rattle.token_readers.specs.Giving.{Gives};
 ghost use Rattle.token_readers.specs.Leaves.{seen, lexemes_in};
-ghost use Rattle.proof_text.specs.Readers.{comma, sort_called, leaf_value_sort, declaration_at, bracketed_at};
+ghost use Rattle.proof_text.specs.Lists.{comma, bracketed_at};
+ghost use Rattle.proof_text.specs.Theories.{shape_sort_called, leaf_shape_sort, sort_called, leaf_sort, declaration_at};
 
-use dom_terms::{Copied, OutOfMemory, ProgVar, ValueSort, Vars};
+use crate::sorts::value_sort;
+use dom_terms::{DataSort, ProgVar, Sort, ValueSort, Vars};
 use std::alloc::Global;
 use text_tokens::Token;
 use token_readers::{ReadFault, after, expect, name};
 
-fn sort_called(name: &str) -> Option<ValueSort>
-    ensures { option_map value_sort_of result ≡ sort_called name.now }
+fn shape_sort_called(name: &str) -> Option<Sort>
+    ensures { option_map sort_of result ≡ shape_sort_called name.now }
 {
     match name {
-        "node" => Some(ValueSort::Node),
-        "list" => Some(ValueSort::List),
-        "int" => Some(ValueSort::Int),
-        "str" => Some(ValueSort::Str),
-        "bool" => Some(ValueSort::Bool),
+        "t" => Some(Sort::Shape(DataSort::Tree)),
+        "f" => Some(Sort::Shape(DataSort::Forest)),
+        "g" => Some(Sort::Shape(DataSort::Grove)),
+        "tt" => Some(Sort::Context(DataSort::Tree, DataSort::Tree)),
+        "tf" => Some(Sort::Context(DataSort::Tree, DataSort::Forest)),
+        "tg" => Some(Sort::Context(DataSort::Tree, DataSort::Grove)),
+        "ft" => Some(Sort::Context(DataSort::Forest, DataSort::Tree)),
+        "ff" => Some(Sort::Context(DataSort::Forest, DataSort::Forest)),
+        "fg" => Some(Sort::Context(DataSort::Forest, DataSort::Grove)),
+        "gg" => Some(Sort::Context(DataSort::Grove, DataSort::Grove)),
         _ => None,
     }
 }
 
-fn sort_of(token: &Token) -> Option<ValueSort>
-    ensures { option_map value_sort_of result ≡ leaf_value_sort (seen token.now) }
+fn shape_sort_of(token: &Token) -> Option<Sort>
+    ensures { option_map sort_of result ≡ leaf_shape_sort (seen token.now) }
+{
+    match token.name() {
+        Some(name) => shape_sort_called(name.as_str()),
+        None => None,
+    }
+}
+
+/// A sort of shapes or contexts.
+pub fn shape_sort(tokens: &[Token]) -> Result<(Sort, &[Token]), ReadFault>
+    ensures { Gives (λ x. (sort_of x.0, lexemes_in x.1.now)) result
+        (leaf leaf_shape_sort (lexemes_in tokens.now)) }
+{
+    let [first, rest @ ..] = tokens else {
+        return Err(ReadFault::Text(0));
+    };
+    match shape_sort_of(first) {
+        Some(sort) => Ok((sort, rest)),
+        None => Err(ReadFault::Text(tokens.len())),
+    }
+}
+
+fn sort_called(name: &str) -> Option<Sort>
+    ensures { option_map sort_of result ≡ sort_called name.now }
+{
+    match name {
+        "node" => Some(Sort::Value(ValueSort::Node)),
+        "list" => Some(Sort::Value(ValueSort::List)),
+        "int" => Some(Sort::Value(ValueSort::Int)),
+        "str" => Some(Sort::Value(ValueSort::Str)),
+        "bool" => Some(Sort::Value(ValueSort::Bool)),
+        _ => shape_sort_called(name),
+    }
+}
+
+fn sort_of(token: &Token) -> Option<Sort>
+    ensures { option_map sort_of result ≡ leaf_sort (seen token.now) }
 {
     match token.name() {
         Some(name) => sort_called(name.as_str()),
@@ -35,10 +78,10 @@ fn sort_of(token: &Token) -> Option<ValueSort>
     }
 }
 
-// A sort of values.
-fn value_sort(tokens: &[Token]) -> Result<(ValueSort, &[Token]), ReadFault>
-    ensures { Gives (λ x. (value_sort_of x.0, lexemes_in x.1.now)) result
-        (leaf leaf_value_sort (lexemes_in tokens.now)) }
+/// A sort.
+pub fn any_sort(tokens: &[Token]) -> Result<(Sort, &[Token]), ReadFault>
+    ensures { Gives (λ x. (sort_of x.0, lexemes_in x.1.now)) result
+        (leaf leaf_sort (lexemes_in tokens.now)) }
 {
     let [first, rest @ ..] = tokens else {
         return Err(ReadFault::Text(0));
@@ -50,7 +93,7 @@ fn value_sort(tokens: &[Token]) -> Result<(ValueSort, &[Token]), ReadFault>
 }
 
 // A name and its sort.
-#[tactic(auto, unfolding(crate::specs::Readers::declaration_at))]
+#[tactic(auto, unfolding(crate::specs::Theories::declaration_at))]
 fn declaration(alloc: Global, tokens: &[Token]) -> Result<(ProgVar, &[Token]), ReadFault>
     ensures { Gives (λ x. (prog_var_of x.0, lexemes_in x.1.now)) result
         (declaration_at (lexemes_in tokens.now)) }
@@ -80,7 +123,7 @@ fn listed(alloc: Global, tokens: &[Token]) -> Result<(Vars, &[Token]), ReadFault
 }
 
 /// The declarations in brackets.
-#[tactic(auto, unfolding(crate::specs::Readers::bracketed_at))]
+#[tactic(auto, unfolding(crate::specs::Lists::bracketed_at))]
 pub fn declarations(alloc: Global, tokens: &[Token]) -> Result<(Vars, &[Token]), ReadFault>
     ensures { Gives (λ x. (map prog_var_of x.0, lexemes_in x.1.now)) result
         (bracketed_at declaration_at u32.MAX (lexemes_in tokens.now)) }
@@ -92,16 +135,4 @@ pub fn declarations(alloc: Global, tokens: &[Token]) -> Result<(Vars, &[Token]),
     let (found, rest) = listed(alloc, rest)?;
     let rest = expect(rest, ")")?;
     Ok((found, rest))
-}
-
-/// The parameters and then the results.
-pub fn joined(alloc: Global, params: &Vars, results: &Vars) -> Result<Vars, OutOfMemory>
-    ensures { IfOk result (λ all. map prog_var_of all ≡ map prog_var_of params.now
-        ++ map prog_var_of results.now) }
-{
-    let mut all = params.copy(alloc)?;
-    for item in results.as_slice() {
-        all.push(item.copy(alloc)?)?;
-    }
-    Ok(all)
 }

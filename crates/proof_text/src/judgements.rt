@@ -1,62 +1,35 @@
-// Sorts of data and judgements.
-ghost use Rattle.std.specs.Prelude.{◌≡◌, map};
-ghost use Rattle.std.specs.Option.{option_map};
-ghost use Rattle.dom_terms.specs.Sorts.{data_sort_of};
-ghost use Rattle.dom_terms.specs.Terms.{prog_var_of};
+// Judgements.
+ghost use Rattle.std.specs.Prelude.{◌≡◌};
 ghost use Rattle.theory_syntax.specs.Judgements.{judgement_of};
-ghost use Rattle.token_readers.specs.Reading.{leaf};
 ghost use Rattle.token_readers.specs.Giving.{Gives};
-ghost use Rattle.token_readers.specs.Leaves.{seen, lexemes_in};
-ghost use Rattle.proof_text.specs.Readers.{leaf_sort, judgement_at};
+ghost use Rattle.token_readers.specs.Leaves.{lexemes_in};
+ghost use Rattle.proof_text.specs.Theories.{triple_at, entailment_at, judgement_at};
 
 use crate::commands::command;
+use crate::declarations::shape_sort;
 use crate::formulas::formula;
+use crate::sorts::data_sort;
 use theory_syntax::{Judgement, Triple};
-use dom_terms::{DataSort, Vars};
+use formula_syntax::Entailment;
 use std::alloc::Global;
 use text_tokens::Token;
-use token_readers::{ReadFault, expect};
+use token_readers::{ReadFault, after, expect};
 
-fn sort_of(token: &Token) -> Option<DataSort>
-    ensures { option_map data_sort_of result ≡ leaf_sort (seen token.now) }
-{
-    match token.name() {
-        Some(name) if name.as_str() == "g" => Some(DataSort::Grove),
-        _ => None,
-    }
-}
-
-/// A sort of data: `g`.
-pub fn data_sort(tokens: &[Token]) -> Result<(DataSort, &[Token]), ReadFault>
-    ensures { Gives (λ x. (data_sort_of x.0, lexemes_in x.1.now)) result
-        (leaf leaf_sort (lexemes_in tokens.now)) }
-{
-    let [first, rest @ ..] = tokens else {
-        return Err(ReadFault::Text(0));
-    };
-    match sort_of(first) {
-        Some(sort) => Ok((sort, rest)),
-        None => Err(ReadFault::Text(tokens.len())),
-    }
-}
-
-/// A judgement: a triple.
-#[tactic(auto, unfolding(crate::specs::Readers::judgement_at))]
-pub fn judgement<'a>(
+// What stands behind the word `pre`.
+#[tactic(auto, unfolding(crate::specs::Theories::triple_at))]
+fn triple<'a>(
     alloc: Global,
-    declared: &Vars,
     depth: u32,
     tokens: &'a [Token],
 ) -> Result<(Judgement, &'a [Token]), ReadFault>
     ensures { Gives (λ x. (judgement_of x.0, lexemes_in x.1.now)) result
-        (judgement_at (map prog_var_of declared.now) depth u32.MAX (lexemes_in tokens.now)) }
+        (triple_at depth u32.MAX (lexemes_in tokens.now)) }
 {
-    let rest = expect(tokens, "pre")?;
-    let (pre, rest) = formula(alloc, declared, depth, rest)?;
+    let (pre, rest) = formula(alloc, depth, tokens)?;
     let rest = expect(rest, "do")?;
-    let (command, rest) = command(alloc, declared, depth, rest)?;
+    let (command, rest) = command(alloc, depth, rest)?;
     let rest = expect(rest, "post")?;
-    let (post, rest) = formula(alloc, declared, depth, rest)?;
+    let (post, rest) = formula(alloc, depth, rest)?;
     let rest = expect(rest, "at")?;
     let (sort, rest) = data_sort(rest)?;
     let triple = Triple {
@@ -66,4 +39,38 @@ pub fn judgement<'a>(
         sort,
     };
     Ok((Judgement::Triple(triple), rest))
+}
+
+#[tactic(auto, unfolding(crate::specs::Theories::entailment_at))]
+fn entailment<'a>(
+    alloc: Global,
+    depth: u32,
+    tokens: &'a [Token],
+) -> Result<(Judgement, &'a [Token]), ReadFault>
+    ensures { Gives (λ x. (judgement_of x.0, lexemes_in x.1.now)) result
+        (entailment_at depth (lexemes_in tokens.now)) }
+{
+    let (left, rest) = formula(alloc, depth, tokens)?;
+    let rest = expect(rest, "entails")?;
+    let (right, rest) = formula(alloc, depth, rest)?;
+    let rest = expect(rest, "at")?;
+    let (sort, rest) = shape_sort(rest)?;
+    let entailment = Entailment { left, right, sort };
+    Ok((Judgement::Entails(entailment), rest))
+}
+
+/// A judgement.
+#[tactic(auto, unfolding(crate::specs::Theories::judgement_at))]
+pub fn judgement<'a>(
+    alloc: Global,
+    depth: u32,
+    tokens: &'a [Token],
+) -> Result<(Judgement, &'a [Token]), ReadFault>
+    ensures { Gives (λ x. (judgement_of x.0, lexemes_in x.1.now)) result
+        (judgement_at depth u32.MAX (lexemes_in tokens.now)) }
+{
+    if let Some(rest) = after(tokens, "pre") {
+        return triple(alloc, depth, rest);
+    }
+    entailment(alloc, depth, tokens)
 }

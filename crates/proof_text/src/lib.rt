@@ -1,15 +1,22 @@
 //! Theories from tokens. Promises that a list of tokens is read as the theory that it spells by the
-//! grammar, and refused exactly where it spells none.
-//! Stands on the readers of tokens, the types of theories and the grammar.
+//! grammar, each variable with the sort of its declaration, and refused exactly where it spells
+//! none, at the fault token.
+//! Stands on the readers of tokens, the types of theories, the walk that sets sorts and the grammar.
 #![tactic(auto)]
 
+mod bracketed;
 mod commands;
+mod conditions;
+mod connectives;
 mod declarations;
 mod formulas;
 mod judgements;
+mod logics;
+mod names;
 mod procedures;
+mod sorts;
 mod steps;
 mod terms;
 mod theories;
 
-pub use theories::{MOST_DEPTH, read_theory};
+pub use theories::{MOST_DEPTH, one_theory, read_theory};

@@ -6,12 +6,12 @@ ghost use Rattle.theory_syntax.specs.Theories.{procedure_of};
 ghost use Rattle.token_readers.specs.Giving.{Gives};
 ghost use Rattle.token_readers.specs.Leaves.{lexemes_in};
 ghost use Rattle.token_readers.proofs.Lists.{with_front};
-ghost use Rattle.proof_text.specs.Readers.{contents_at, procedure_tail, more_procedures_at, procedures_at};
+ghost use Rattle.proof_text.specs.Theories.{contents_at, procedure_tail, more_procedures_at, procedures_at};
 
 use crate::commands::command;
-use crate::declarations::{declarations, joined};
+use crate::declarations::declarations;
 use crate::formulas::formula;
-use crate::judgements::data_sort;
+use crate::sorts::data_sort;
 use crate::steps::steps;
 use theory_syntax::{Procedure, Procedures};
 use dom_terms::{DataSort, Text, Vars};
@@ -29,7 +29,7 @@ struct Header {
 }
 
 // What stands behind the header.
-#[tactic(auto, unfolding(crate::specs::Readers::contents_at))]
+#[tactic(auto, unfolding(crate::specs::Theories::contents_at))]
 fn contents<'a>(
     alloc: Global,
     header: Header,
@@ -41,15 +41,14 @@ fn contents<'a>(
         (map prog_var_of header.results)
         (data_sort_of header.sort) (lexemes_in tokens.now)) }
 {
-    let declared = joined(alloc, &header.params, &header.results)?;
     let rest = expect(tokens, "requires")?;
-    let (pre, rest) = formula(alloc, &declared, depth, rest)?;
+    let (pre, rest) = formula(alloc, depth, rest)?;
     let rest = expect(rest, "ensures")?;
-    let (post, rest) = formula(alloc, &declared, depth, rest)?;
+    let (post, rest) = formula(alloc, depth, rest)?;
     let rest = expect(rest, "body")?;
-    let (body, rest) = command(alloc, &declared, depth, rest)?;
+    let (body, rest) = command(alloc, depth, rest)?;
     let rest = expect(rest, "proof")?;
-    let (proof, rest) = steps(alloc, &declared, depth, rest)?;
+    let (proof, rest) = steps(alloc, depth, rest)?;
     let rest = expect(rest, "end")?;
     let Header {
         name,
@@ -71,7 +70,7 @@ fn contents<'a>(
 }
 
 // What stands behind the word `proc`.
-#[tactic(auto, unfolding(crate::specs::Readers::procedure_tail))]
+#[tactic(auto, unfolding(crate::specs::Theories::procedure_tail))]
 fn procedure(
     alloc: Global,
     depth: u32,
@@ -103,8 +102,8 @@ fn more_procedures<'a>(
     tokens: &'a [Token],
 ) -> Result<(Procedures, &'a [Token]), ReadFault>
     ensures { Gives (λ x. (map procedure_of x.0, lexemes_in x.1.now)) result
-        (with_front (procedure_of first ∷ [])
-        (more_procedures_at depth u32.MAX (lexemes_in tokens.now))) }
+        (with_front (procedure_of first ∷ []) (more_procedures_at depth u32.MAX
+        (lexemes_in tokens.now))) }
 {
     let mut found = Procedures::new(alloc);
     found.push(first)?;
@@ -123,7 +122,7 @@ fn more_procedures<'a>(
 }
 
 /// One procedure or more.
-#[tactic(auto, unfolding(crate::specs::Readers::procedures_at))]
+#[tactic(auto, unfolding(crate::specs::Theories::procedures_at))]
 pub fn procedures(
     alloc: Global,
     depth: u32,

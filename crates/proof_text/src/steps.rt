@@ -1,17 +1,18 @@
 // Steps of proofs.
 ghost use Rattle.std.specs.Prelude.{◌≡◌, map};
-ghost use Rattle.dom_terms.specs.Terms.{prog_var_of, term_of};
-ghost use Rattle.theory_syntax.specs.Judgements.{step_of};
+ghost use Rattle.dom_terms.specs.Terms.{term_of};
+ghost use Rattle.theory_syntax.specs.Judgements.{reason_of, step_of};
 ghost use Rattle.token_readers.specs.Reading.{leaf, sep_list, many};
 ghost use Rattle.token_readers.specs.Giving.{Gives};
 ghost use Rattle.token_readers.specs.Leaves.{lexemes_in, leaf_number, leaf_step};
-ghost use Rattle.proof_text.specs.Expressions.{term_at};
-ghost use Rattle.proof_text.specs.Readers.{comma, bracketed_at, arguments_at, step_tail};
+ghost use Rattle.proof_text.specs.Lists.{comma, bracketed_at};
+ghost use Rattle.proof_text.specs.Theories.{arguments_at, reason_at, step_tail};
 
+use crate::bracketed::listed_terms;
 use crate::judgements::judgement;
-use crate::terms::term;
+use crate::terms::Place;
 use theory_syntax::{Reason, Step, Steps};
-use dom_terms::{Numbers, Terms, Vars};
+use dom_terms::{Numbers, Terms};
 use std::alloc::Global;
 use text_tokens::Token;
 use token_readers::{ReadFault, after, expect, number, step_line, word};
@@ -35,7 +36,7 @@ fn numbers(alloc: Global, tokens: &[Token]) -> Result<(Numbers, &[Token]), ReadF
 }
 
 // The numbers of the steps that a step cites, in brackets.
-#[tactic(auto, unfolding(crate::specs::Readers::bracketed_at))]
+#[tactic(auto, unfolding(crate::specs::Lists::bracketed_at))]
 fn premises(alloc: Global, tokens: &[Token]) -> Result<(Numbers, &[Token]), ReadFault>
     ensures { Gives (λ x. (x.0, lexemes_in x.1.now)) result
         (bracketed_at (leaf leaf_number) u32.MAX (lexemes_in tokens.now)) }
@@ -49,75 +50,66 @@ fn premises(alloc: Global, tokens: &[Token]) -> Result<(Numbers, &[Token]), Read
     Ok((found, rest))
 }
 
-// One or more terms with commas between them.
-fn terms<'a>(
-    alloc: Global,
-    declared: &Vars,
-    depth: u32,
-    tokens: &'a [Token],
-) -> Result<(Terms, &'a [Token]), ReadFault>
-    ensures { Gives (λ x. (map term_of x.0, lexemes_in x.1.now)) result
-        (sep_list comma (term_at (map prog_var_of declared.now) depth) u32.MAX
-        (lexemes_in tokens.now)) }
-{
-    let mut found = Terms::new(alloc);
-    let mut rest = tokens;
-    for _ in 0..u32::MAX {
-        let (item, behind) = term(alloc, declared, depth, rest)?;
-        found.push(item)?;
-        match after(behind, ",") {
-            Some(next) => rest = next,
-            None => return Ok((found, behind)),
-        }
-    }
-    Err(ReadFault::Memory)
-}
-
 // The arguments of a rule, behind the word `with`.
-#[tactic(auto, unfolding(crate::specs::Readers::arguments_at))]
+#[tactic(auto, unfolding(crate::specs::Theories::arguments_at))]
 fn arguments<'a>(
     alloc: Global,
-    declared: &Vars,
     depth: u32,
     tokens: &'a [Token],
 ) -> Result<(Terms, &'a [Token]), ReadFault>
     ensures { Gives (λ x. (map term_of x.0, lexemes_in x.1.now)) result
-        (arguments_at (map prog_var_of declared.now) depth u32.MAX (lexemes_in tokens.now)) }
+        (arguments_at depth u32.MAX (lexemes_in tokens.now)) }
 {
     let Some(rest) = after(tokens, "with") else {
         return Ok((Terms::new(alloc), tokens));
     };
     let rest = expect(rest, "(")?;
-    let (found, rest) = terms(alloc, declared, depth, rest)?;
+    let (found, rest) = listed_terms(alloc, Place::Formula, depth, rest)?;
     let rest = expect(rest, ")")?;
     Ok((found, rest))
 }
 
-// What stands behind the word `step`, which is on the line.
-#[tactic(auto, unfolding(crate::specs::Readers::step_tail))]
-fn step<'a>(
+// Why the step holds.
+#[tactic(auto, unfolding(crate::specs::Theories::reason_at))]
+fn reason<'a>(
     alloc: Global,
-    declared: &Vars,
     depth: u32,
-    line: u32,
     tokens: &'a [Token],
-) -> Result<(Step, &'a [Token]), ReadFault>
-    ensures { Gives (λ x. (step_of x.0, lexemes_in x.1.now)) result
-        (step_tail (map prog_var_of declared.now) depth u32.MAX line (lexemes_in tokens.now)) }
+) -> Result<(Reason, &'a [Token]), ReadFault>
+    ensures { Gives (λ x. (reason_of x.0, lexemes_in x.1.now)) result
+        (reason_at depth u32.MAX (lexemes_in tokens.now)) }
 {
-    let (number, rest) = number(tokens)?;
-    let rest = expect(rest, "by")?;
+    if let Some(rest) = after(tokens, "auto") {
+        return Ok((Reason::Auto, rest));
+    }
+    let rest = expect(tokens, "by")?;
     let (name, rest) = word(alloc, rest)?;
     let (premises, rest) = premises(alloc, rest)?;
-    let (arguments, rest) = arguments(alloc, declared, depth, rest)?;
-    let rest = expect(rest, ":")?;
-    let (judgement, rest) = judgement(alloc, declared, depth, rest)?;
-    let rest = expect(rest, ";")?;
+    let (arguments, rest) = arguments(alloc, depth, rest)?;
     let reason = Reason::Rule {
         name,
         premises,
         arguments,
     };
+    Ok((reason, rest))
+}
+
+// What stands behind the word `step`, which is on the line.
+#[tactic(auto, unfolding(crate::specs::Theories::step_tail))]
+fn step<'a>(
+    alloc: Global,
+    depth: u32,
+    line: u32,
+    tokens: &'a [Token],
+) -> Result<(Step, &'a [Token]), ReadFault>
+    ensures { Gives (λ x. (step_of x.0, lexemes_in x.1.now)) result
+        (step_tail depth u32.MAX line (lexemes_in tokens.now)) }
+{
+    let (number, rest) = number(tokens)?;
+    let (reason, rest) = reason(alloc, depth, rest)?;
+    let rest = expect(rest, ":")?;
+    let (judgement, rest) = judgement(alloc, depth, rest)?;
+    let rest = expect(rest, ";")?;
     let step = Step {
         number,
         line,
@@ -130,20 +122,18 @@ fn step<'a>(
 /// The steps of a proof, as long as one begins.
 pub fn steps<'a>(
     alloc: Global,
-    declared: &Vars,
     depth: u32,
     tokens: &'a [Token],
 ) -> Result<(Steps, &'a [Token]), ReadFault>
     ensures { Gives (λ x. (map step_of x.0, lexemes_in x.1.now)) result
-        (many leaf_step (step_tail (map prog_var_of declared.now) depth u32.MAX) u32.MAX
-        (lexemes_in tokens.now)) }
+        (many leaf_step (step_tail depth u32.MAX) u32.MAX (lexemes_in tokens.now)) }
 {
     let mut found = Steps::new(alloc);
     let mut rest = tokens;
     for _ in 0..u32::MAX {
         match step_line(rest) {
             Some((line, behind)) => {
-                let (item, next) = step(alloc, declared, depth, line, behind)?;
+                let (item, next) = step(alloc, depth, line, behind)?;
                 found.push(item)?;
                 rest = next;
             }

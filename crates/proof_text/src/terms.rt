@@ -1,52 +1,56 @@
 // Terms.
-ghost use Rattle.std.specs.Prelude.{◌≡◌, map};
+ghost use Rattle.std.specs.Prelude.{◌≡◌};
 ghost use Rattle.std.specs.Option.{option_map};
 ghost use Rattle.model_shapes.specs.Values.{int};
 ghost use Rattle.model_terms.specs.Terms.{literal};
-ghost use Rattle.model_grammar.specs.Expressions.{sort_among};
-ghost use Rattle.dom_terms.specs.Sorts.{value_sort_of};
-ghost use Rattle.dom_terms.specs.Terms.{prog_var_of, term_of};
+ghost use Rattle.dom_terms.specs.Terms.{term_of};
 ghost use Rattle.token_readers.specs.Reading.{leaf};
 ghost use Rattle.token_readers.specs.Giving.{Gives};
 ghost use Rattle.token_readers.specs.Leaves.{lexemes_in};
-ghost use Rattle.proof_text.specs.Expressions.{leaf_term, negated, leaf_negative, operator_at, operation_at, word_at, term_at};
+ghost use Rattle.proof_text.specs.Terms.{leaf_term, negated, leaf_negative, operator_at, operation_at, word_at, term_at};
 ghost use Rattle.proof_text.specs.Operators.{operator_of};
+ghost use Rattle.proof_text.specs.Places.{place_of};
 
-use dom_terms::{Copied, ProgVar, Term, ValueSort, Vars};
+use dom_terms::{Copied, LogicVar, ProgVar, Sort, Term, ValueSort};
 use std::alloc::Global;
 use text_tokens::Token;
 use token_readers::{ReadFault, after, expect};
 
-/// The sort of the first declaration of the name; that of nodes where there is none.
-pub fn sort_named(declared: &[ProgVar], name: &str) -> ValueSort
-    ensures { value_sort_of result ≡ sort_among (map prog_var_of declared.now) name.now }
-{
-    let mut rest = declared;
-    'declared: while let [first, others @ ..] = rest {
-        if name == first.name.as_str() {
-            return first.sort;
-        }
-        rest = others;
-    }
-    ValueSort::Node
+/// Where a term stands.
+#[derive(Clone, Copy, Debug, PartialEq, Eq)]
+pub enum Place {
+    /// In a formula, where it may have variables of the logic.
+    Formula,
+    /// In a command, where it may not.
+    Command,
 }
 
 // A term of one token that is no reserved word and no symbol.
 fn leaf_term<'a>(
     alloc: Global,
-    declared: &Vars,
+    place: Place,
     tokens: &'a [Token],
 ) -> Result<(Term, &'a [Token]), ReadFault>
     ensures { Gives (λ x. (term_of x.0, lexemes_in x.1.now)) result
-        (leaf (leaf_term (map prog_var_of declared.now)) (lexemes_in tokens.now)) }
+        (leaf (leaf_term (place_of place)) (lexemes_in tokens.now)) }
 {
     let [first, rest @ ..] = tokens else {
         return Err(ReadFault::Text(0));
     };
     if let Some(name) = first.name() {
-        let sort = sort_named(declared.as_slice(), name.as_str());
         let name = name.copy(alloc)?;
+        let sort = ValueSort::Node;
         return Ok((Term::Prog(ProgVar { name, sort }), rest));
+    }
+    if let Some(name) = first.logic_name() {
+        return match place {
+            Place::Formula => {
+                let name = name.copy(alloc)?;
+                let sort = Sort::Value(ValueSort::Node);
+                Ok((Term::Logic(LogicVar { name, sort }), rest))
+            }
+            Place::Command => Err(ReadFault::Text(tokens.len())),
+        };
     }
     if let Some(text) = first.literal() {
         return Ok((Term::Str(text.copy(alloc)?), rest));
@@ -93,7 +97,7 @@ enum Operator {
     Cat,
 }
 
-#[tactic(auto, unfolding(crate::specs::Expressions::operator_at))]
+#[tactic(auto, unfolding(crate::specs::Terms::operator_at))]
 fn sign(tokens: &[Token]) -> Result<(Operator, &[Token]), ReadFault>
     ensures { Gives (λ x. (operator_of x.0, lexemes_in x.1.now)) result
         (operator_at (lexemes_in tokens.now)) }
@@ -121,14 +125,14 @@ fn operated(operator: Operator, left: Box<Term>, right: Box<Term>) -> Term
 }
 
 // A term that doesn't begin with a brace.
-#[tactic(auto, unfolding(crate::specs::Expressions::word_at))]
+#[tactic(auto, unfolding(crate::specs::Terms::word_at))]
 fn word<'a>(
     alloc: Global,
-    declared: &Vars,
+    place: Place,
     tokens: &'a [Token],
 ) -> Result<(Term, &'a [Token]), ReadFault>
     ensures { Gives (λ x. (term_of x.0, lexemes_in x.1.now)) result
-        (word_at (leaf (leaf_term (map prog_var_of declared.now))) (lexemes_in tokens.now)) }
+        (word_at (leaf (leaf_term (place_of place))) (lexemes_in tokens.now)) }
 {
     if let Some(rest) = after(tokens, "-") {
         return leaf_negative(rest);
@@ -145,61 +149,61 @@ fn word<'a>(
     if let Some(rest) = after(tokens, "no") {
         return Ok((Term::Bool(false), rest));
     }
-    leaf_term(alloc, declared, tokens)
+    leaf_term(alloc, place, tokens)
 }
 
 // A term in a box of its own.
 #[cycle(term)]
 fn boxed<'a>(
     alloc: Global,
-    declared: &Vars,
+    place: Place,
     depth: u32,
     tokens: &'a [Token],
 ) -> Result<(Box<Term>, &'a [Token]), ReadFault>
     ensures { Gives (λ x. (term_of x.0.value, lexemes_in x.1.now)) result
-        (term_at (map prog_var_of declared.now) depth (lexemes_in tokens.now)) }
+        (term_at (place_of place) depth (lexemes_in tokens.now)) }
 {
-    let (inner, rest) = term(alloc, declared, depth, tokens)?;
+    let (inner, rest) = term(alloc, place, depth, tokens)?;
     let inner = Box::new(alloc, inner)?;
     Ok((inner, rest))
 }
 
 // What stands behind an open brace.
 #[cycle(term)]
-#[tactic(auto, unfolding(crate::specs::Expressions::operation_at))]
+#[tactic(auto, unfolding(crate::specs::Terms::operation_at))]
 fn operation<'a>(
     alloc: Global,
-    declared: &Vars,
+    place: Place,
     depth: u32,
     tokens: &'a [Token],
 ) -> Result<(Term, &'a [Token]), ReadFault>
     ensures { Gives (λ x. (term_of x.0, lexemes_in x.1.now)) result
-        (operation_at (term_at (map prog_var_of declared.now) depth) (lexemes_in tokens.now)) }
+        (operation_at (term_at (place_of place) depth) (lexemes_in tokens.now)) }
 {
-    let (left, rest) = boxed(alloc, declared, depth, tokens)?;
+    let (left, rest) = boxed(alloc, place, depth, tokens)?;
     let (operator, rest) = sign(rest)?;
-    let (right, rest) = boxed(alloc, declared, depth, rest)?;
+    let (right, rest) = boxed(alloc, place, depth, rest)?;
     let rest = expect(rest, "}")?;
     Ok((operated(operator, left, right), rest))
 }
 
-/// A term, nested at most so deep; its names have the sorts of their declarations.
+/// A term at the place, nested at most so deep.
 #[cycle(term)]
-#[tactic(auto, unfolding(crate::specs::Expressions::term_at))]
+#[tactic(auto, unfolding(crate::specs::Terms::term_at))]
 pub fn term<'a>(
     alloc: Global,
-    declared: &Vars,
+    place: Place,
     depth: u32,
     tokens: &'a [Token],
 ) -> Result<(Term, &'a [Token]), ReadFault>
     ensures { Gives (λ x. (term_of x.0, lexemes_in x.1.now)) result
-        (term_at (map prog_var_of declared.now) depth (lexemes_in tokens.now)) }
+        (term_at (place_of place) depth (lexemes_in tokens.now)) }
 {
     if depth == 0 {
         return Err(ReadFault::Memory);
     }
     if let Some(rest) = after(tokens, "{") {
-        return operation(alloc, declared, depth - 1, rest);
+        return operation(alloc, place, depth - 1, rest);
     }
-    word(alloc, declared, tokens)
+    word(alloc, place, tokens)
 }

@@ -1,42 +1,51 @@
 // Theories.
-ghost use Rattle.std.specs.Prelude.{◌≡◌, IfOk, IsErrOf};
+ghost use Rattle.std.specs.Prelude.{◌≡◌, List, IfOk};
 ghost use Rattle.model_commands.specs.Theories.{Theory as Spelled};
-ghost use Rattle.model_grammar.specs.Grammar.{SpellsTheory};
+ghost use Rattle.model_text.specs.Lexemes.{Lexeme};
+ghost use Rattle.model_text.specs.FaultTokens.{AreOfTokens, IsFaultToken};
+ghost use Rattle.model_grammar.specs.Theories.{SpellsTheory};
 ghost use Rattle.theory_syntax.specs.Theories.{theory_of};
+ghost use Rattle.token_readers.specs.Faults.{IfBadText};
 ghost use Rattle.token_readers.specs.Giving.{Gives};
-ghost use Rattle.token_readers.specs.Spelling.{whole};
 ghost use Rattle.token_readers.specs.Leaves.{lexemes_in};
-ghost use Rattle.proof_text.specs.Readers.{theory_at};
+ghost use Rattle.token_readers.specs.Spelling.{whole};
+ghost use Rattle.proof_text.specs.Theories.{theory_at};
 
+use crate::logics::{flat, lines};
 use crate::procedures::procedures;
-use theory_syntax::Theory;
-use dom_terms::LogicVars;
+use declared_sorts::set_theory;
 use std::alloc::Global;
 use text_tokens::{Token, Tokens};
+use theory_syntax::Theory;
 use token_readers::{ReadFault, TextFault, expect, number};
 
 /// The deepest nesting of terms, formulas and commands that is read, which is more than a file may
 /// have; a deeper one is answered as want of memory.
 pub const MOST_DEPTH: u32 = 128;
 
-#[tactic(auto, unfolding(crate::specs::Readers::theory_at))]
+// A theory at the front of the tokens; its variables don't have their sorts yet.
+#[tactic(auto, unfolding(crate::specs::Theories::theory_at))]
 fn theory(alloc: Global, tokens: &[Token]) -> Result<(Theory, &[Token]), ReadFault>
     ensures { Gives (λ x. (theory_of x.0, lexemes_in x.1.now)) result
         (theory_at MOST_DEPTH u32.MAX (lexemes_in tokens.now)) }
 {
     let rest = expect(tokens, "domlogic")?;
     let (version, rest) = number(rest)?;
+    let (lines, rest) = lines(alloc, rest)?;
     let (procedures, rest) = procedures(alloc, MOST_DEPTH, rest)?;
+    let logic = flat(alloc, lines.as_slice())?;
     let theory = Theory {
         version,
-        logic: LogicVars::new(alloc),
+        logic,
         procedures,
     };
     Ok((theory, rest))
 }
 
+// A theory that ends where the tokens do.
 fn whole_theory(alloc: Global, tokens: &[Token]) -> Result<Theory, ReadFault>
-    ensures { Gives theory_of result (whole (theory_at MOST_DEPTH u32.MAX) (lexemes_in tokens.now)) }
+    ensures { Gives theory_of result
+        (whole (theory_at MOST_DEPTH u32.MAX) (lexemes_in tokens.now)) }
 {
     let (found, rest) = theory(alloc, tokens)?;
     if rest.is_empty() {
@@ -46,15 +55,28 @@ fn whole_theory(alloc: Global, tokens: &[Token]) -> Result<Theory, ReadFault>
     }
 }
 
-/// The theory that the tokens spell, all of them. `BadText` comes exactly where they spell none.
+/// The theory that the tokens spell, all of them, each variable with the sort of its declaration.
+/// `BadText` comes exactly where they spell none, with the fault token where they are those of a
+/// text, and `OutOfMemory` also where the theory nests more than `MOST_DEPTH` deep.
 pub fn read_theory(alloc: Global, tokens: &Tokens) -> Result<Theory, TextFault>
     ensures found { IfOk result (λ t. SpellsTheory (theory_of t) (lexemes_in tokens.now)) }
-    ensures bad_text { IsErrOf result TextFault.BadText → (t : Spelled)
-        → SpellsTheory t (lexemes_in tokens.now) → ⊥ }
+    ensures bad_text { IfBadText result (λ token.
+        (t : Spelled) → SpellsTheory t (lexemes_in tokens.now) → ⊥) }
+    ensures fault_token { AreOfTokens (lexemes_in tokens.now)
+        → IfBadText result (IsFaultToken SpellsTheory (lexemes_in tokens.now)) }
 {
-    match whole_theory(alloc, tokens.as_slice()) {
-        Ok(found) => Ok(found),
-        Err(ReadFault::Text(_)) => Err(TextFault::BadText),
-        Err(ReadFault::Memory) => Err(TextFault::OutOfMemory),
+    let tokens = tokens.as_slice();
+    match whole_theory(alloc, tokens) {
+        Ok(found) => {
+            let mut theory = found;
+            set_theory(alloc, &mut theory)?;
+            Ok(theory)
+        }
+        Err(fault) => Err(fault.of_whole(tokens.len())),
     }
 }
+
+/// A list of lexemes spells at most one theory.
+pub fn one_theory()
+    ensures { (s : List Lexeme) (a b : Spelled) → SpellsTheory a s → SpellsTheory b s → a ≡ b }
+{}

@@ -1,14 +1,14 @@
 -- Lists with a mark between the items: the reader is right, and a loop reads them.
-use Rattle.std.proofs.Common.{◌≡◌, ℕ, zero, suc, pred, ◌+◌, ◌-◌, ◌<◌, ◌≤◌, Bool, true, false, List, [], ◌∷◌, ◌++◌, length, Option, Some, None, option_map, Result, Ok, Err, refl, sym, ap, subst, ◌∙◌, append_assoc, append-nil, arith}
+use Rattle.std.proofs.Common.{◌≡◌, ℕ, zero, suc, pred, ◌+◌, ◌-◌, ◌<◌, ◌≤◌, Bool, true, false, List, [], ◌∷◌, ◌++◌, Option, Some, None, option_map, Ok, Err, refl, sym, ap, subst, ◌∙◌, append_assoc, append-nil, arith}
 use Rattle.std.specs.Prelude as std
 use Rattle.model_text.specs.Lexemes.{Lexeme, terminal}
 use Rattle.token_readers.specs.Reading.{after, is_terminal}
 use Rattle.token_readers.proofs.TerminalTests.{text_refl}
-use Rattle.token_readers.specs.Reading.{Stop, At, Deep, Answer, Read, ◌>>=◌, ret, then, when, either, sep_list, many, begins, first, begun, is_none, not_begun, not_next}
+use Rattle.token_readers.specs.Reading.{At, Answer, Read, ◌>>=◌, ret, when, sep_list, many, begins, first, begun, is_none, not_begun, not_next}
 use Rattle.token_readers.specs.declared.fault.ReadFault.{ReadFault}
 use Rattle.token_readers.specs.declared.fault.ReadFault.TheVariants as faults
 use Rattle.token_readers.specs.Giving.{Fails}
-use Rattle.token_readers.proofs.Sound.{Sound, Behind, After, s_ret, s_then, s_deep, s_less, s_step, s_begins, begins_yes, when_yes}
+use Rattle.token_readers.proofs.Sound.{Sound, After, s_ret, s_then, s_deep, s_less, s_step, s_begins, begins_yes, when_yes}
 use Rattle.token_readers.proofs.Only.{Only, OrDeep, deep, read, Prefix_free, o_last, o_then}
 
 pub data SpellsList {A : Type 0} (sep : List ℕ) (L : A → List Lexeme → Type 0) : List A
@@ -22,13 +22,13 @@ pub s_list : {A : Type 0} (sep : List ℕ) {item : Read A} {L : A → List Lexem
 unfolding sep_list
 s_list sep {item} {L} zero n h S =
     s_less n 0 (omega arith) (s_deep (sep_list sep item zero) (SpellsList sep L) (λ ts. refl)
-    (S.some.0 ∷ []) S.some.1 (last S.some.2))
+        (S.some.0 ∷ []) S.some.1 (last S.some.2) S.some.3)
 s_list sep {item} {L} (suc m) n h S =
     s_then (SpellsList sep L) S λ a s la.
     s_step (pred n) n (omega arith) sep
     (s_then _ (s_list sep m (pred n) (omega arith) (s_less (pred n) n (omega arith) S)) λ xs t las.
-    s_ret (pred n) (a ∷ xs) _ (more la
-    (subst (λ (z : List Lexeme). SpellsList sep L xs z) (sym (append-nil t)) las)))
+    s_ret (pred n) (a ∷ xs) _ (more la (subst (λ (z : List Lexeme). SpellsList sep L xs z)
+        (sym (append-nil t)) las)))
     (s_ret n (a ∷ []) _ (subst (λ (z : List Lexeme). SpellsList sep L (a ∷ []) z)
     (sym (append-nil s)) (last la)))
 
@@ -41,8 +41,8 @@ not_true true e = absurd cc
 pub ends_list : {A : Type 0} (sep : List ℕ) (r : Read A) (a : A) (rest : List Lexeme)
     → not_next sep rest ≡ true → OrDeep (when sep r (ret a) rest) a rest
 ends_list sep r a [] st = read
-ends_list sep r a (t ∷ ts) st = let h : is_terminal sep t ≡ false =
-    not_true (is_terminal sep t) st in rw h read
+ends_list sep r a (t ∷ ts) st = let h : is_terminal sep t
+    ≡ false = not_true (is_terminal sep t) st in rw h read
 
 mark_first : {A : Type 0} (sep : List ℕ) (r other : Read A) (ts : List Lexeme)
     → when sep r other (terminal sep ∷ ts) ≡ r ts
@@ -54,35 +54,32 @@ or_map x a bs rest deep = deep
 or_map x a bs rest read = read
 
 or_first : {A : Type 0} (sep : List ℕ) (r other : Read A) (ts : List Lexeme) {a : A}
-    {rest : List Lexeme} → OrDeep (r ts) a rest
-    → OrDeep (when sep r other (terminal sep ∷ ts)) a rest
-or_first sep r other ts {a} {rest} h =
-    subst (λ (z : _). OrDeep z a rest) (sym (mark_first sep r other ts)) h
+    {rest : List Lexeme} → OrDeep (r ts) a rest → OrDeep
+    (when sep r other (terminal sep ∷ ts)) a rest
+or_first sep r other ts {a} {rest} h = subst (λ (z : _). OrDeep z a rest)
+    (sym (mark_first sep r other ts)) h
 
 module _ {A : Type 0} (sep : List ℕ) (item : Read A) (L : A → List Lexeme → Type 0)
     (stops : List Lexeme → Bool) (O : Only item L stops)
     (at_sep : (ts : List Lexeme) → stops (terminal sep ∷ ts) ≡ true) where
   list_reads : (m : ℕ) (xs : List A) (s rest : List Lexeme) → SpellsList sep L xs s
-      → stops rest ≡ true → not_next sep rest ≡ true
-      → OrDeep (sep_list sep item m (s ++ rest)) xs rest
+      → stops rest ≡ true → not_next sep rest ≡ true → OrDeep
+      (sep_list sep item m (s ++ rest)) xs rest
   unfolding sep_list
   list_reads zero xs s rest l st nx = deep
-  list_reads (suc m) xs s rest (last {a = a} la) st nx =
-      o_last _ rest O la st (ends_list sep _ (a ∷ []) rest nx)
+  list_reads (suc m) xs s rest (last {a = a} la) st nx = o_last _ rest O la st
+      (ends_list sep _ (a ∷ []) rest nx)
   list_reads (suc m) xs s rest (more {a = a} {xs = bs} {t = t} la las) st nx =
       let h : OrDeep (sep_list sep item m (t ++ rest)) bs rest = list_reads m bs t rest las st nx in
-      o_then _ _ rest O la (at_sep (t ++ rest))
-      (or_first sep _ (ret (a ∷ [])) (t ++ rest)
-      (or_map (sep_list sep item m (t ++ rest)) a bs rest h))
+      o_then _ _ rest O la (at_sep (t ++ rest)) (or_first sep _ (ret (a ∷ [])) (t ++ rest)
+          (or_map (sep_list sep item m (t ++ rest)) a bs rest h))
 
 -- items that need no look ahead
 pub list_only : {A : Type 0} (sep : List ℕ) (item : Read A) (L : A → List Lexeme → Type 0)
-    → Only item L Prefix_free → (m : ℕ)
-    → Only (sep_list sep item m) (SpellsList sep L) (not_next sep)
-list_only sep item L O m = record {
-  only = λ xs s rest l st. list_reads sep item L Prefix_free O (λ ts. refl) m xs s rest l refl
-      st;
-}
+    → Only item L Prefix_free → (m : ℕ) → Only (sep_list sep item m) (SpellsList sep L)
+    (not_next sep)
+list_only sep item L O m = record { only = λ xs s rest l st. list_reads sep item L Prefix_free O
+    (λ ts. refl) m xs s rest l refl st }
 
 -- ---- items as long as one begins
 
@@ -98,15 +95,15 @@ pub s_many : {X A : Type 0} (f : Lexeme → Option X) (item : X → Read A)
     → ((t : Lexeme) (x : X) → f t ≡ Some x → Sound n (item x) (After t L))
     → Sound n (many f item m) (SpellsMany f L)
 unfolding many
-s_many f item L zero n h S = s_less n 0 (omega arith)
-    (s_deep (many f item zero) (SpellsMany f L) (λ ts. refl) [] [] none_left)
+s_many f item L zero n h S = s_less n 0 (omega arith) (s_deep (many f item zero) (SpellsMany f L)
+    (λ ts. refl) [] [] none_left tt)
 s_many f item L (suc m) n h S =
     s_begins (pred n) n (omega arith) f _ (ret []) (SpellsMany f L)
     (λ t x e. s_then _ (s_less (pred n) n (omega arith) (S t x e)) λ a s la.
-    s_then _ (s_many f item L m (pred n) (omega arith)
-    (λ t x e. s_less (pred n) n (omega arith) (S t x e))) λ xs u las.
-    s_ret (pred n) (a ∷ xs) _ (one_more t x e la
-    (subst (λ (z : List Lexeme). SpellsMany f L xs z) (sym (append-nil u)) las)))
+    s_then _ (s_many f item L m (pred n) (omega arith) (λ t x e. s_less (pred n) n (omega arith)
+        (S t x e))) λ xs u las.
+    s_ret (pred n) (a ∷ xs) _ (one_more t x e la (subst (λ (z : List Lexeme). SpellsMany f L xs z)
+        (sym (append-nil u)) las)))
     (s_ret n [] _ none_left)
 
 -- nothing that begins an item comes next
@@ -115,16 +112,16 @@ ends_many : {X A : Type 0} (f : Lexeme → Option X) (r : X → Read (List A)) (
 ends_many f r [] st = read
 ends_many {X} f r (t ∷ ts) st = by_option (f t) st
   where
-    by_option : (o : Option X) → is_none o ≡ true
-        → OrDeep (begun (option_map (λ x. (x, ts)) o) r (ret [] (t ∷ ts))) [] (t ∷ ts)
+    by_option : (o : Option X) → is_none o ≡ true → OrDeep
+        (begun (option_map (λ x. (x, ts)) o) r (ret [] (t ∷ ts))) [] (t ∷ ts)
     by_option None st = read
     by_option (Some x) st = absurd cc
 
 first_read : {X A : Type 0} (f : Lexeme → Option X) (r : X → Read A) (other : Read A) (t : Lexeme)
     (ts : List Lexeme) (x : X) {a : A} {rest : List Lexeme}
     → f t ≡ Some x → OrDeep (r x ts) a rest → OrDeep (begins f r other (t ∷ ts)) a rest
-first_read f r other t ts x {a} {rest} e h =
-    subst (λ (z : _). OrDeep z a rest) (sym (begins_yes f r other t ts x e)) h
+first_read f r other t ts x {a} {rest} e h = subst (λ (z : _). OrDeep z a rest)
+    (sym (begins_yes f r other t ts x e)) h
 
 module _ {X A : Type 0} (f : Lexeme → Option X) (item : X → Read A) (L : A → List Lexeme → Type 0)
     (O : (t : Lexeme) (x : X) → f t ≡ Some x → Only (item x) (After t L) Prefix_free) where
@@ -135,8 +132,8 @@ module _ {X A : Type 0} (f : Lexeme → Option X) (item : X → Read A) (L : A �
   many_reads (suc m) xs s rest none_left st = ends_many f _ rest st
   many_reads (suc m) xs s rest (one_more {a = a} {xs = bs} {s = p} {u = u} t x e la las) st =
       first_read f _ (ret []) t ((p ++ u) ++ rest) x e
-      (o_then _ u rest (O t x e) la refl
-      (or_map (many f item m (u ++ rest)) a bs rest (many_reads m bs u rest las st)))
+      (o_then _ u rest (O t x e) la refl (or_map (many f item m (u ++ rest)) a bs rest
+      (many_reads m bs u rest las st)))
 
   pub many_only : (m : ℕ) → Only (many f item m) (SpellsMany f L) (not_begun f)
   many_only m = record { only = λ xs s rest l st. many_reads m xs s rest l st }
@@ -165,7 +162,7 @@ unfolding sep_list
 goes_on sep item front most i ts a behind next total lt h n so_far =
     let k : most - i ≡ suc (most - (i + 1)) = omega arith in
     let one : with_front front (sep_list sep item (most - i) ts)
-    ≡ with_front (front ++ a ∷ []) (sep_list sep item (most - (i + 1)) next) =
+        ≡ with_front (front ++ a ∷ []) (sep_list sep item (most - (i + 1)) next) =
     rw (k, h, n) (regroup front a (sep_list sep item (most - (i + 1)) next)) in
     sym one ∙ so_far
 
@@ -188,8 +185,8 @@ pub is_done : {A : Type 0} (sep : List ℕ) (item : Read A) (front : List A) (mo
 unfolding sep_list
 is_done sep item front most i ts a behind total lt h n so_far =
     let k : most - i ≡ suc (most - (i + 1)) = omega arith in
-    let one : with_front front (sep_list sep item (most - i) ts) ≡ Ok (front ++ a ∷ [], behind) =
-    rw (k, h, n) refl in
+    let one : with_front front (sep_list sep item (most - i) ts)
+        ≡ Ok (front ++ a ∷ [], behind) = rw (k, h, n) refl in
     sym so_far ∙ one
 
 pub nothing_yet : {A : Type 0} (r : Answer (List A)) → with_front [] r ≡ r
@@ -198,8 +195,8 @@ nothing_yet (Err e) = refl
 
 -- the same for items as long as one begins
 module _ {X A : Type 0} (f : Lexeme → Option X) (item : X → Read A) where
-  pub many_goes_on : (front : List A) (most i : ℕ) (ts : List Lexeme) (x : X)
-      (behind : List Lexeme) (a : A) (next : List Lexeme) (total : Answer (List A))
+  pub many_goes_on : (front : List A) (most i : ℕ) (ts : List Lexeme) (x : X) (behind : List Lexeme)
+      (a : A) (next : List Lexeme) (total : Answer (List A))
       → i < most → first f ts ≡ Some (x, behind) → item x behind ≡ Ok (a, next)
       → with_front front (many f item (most - i) ts) ≡ total
       → with_front (front ++ a ∷ []) (many f item (most - (i + 1)) next) ≡ total
@@ -207,7 +204,7 @@ module _ {X A : Type 0} (f : Lexeme → Option X) (item : X → Read A) where
   many_goes_on front most i ts x behind a next total lt b h so_far =
       let k : most - i ≡ suc (most - (i + 1)) = omega arith in
       let one : with_front front (many f item (most - i) ts)
-      ≡ with_front (front ++ a ∷ []) (many f item (most - (i + 1)) next) =
+          ≡ with_front (front ++ a ∷ []) (many f item (most - (i + 1)) next) =
       rw (k, b, h) (regroup front a (many f item (most - (i + 1)) next)) in
       sym one ∙ so_far
 
@@ -228,6 +225,6 @@ module _ {X A : Type 0} (f : Lexeme → Option X) (item : X → Read A) where
   unfolding many
   many_done front most i ts total lt b so_far =
       let k : most - i ≡ suc (most - (i + 1)) = omega arith in
-      let one : with_front front (many f item (most - i) ts) ≡ Ok (front, ts) =
-      rw (k, b) (ap (λ (z : List A). done (z, ts)) (append-nil front)) in
+      let one : with_front front (many f item (most - i) ts)
+          ≡ Ok (front, ts) = rw (k, b) (ap (λ (z : List A). done (z, ts)) (append-nil front)) in
       sym so_far ∙ one

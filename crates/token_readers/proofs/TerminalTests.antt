@@ -1,5 +1,5 @@
 -- The test on a terminal tells the terminals apart.
-use Rattle.std.proofs.Common.{◌≡◌, ℕ, Bool, true, false, List, refl, ap, bytes_eq}
+use Rattle.std.proofs.Common.{◌≡◌, ℕ, true, List, refl, ap, bytes_eq}
 use Rattle.std.proofs.lemmas.Slice.Eq.{bytes_eq-Decides}
 use Rattle.model_text.specs.Lexemes.{Lexeme, terminal}
 use Rattle.token_readers.specs.Reading.{is_terminal}

@@ -1,9 +1,9 @@
 -- What the answers of the questions on a token say of what the grammar sees of it.
-use Rattle.std.proofs.Common.{◌≡◌, ℕ, Bool, true, false, List, Option, Some, None, refl, sym, ap, ◌∙◌, subst, bytes_eq, IsTrue, cond, codes, if◌then◌else◌}
+use Rattle.std.proofs.Common.{◌≡◌, ℕ, Bool, true, false, List, Some, None, refl, sym, ap, ◌∙◌, bytes_eq, IsTrue, codes, if◌then◌else◌}
 use Rattle.std.proofs.lemmas.Slice.Eq.{bytes_eq-Decides}
-use Rattle.model_text.specs.Lexemes.{Lexeme, terminal, step_word, name_lexeme, logic_lexeme, number_lexeme, literal_lexeme, bad_lexeme, word_lexeme, is_reserved}
+use Rattle.model_text.specs.Lexemes.{Lexeme, terminal, step_word, name_lexeme, number_lexeme, word_lexeme, is_reserved}
 use Rattle.token_readers.specs.Reading.{is_terminal}
-use Rattle.token_readers.specs.Leaves.{leaf_name, leaf_word, leaf_number, leaf_step}
+use Rattle.token_readers.specs.Leaves.{leaf_name, leaf_word, leaf_number}
 use Rattle.token_readers.proofs.TerminalTests.{is_terminal_is, text_refl}
 
 same_truth : (b c : Bool) → (b ≡ true → c ≡ true) → (c ≡ true → b ≡ true) → b ≡ c

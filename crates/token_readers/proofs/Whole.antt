@@ -1,10 +1,18 @@
 -- A reader of whole lists is exact, with its fault token.
-use Rattle.std.proofs.Common.{◌≡◌, ℕ, zero, suc, ◌+◌, ◌-◌, ◌<◌, ◌≤◌, Bool, true, false, cond, List, [], ◌∷◌, ◌++◌, length, take, drop, Option, Some, None, Result, Ok, Err, refl, sym, ap, subst, ◌∙◌, append_assoc, append-nil, arith, ◌⊎◌, inl, inr, length-append, add-one}
-use Rattle.std.proofs.lemmas.List.{take-append-drop, take-append-le, take_at}
-use Rattle.model_text.specs.Lexemes.{Lexeme, terminal}
-use Rattle.token_readers.specs.Reading.{Stop, At, Deep, Answer, Read, ◌>>=◌}
-use Rattle.token_readers.specs.Spelling.{Begins, IsFaultToken, ended, whole}
-use Rattle.token_readers.proofs.Sound.{Sound, ok_parts, bind_ok, bind_err, bind_then, bind_stop}
+use Rattle.std.proofs.Common.{◌≡◌, ℕ, suc, ◌-◌, ◌<◌, ◌≤◌, Bool, true, List, [], ◌∷◌, ◌++◌, length, take, drop, Ok, Err, refl, sym, ap, subst, ◌∙◌, append_assoc, append-nil, arith, ◌⊎◌, inl, inr, length-append}
+use Rattle.std.proofs.lemmas.List.{take-append-drop, take-append-le}
+use Rattle.model_text.specs.Lexemes.{Lexeme}
+use Rattle.token_readers.specs.Reading.{At, Deep, Answer, Read, ◌>>=◌}
+use Rattle.token_readers.specs.Spelling.{ended, whole}
+use Rattle.model_text.specs.FaultTokens.{AreOfTokens, Begins, IsFaultToken}
+use Rattle.model_text.proofs.OfTokens.{seen_both, seen_rest, seen_front}
+use Rattle.token_readers.specs.Giving.{Fails}
+use Rattle.token_readers.specs.Faults.{AtToken, LeavesWithin, FirstLeft}
+use Rattle.token_readers.specs.declared.fault.ReadFault.{ReadFault}
+use Rattle.token_readers.specs.declared.fault.ReadFault.TheVariants as reading
+use Rattle.token_readers.specs.declared.fault.TextFault.{TextFault}
+use Rattle.token_readers.specs.declared.fault.TextFault.TheVariants as faults
+use Rattle.token_readers.proofs.Sound.{Sound, ok_parts, bind_ok, bind_err, bind_then}
 use Rattle.token_readers.proofs.Only.{Only, OrDeep, deep, read}
 
 -- no answer of the reader is two things
@@ -26,18 +34,19 @@ ok_read x a rest read h = refl
 take_front : (p s : List Lexeme) (j : ℕ) → j ≤ length p → take j (p ++ s) ≡ take j p
 take_front p s j h = take-append-le j p s h
 
-begins_front : {A : Type 0} (L : A → List Lexeme → Type 0) (p : List Lexeme) (j : ℕ) → Begins L p
-    → Begins L (take j p)
-begins_front L p j b = (
+begins_front : {A : Type 0} (L : A → List Lexeme → Type 0) (p : List Lexeme) (j : ℕ) → AreOfTokens p
+    → Begins L p → Begins L (take j p)
+begins_front L p j each b = (
   b.0,
   drop j p ++ b.1,
   subst (λ (z : List Lexeme). L b.0 z)
       (ap (λ (z : List Lexeme). z ++ b.1) (sym (take-append-drop j p))
       ∙ append_assoc (take j p) (drop j p) b.1) b.2,
+  seen_both (drop j p) b.1 (seen_rest j p each) b.3,
 )
 
-take_next : (p : List Lexeme) (t : Lexeme) (s : List Lexeme) → take (suc (length p)) (p ++ (t ∷ s))
-    ≡ p ++ (t ∷ [])
+take_next : (p : List Lexeme) (t : Lexeme) (s : List Lexeme)
+    → take (suc (length p)) (p ++ (t ∷ s)) ≡ p ++ (t ∷ [])
 take_next [] t s = refl
 take_next (x ∷ p) t s = ap (λ (z : List Lexeme). x ∷ z) (take_next p t s)
 
@@ -48,21 +57,22 @@ no_longer : {A : Type 0} (L : A → List Lexeme → Type 0) (ts p rest : List Le
 no_longer L ts p [] e dead le x = omega (arith, ap (length {A = Lexeme}) e, length-append p [])
 no_longer L ts p (t ∷ s) e dead le x =
     let h : take (suc (length p)) ts ≡ p ++ (t ∷ []) = ap (take (suc (length p))) e
-    ∙ take_next p t s in
+        ∙ take_next p t s in
     let y : Begins L (p ++ (t ∷ [])) = subst (λ (z : List Lexeme). Begins L z) h x in
     dead t s refl y.0 y.1 (subst (λ (z : List Lexeme). L y.0 z) (append_assoc p (t ∷ []) y.1) y.2)
 
-cut_fault : {A : Type 0} (L : A → List Lexeme → Type 0) (ts p rest : List Lexeme) → ts ≡ p ++ rest
-    → Begins L p
+cut_fault : {A : Type 0} (L : A → List Lexeme → Type 0) (ts p rest : List Lexeme) → AreOfTokens ts
+    → ts ≡ p ++ rest → Begins L p
     → ((t : Lexeme) (s : List Lexeme) → rest ≡ t ∷ s → (a : A) (u : List Lexeme)
     → L a (p ++ (t ∷ u)) → ⊥)
     → IsFaultToken L ts (suc (length p))
-cut_fault L ts p rest e b dead = record {
-  low = omega arith;
-  high = omega (arith, ap (length {A = Lexeme}) e, length-append p rest);
+cut_fault L ts p rest each e b dead = record {
+  positive = omega arith;
+  in_range = omega (arith, ap (length {A = Lexeme}) e, length-append p rest);
   before = λ j lt.
       let h : take j ts ≡ take j p = ap (take j) e ∙ take_front p rest j (omega arith) in
-      subst (λ (z : List Lexeme). Begins L z) (sym h) (begins_front L p j b);
+      subst (λ (z : List Lexeme). Begins L z) (sym h) (begins_front L p j
+          (seen_front p rest (subst AreOfTokens e each)) b);
   here = λ le x. no_longer L ts p rest e dead le x;
 }
 
@@ -84,8 +94,8 @@ module _ {A : Type 0} (r : ℕ → Read A) (L : A → List Lexeme → Type 0) (s
           → (ts s : List Lexeme) → ts ≡ s ++ rest → L b s → L a ts
       ended_found b [] a e ts s h l =
           let ba : b ≡ a = cc in
-          subst (λ (z : A). L z ts) ba (subst (λ (z : List Lexeme). L b z) (sym (h ∙ append-nil s))
-          l)
+          subst (λ (z : A). L z ts) ba (subst (λ (z : List Lexeme). L b z)
+              (sym (h ∙ append-nil s)) l)
       ended_found b (t ∷ rest) a e ts s h l = absurd cc
 
   -- what is spelled is read
@@ -103,70 +113,94 @@ module _ {A : Type 0} (r : ℕ → Read A) (L : A → List Lexeme → Type 0) (s
       (ok_parts a b [] [] (sym x ∙ y)).0
 
   -- where it spells nothing, the fault token
-  pub whole_fault : (n : ℕ) (ts : List Lexeme) (k : ℕ) → whole (r n) ts ≡ Err (At k)
-      → IsFaultToken L ts (suc (length ts - k))
-  whole_fault n ts k e =
+  pub whole_fault : (n : ℕ) (ts : List Lexeme) (k : ℕ) → AreOfTokens ts
+      → whole (r n) ts ≡ Err (At k) → IsFaultToken L ts (suc (length ts - k))
+  whole_fault n ts k each e =
       elim (bind_err (r n ts) (λ (x : A × List Lexeme). ended x.0 x.1) (At k) e) [
         | inl h ↦
             let v = (S n).viable ts k h in
-            let len : length ts - k ≡ length v.0 =
-            omega (arith, ap (length {A = Lexeme}) v.2, length-append v.0 v.1, v.3) in
+            let len : length ts - k ≡ length v.0 = omega
+                (arith, ap (length {A = Lexeme}) v.2, length-append v.0 v.1, v.3) in
             subst (λ (z : ℕ). IsFaultToken L ts (suc z)) (sym len)
-            (cut_fault L ts v.0 v.1 v.2 (v.4, v.5, v.6) λ t s es a u la.
+            (cut_fault L ts v.0 v.1 each v.2 (v.4, v.5, v.6, v.7) λ t s es a u la.
             let h2 : r n (v.0 ++ (t ∷ s)) ≡ Err (At (suc (length s))) =
             subst (λ (z : List Lexeme). r n (v.0 ++ z) ≡ Err (At (length z))) es
-            (subst (λ (z : List Lexeme). r n z ≡ Err (At (length v.1))) v.2
-            (subst (λ (z : ℕ). r n ts ≡ Err (At z)) v.3 h)) in
+                (subst (λ (z : List Lexeme). r n z ≡ Err (At (length v.1))) v.2
+                (subst (λ (z : ℕ). r n ts ≡ Err (At z)) v.3 h)) in
             never_err (r n (v.0 ++ (t ∷ u))) a [] (suc (length u))
-            (whole_reads n a (v.0 ++ (t ∷ u)) la) ((S n).local_err v.0 t s h2 u))
+                (whole_reads n a (v.0 ++ (t ∷ u)) la) ((S n).local_err v.0 t s h2 u))
         | inr x ↦
             let f = (S n).found ts x.0.0 x.0.1 x.1 in
-            more_fault n ts k x.0.0 x.0.1 f.0 x.1 x.2 f.1 f.2
+            more_fault n ts k each x.0.0 x.0.1 f.0 x.1 x.2 f.1 f.2
       ]
     where
-      more_fault : (n : ℕ) (ts : List Lexeme) (k : ℕ) (b : A) (rest s : List Lexeme)
-          → r n ts ≡ Ok (b, rest) → ended b rest ≡ Err (At k) → ts ≡ s ++ rest → L b s
+      more_fault : (n : ℕ) (ts : List Lexeme) (k : ℕ) → AreOfTokens ts
+          → (b : A) (rest s : List Lexeme) → r n ts ≡ Ok (b, rest) → ended b rest ≡ Err (At k)
+          → ts ≡ s ++ rest → L b s
           → IsFaultToken L ts (suc (length ts - k))
-      more_fault n ts k b [] s e h cut l = absurd cc
-      more_fault n ts k b (t ∷ rest) s e h cut l =
+      more_fault n ts k each b [] s e h cut l = absurd cc
+      more_fault n ts k each b (t ∷ rest) s e h cut l =
           let ke : suc (length rest) ≡ k = cc in
-          let len : length ts - k ≡ length s =
-          omega (arith, ap (length {A = Lexeme}) cut, length-append s (t ∷ rest), ke) in
+          let len : length ts - k ≡ length s = omega (arith, ap
+              (length {A = Lexeme}) cut, length-append s (t ∷ rest), ke) in
           subst (λ (z : ℕ). IsFaultToken L ts (suc z)) (sym len)
-          (cut_fault L ts s (t ∷ rest) cut
-          (b, [], subst (λ (z : List Lexeme). L b z) (sym (append-nil s)) l) λ t2 s2 es a u la.
+          (cut_fault L ts s (t ∷ rest) each cut (b, [], subst (λ (z : List Lexeme). L b z)
+          (sym (append-nil s)) l, tt) λ t2 s2 es a u la.
           let h2 : r n (s ++ (t2 ∷ s2)) ≡ Ok (b, t2 ∷ s2) =
           subst (λ (z : List Lexeme). r n (s ++ z) ≡ Ok (b, z)) es
-          (subst (λ (z : List Lexeme). r n z ≡ Ok (b, t ∷ rest)) cut e) in
+              (subst (λ (z : List Lexeme). r n z ≡ Ok (b, t ∷ rest)) cut e) in
           never_more (r n (s ++ (t2 ∷ u))) a b t2 u (whole_reads n a (s ++ (t2 ∷ u)) la)
-          ((S n).local_ok s t2 s2 b h2 u))
+              ((S n).local_ok s t2 s2 b h2 u))
 
   -- what is spelled is read, or nothing is said
-  pub whole_or_deep : (n : ℕ) (ts : List Lexeme) (a : A) → L a ts → (whole (r n) ts ≡ Ok a)
-      ⊎ (whole (r n) ts ≡ Err Deep)
+  pub whole_or_deep : (n : ℕ) (ts : List Lexeme) (a : A) → L a ts
+      → (whole (r n) ts ≡ Ok a) ⊎ (whole (r n) ts ≡ Err Deep)
   whole_or_deep n ts a l = cases (r n ts) (whole_reads n a ts l)
     where
-      cases : (x : Answer A) → OrDeep x a [] → ((x >>= λ z. ended z.0 z.1) ≡ Ok a)
-          ⊎ ((x >>= λ z. ended z.0 z.1) ≡ Err Deep)
+      cases : (x : Answer A) → OrDeep x a [] → ((x >>= λ z. ended z.0 z.1) ≡ Ok a) ⊎
+          ((x >>= λ z. ended z.0 z.1) ≡ Err Deep)
       cases x deep = inr refl
       cases x read = inl refl
 
   pub left_fits : (n : ℕ) (ts : List Lexeme) (k : ℕ) → whole (r n) ts ≡ Err (At k) → k ≤ length ts
   left_fits n ts k e =
       elim (bind_err (r n ts) (λ (x : A × List Lexeme). ended x.0 x.1) (At k) e) [
-        | inl h ↦ let v = (S n).viable ts k h in
-            omega (arith, ap (length {A = Lexeme}) v.2, length-append v.0 v.1, v.3)
-        | inr x ↦ let f = (S n).found ts x.0.0 x.0.1 x.1 in
-            omega (
-              arith,
-              ap (length {A = Lexeme}) f.1,
-              length-append f.0 x.0.1,
-              ended_left x.0.0
-                  x.0.1 k x.2,
-            )
+        | inl h ↦ let v = (S n).viable ts k h in omega (arith, ap
+            (length {A = Lexeme}) v.2, length-append v.0 v.1, v.3)
+        | inr x ↦ let f = (S n).found ts x.0.0 x.0.1 x.1 in omega
+            (arith, ap (length {A = Lexeme}) f.1, length-append f.0 x.0.1, ended_left x.0.0 x.0.1 k
+            x.2)
       ]
     where
       ended_left : (b : A) (rest : List Lexeme) (k : ℕ) → ended b rest ≡ Err (At k)
           → k ≡ length rest
       ended_left b [] k h = absurd cc
       ended_left b (t ∷ rest) k h = cc
+
+  -- the same of a function of the program that gave a fault: the tokens that it left are of those
+  pub fault_within : (n : ℕ) (ts : List Lexeme) (fault : ReadFault) → Fails fault (whole (r n) ts)
+      → (count : ℕ) → length ts ≡ count → LeavesWithin count fault
+  fault_within n ts reading.Memory e count same = tt
+  fault_within n ts (reading.Text left) e count same =
+      subst (λ (z : ℕ). left ≤ z) same (left_fits n ts left e)
+
+  -- the text is called bad where it spells nothing
+  pub fault_spells_none : (n : ℕ) (ts : List Lexeme) (fault : ReadFault)
+      → Fails fault (whole (r n) ts) → (count : ℕ) (answer : TextFault)
+      → AtToken answer (FirstLeft count fault) → AtToken answer (λ token. (a : A) → L a ts → ⊥)
+  fault_spells_none n ts fault e count faults.OutOfMemory t = tt
+  fault_spells_none n ts reading.Memory e count (faults.BadText token) t = absurd t
+  fault_spells_none n ts (reading.Text left) e count (faults.BadText token) t =
+      λ a l. elim (whole_or_deep n ts a l)
+          [ inl h ↦ (let x = sym e ∙ h in cc) | inr h ↦ (let x = sym e ∙ h in cc) ]
+
+  -- at the fault token
+  pub fault_at_token : (n : ℕ) (ts : List Lexeme) (fault : ReadFault)
+      → Fails fault (whole (r n) ts) → (count : ℕ) → length ts ≡ count → (answer : TextFault)
+      → AtToken answer (FirstLeft count fault) → AreOfTokens ts
+      → AtToken answer (IsFaultToken L ts)
+  fault_at_token n ts fault e count same faults.OutOfMemory t each = tt
+  fault_at_token n ts reading.Memory e count same (faults.BadText token) t each = absurd t
+  fault_at_token n ts (reading.Text left) e count same (faults.BadText token) t each =
+      let place : suc (length ts - left) ≡ token = omega arith in
+      subst (λ (z : ℕ). IsFaultToken L ts z) place (whole_fault n ts left each e)

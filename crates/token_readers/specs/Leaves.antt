@@ -1,4 +1,5 @@
 -- What single lexemes stand for in the grammar.
+use Rattle.model_limits.specs.Limits.{standard_limits}
 use Rattle.std.specs.Prelude.{ℕ, nat_le, cond, List, Option, Some, None, codes}
 use Rattle.model_text.specs.Lexemes.{Lexeme, terminal, step_word, name_lexeme, number_lexeme, is_reserved}
 pub use Rattle.text_tokens.specs.Lexemes.{seen, lexemes_in}
@@ -17,7 +18,7 @@ leaf_word _ = None
 
 -- a number of at most 32 bits
 abbrev pub leaf_number : Lexeme → Option ℕ
-leaf_number (number_lexeme n) = cond (nat_le n 4294967295) (Some n) None
+leaf_number (number_lexeme n) = cond (nat_le n standard_limits.numeral) (Some n) None
 leaf_number _ = None
 
 -- the word `step`, with its line

@@ -2,3 +2,4 @@ pub mod Reading
 pub mod Spelling
 pub mod Giving
 pub mod Leaves
+pub mod Faults

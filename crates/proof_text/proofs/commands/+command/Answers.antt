@@ -1,34 +1,32 @@
 use Rattle.std.proofs.Common.{◌≡◌, ◌++◌, ◌∷◌, [], sym, map}
 use Rattle.std.proofs.lemmas.Result.{err_from_is_err_and}
 use Rattle.std.proofs.lemmas.List.{map_push}
-use Rattle.dom_terms.specs.Terms.{prog_var_of}
 use Rattle.theory_syntax.specs.Commands.{command_of}
+use Rattle.proof_text.specs.Commands.{semicolon, command_at}
 use Rattle.token_readers.proofs.Lists.{goes_on, breaks, is_done}
-use Rattle.proof_text.specs.Expressions.{semicolon, command_at}
 use Rattle.proof_text.proofs.commands.+command.Goals as goal
 
 pub commands-returns-in_err-item : goal.commands-returns-in_err-item
 commands-returns-in_err-item t c =
     let p = err_from_is_err_and c.from_residual.result c.from_residual.ensures.1 in
-    rw (p.1, p.2) (breaks semicolon
-    (command_at (map prog_var_of c.args.declared.now) 4294967295 c.args.depth)
-    c.in_err-item.field-0.0 (map command_of c.loop.found) 4294967295 c.loop.counter _ _
+    rw (p.1, p.2) (breaks semicolon (command_at 4294967295 c.args.depth) c.in_err-item.field-0.0
+        (map command_of c.loop.found) 4294967295 c.loop.counter _ _
     c.loop-test.true c.in_err-item.ensures c.loop.invariant)
 
 pub commands-returns-in-None : goal.commands-returns-in-None
 commands-returns-in-None t c =
-    let e : map command_of c.push.new.self ≡ map command_of c.loop.found
-    ++ command_of c.in_ok-item.item ∷ [] =
+    let e : map command_of c.push.new.self ≡ map command_of c.loop.found ++ command_of
+        c.in_ok-item.item ∷ [] =
     rw c.in_ok-push.ensures.ok (map_push _ c.loop.found c.in_ok-item.item) in
-    rw e (is_done semicolon (command_at (map prog_var_of c.args.declared.now) 4294967295
-    c.args.depth) (map command_of c.loop.found) 4294967295 c.loop.counter _ _ _ _
+    rw e (is_done semicolon (command_at 4294967295 c.args.depth)
+        (map command_of c.loop.found) 4294967295 c.loop.counter _ _ _ _
     c.loop-test.true c.in_ok-item.ensures (sym c.in-None.ensures) c.loop.invariant)
 
 pub commands-loop-preserved : goal.commands-loop-preserved
 commands-loop-preserved t c =
-    let e : map command_of c.push.new.self ≡ map command_of c.loop.found
-    ++ command_of c.in_ok-item.item ∷ [] =
+    let e : map command_of c.push.new.self ≡ map command_of c.loop.found ++ command_of
+        c.in_ok-item.item ∷ [] =
     rw c.in_ok-push.ensures.ok (map_push _ c.loop.found c.in_ok-item.item) in
-    rw e (goes_on semicolon (command_at (map prog_var_of c.args.declared.now) 4294967295
-    c.args.depth) (map command_of c.loop.found) 4294967295 c.loop.counter _ _ _ _ _
+    rw e (goes_on semicolon (command_at 4294967295 c.args.depth)
+        (map command_of c.loop.found) 4294967295 c.loop.counter _ _ _ _ _
     c.loop-test.true c.in_ok-item.ensures (sym c.in-Some.ensures) c.loop.invariant)

@@ -1,0 +1,107 @@
+// The lines that declare logic variables.
+ghost use Rattle.std.specs.Prelude.{◌≡◌, ◌++◌, IfOk, OnOk, map};
+ghost use Rattle.model_terms.specs.Variables.{logic};
+ghost use Rattle.dom_terms.specs.Sorts.{sort_of};
+ghost use Rattle.dom_terms.specs.Terms.{logic_var_of};
+ghost use Rattle.token_readers.specs.Reading.{leaf, sep_list};
+ghost use Rattle.token_readers.specs.Giving.{Gives};
+ghost use Rattle.token_readers.specs.Leaves.{lexemes_in};
+ghost use Rattle.proof_text.specs.Lists.{comma};
+ghost use Rattle.proof_text.specs.Formulas.{leaf_logic};
+ghost use Rattle.proof_text.specs.Theories.{logic_tail, joined_lines, logic_lines_at};
+
+use crate::declarations::any_sort;
+use crate::names::logic_name;
+use dom_terms::{Copied, List, LogicVar, LogicVars, OutOfMemory, Sort, Text};
+use std::alloc::Global;
+use text_tokens::Token;
+use token_readers::{ReadFault, after, expect};
+
+// One or more logic names with commas between them.
+fn names(alloc: Global, tokens: &[Token]) -> Result<(List<Text>, &[Token]), ReadFault>
+    ensures { Gives (λ x. (x.0, lexemes_in x.1.now)) result
+        (sep_list comma (leaf leaf_logic) u32.MAX (lexemes_in tokens.now)) }
+{
+    let mut found = List::new(alloc);
+    let mut rest = tokens;
+    for _ in 0..u32::MAX {
+        let (item, behind) = logic_name(alloc, rest)?;
+        found.push(item)?;
+        match after(behind, ",") {
+            Some(next) => rest = next,
+            None => return Ok((found, behind)),
+        }
+    }
+    Err(ReadFault::Memory)
+}
+
+// The variables of these names, all of one sort.
+fn of_sort(alloc: Global, names: &[Text], sort: Sort) -> Result<LogicVars, OutOfMemory>
+    ensures { IfOk result (λ all. map logic_var_of all ≡ map
+        (λ name. logic name (sort_of sort)) names.now) }
+{
+    let mut all = LogicVars::new(alloc);
+    for item in names {
+        let name = item.copy(alloc)?;
+        all.push(LogicVar { name, sort })?;
+    }
+    Ok(all)
+}
+
+// What stands behind the word `logic`.
+#[tactic(auto, unfolding(crate::specs::Theories::logic_tail))]
+fn line(alloc: Global, tokens: &[Token]) -> Result<(LogicVars, &[Token]), ReadFault>
+    ensures { Gives (λ x. (map logic_var_of x.0, lexemes_in x.1.now)) result
+        (logic_tail u32.MAX (lexemes_in tokens.now)) }
+{
+    let (sort, rest) = any_sort(tokens)?;
+    let (names, rest) = names(alloc, rest)?;
+    let rest = expect(rest, ";")?;
+    let all = of_sort(alloc, names.as_slice(), sort)?;
+    Ok((all, rest))
+}
+
+/// The lines, as long as one begins.
+pub fn lines(alloc: Global, tokens: &[Token]) -> Result<(List<LogicVars>, &[Token]), ReadFault>
+    ensures { Gives (λ x. (map (map logic_var_of) x.0, lexemes_in x.1.now)) result
+        (logic_lines_at u32.MAX (lexemes_in tokens.now)) }
+{
+    let mut found = List::new(alloc);
+    let mut rest = tokens;
+    for _ in 0..u32::MAX {
+        match after(rest, "logic") {
+            Some(behind) => {
+                let (item, next) = line(alloc, behind)?;
+                found.push(item)?;
+                rest = next;
+            }
+            None => return Ok((found, rest)),
+        }
+    }
+    Err(ReadFault::Memory)
+}
+
+// Puts copies of the variables at the end.
+fn add_all(alloc: Global, found: &mut LogicVars, more: &[LogicVar]) -> Result<(), OutOfMemory>
+    ensures { OnOk result (map logic_var_of found.new ≡ map logic_var_of found.old ++ map
+        logic_var_of more.now) }
+{
+    for item in more {
+        found.push(item.copy(alloc)?)?;
+    }
+    Ok(())
+}
+
+/// The variables of all lines.
+pub fn flat(alloc: Global, lines: &[LogicVars]) -> Result<LogicVars, OutOfMemory>
+    ensures { IfOk result (λ all. map logic_var_of all ≡ joined_lines
+        (map (map logic_var_of) lines.now)) }
+{
+    let mut all = LogicVars::new(alloc);
+    let mut rest = lines;
+    'lines: while let [first, others @ ..] = rest {
+        add_all(alloc, &mut all, first.as_slice())?;
+        rest = others;
+    }
+    Ok(all)
+}

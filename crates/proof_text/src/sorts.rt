@@ -1,0 +1,102 @@
+// Words for sorts, and variables.
+ghost use Rattle.std.specs.Prelude.{◌≡◌};
+ghost use Rattle.std.specs.Option.{option_map};
+ghost use Rattle.dom_terms.specs.Sorts.{value_sort_of, data_sort_of};
+ghost use Rattle.dom_terms.specs.Terms.{prog_var_of};
+ghost use Rattle.token_readers.specs.Reading.{leaf};
+ghost use Rattle.token_readers.specs.Giving.{Gives};
+ghost use Rattle.token_readers.specs.Leaves.{seen, lexemes_in};
+ghost use Rattle.proof_text.specs.Lists.{value_sort_called, leaf_value_sort, data_sort_called, leaf_data_sort, leaf_variable};
+
+use dom_terms::{Copied, DataSort, ProgVar, ValueSort};
+use std::alloc::Global;
+use text_tokens::Token;
+use token_readers::ReadFault;
+
+fn value_sort_called(name: &str) -> Option<ValueSort>
+    ensures { option_map value_sort_of result ≡ value_sort_called name.now }
+{
+    match name {
+        "node" => Some(ValueSort::Node),
+        "list" => Some(ValueSort::List),
+        "int" => Some(ValueSort::Int),
+        "str" => Some(ValueSort::Str),
+        "bool" => Some(ValueSort::Bool),
+        _ => None,
+    }
+}
+
+fn value_sort_of(token: &Token) -> Option<ValueSort>
+    ensures { option_map value_sort_of result ≡ leaf_value_sort (seen token.now) }
+{
+    match token.name() {
+        Some(name) => value_sort_called(name.as_str()),
+        None => None,
+    }
+}
+
+/// A sort of values.
+pub fn value_sort(tokens: &[Token]) -> Result<(ValueSort, &[Token]), ReadFault>
+    ensures { Gives (λ x. (value_sort_of x.0, lexemes_in x.1.now)) result
+        (leaf leaf_value_sort (lexemes_in tokens.now)) }
+{
+    let [first, rest @ ..] = tokens else {
+        return Err(ReadFault::Text(0));
+    };
+    match value_sort_of(first) {
+        Some(sort) => Ok((sort, rest)),
+        None => Err(ReadFault::Text(tokens.len())),
+    }
+}
+
+fn data_sort_called(name: &str) -> Option<DataSort>
+    ensures { option_map data_sort_of result ≡ data_sort_called name.now }
+{
+    match name {
+        "t" => Some(DataSort::Tree),
+        "f" => Some(DataSort::Forest),
+        "g" => Some(DataSort::Grove),
+        _ => None,
+    }
+}
+
+fn data_sort_of(token: &Token) -> Option<DataSort>
+    ensures { option_map data_sort_of result ≡ leaf_data_sort (seen token.now) }
+{
+    match token.name() {
+        Some(name) => data_sort_called(name.as_str()),
+        None => None,
+    }
+}
+
+/// A sort of data.
+pub fn data_sort(tokens: &[Token]) -> Result<(DataSort, &[Token]), ReadFault>
+    ensures { Gives (λ x. (data_sort_of x.0, lexemes_in x.1.now)) result
+        (leaf leaf_data_sort (lexemes_in tokens.now)) }
+{
+    let [first, rest @ ..] = tokens else {
+        return Err(ReadFault::Text(0));
+    };
+    match data_sort_of(first) {
+        Some(sort) => Ok((sort, rest)),
+        None => Err(ReadFault::Text(tokens.len())),
+    }
+}
+
+/// A variable as it is used, before it has its sort.
+pub fn variable(alloc: Global, tokens: &[Token]) -> Result<(ProgVar, &[Token]), ReadFault>
+    ensures { Gives (λ x. (prog_var_of x.0, lexemes_in x.1.now)) result
+        (leaf leaf_variable (lexemes_in tokens.now)) }
+{
+    let [first, rest @ ..] = tokens else {
+        return Err(ReadFault::Text(0));
+    };
+    match first.name() {
+        Some(name) => {
+            let name = name.copy(alloc)?;
+            let sort = ValueSort::Node;
+            Ok((ProgVar { name, sort }, rest))
+        }
+        None => Err(ReadFault::Text(tokens.len())),
+    }
+}
