@@ -21,7 +21,7 @@ use crate::flow::{assigned, called, chosen, given_back, opened, repeated, restor
 use crate::moves::{Place, created, moved};
 use crate::reads::{Read, item_read, node_read};
 use theory_syntax::{Command, Theory};
-use dom_terms::{List, ProgVar, Store, Value};
+use dom_terms::{ProgVar, Store, Value};
 use grove_data::{Grove, Tree};
 use std::alloc::Global;
 
@@ -32,7 +32,7 @@ pub(crate) enum Change {
     Pieces(Pieces),
     /// These pieces come before it, the first one last, and it stays.
     Before(Pieces),
-    /// It is a block, and its commands stand in its place.
+    /// Its commands stand in its place: those of a block, and none where it is no block.
     Unfold,
     /// A variable is set.
     Set(ProgVar, Value),
@@ -106,7 +106,7 @@ fn command_planned(
         (pieces_in others.now) (store_of store.now) (forest_of grove.now)) }
 {
     match command {
-        Command::Skip => Ok(Plan::Becomes(Change::Pieces(List::new(alloc)))),
+        Command::Skip => Ok(Plan::Becomes(Change::Unfold)),
         Command::Block(_) => Ok(Plan::Becomes(Change::Unfold)),
         Command::Assign(variable, value) => assigned(alloc, variable, value, store),
         Command::Create(variable, name) => created(alloc, variable, name, store, grove, pick),
