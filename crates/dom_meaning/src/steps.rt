@@ -29,11 +29,11 @@ ghost use Rattle.theory_syntax.specs.declared.commands.Command.TheVariants.{Bloc
 use crate::configurations::{Config, Pending, Pieces};
 use crate::faults::{FaultKind, StepFault};
 use crate::plans::{Change, Plan, planned};
-use theory_syntax::{Block, Command, Theory};
 use dom_terms::{OutOfMemory, ProgVar, Value};
 use grove_data::Tree;
 use std::alloc::Global;
 use std::mem::replace;
+use theory_syntax::{Block, Command, Theory};
 
 /// What a step came to.
 #[derive(Clone, Copy, Debug, PartialEq, Eq)]
@@ -70,7 +70,15 @@ pub fn step(
     let Some((piece, others)) = config.pending.as_slice().split_last() else {
         return Ok(StepOut::Done);
     };
-    match planned(alloc, theory, piece, others, &config.store, &config.grove, pick)? {
+    match planned(
+        alloc,
+        theory,
+        piece,
+        others,
+        &config.store,
+        &config.grove,
+        pick,
+    )? {
         Plan::Becomes(change) => {
             advance(config, change)?;
             Ok(StepOut::Next)

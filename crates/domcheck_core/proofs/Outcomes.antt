@@ -1,14 +1,10 @@
--- Runs that are called: they may be run, and where they end, the grove is well formed.
-use Rattle.std.proofs.Common.{◌≡◌, ◌∙◌, ℕ, zero, suc, true, ◌&&◌, List, [], ◌∷◌, map, slice_get, Option, Some, None, ap, Result, Ok, Err, IfOk, refl, sym, subst}
-use Rattle.std.specs.List.{list_all}
-use Rattle.model_shapes.specs.Tests.{same_data_sort}
+-- Runs that are called: where they end, the grove is well formed.
+use Rattle.std.proofs.Common.{◌≡◌, ◌∙◌, ℕ, List, map, Option, Some, None, ap, Result, Ok, Err, IfOk, sym, subst}
 use Rattle.model_shapes.specs.Sorts.{grove}
 use Rattle.model_shapes.specs.Trees.{Trees, WellFormed}
 use Rattle.model_shapes.specs.Values.{Value}
 use Rattle.model_formulas.specs.Formulas.{Named}
 use Rattle.model_terms.specs.Stores.{ProgVar}
-use Rattle.model_commands.specs.Commands.{Command, skip, block, assign, create_node, node_name, child_nodes, parent_node, list_item, append_child, remove_child, if_else, while_do, local, call}
-use Rattle.model_commands.specs.CommandParts.{commands_in}
 use Rattle.model_commands.specs.Theories.{ProcedureOf, Theory, procedures_of}
 use Rattle.model_files.specs.FileFaults.{IsWellFormedTheory}
 use Rattle.model_machine.specs.Fitting.{FitsConfig}
@@ -19,10 +15,6 @@ use Rattle.model_limits.specs.Limits.{standard_limits}
 use Rattle.model_machine.proofs.Picks.{outcome-behind}
 use Rattle.model_machine.proofs.Fine.{ends-fine}
 use Rattle.model_files.proofs.WellFormedTheories.{well-formed-bodies}
-use Rattle.model_grammar.specs.FirstForm.{is_first_kind, is_first_command, is_first_formula, is_first_step, is_first_procedure}
-use Rattle.theory_syntax.specs.declared.theories.Procedure.{Procedure}
-use Rattle.theory_syntax.specs.Theories.{procedure_of}
-use Rattle.dom_meaning.specs.Built.{is_built_kind, is_built}
 use Rattle.model_machine.specs.Outcomes.{outcome}
 use Rattle.dom_meaning.specs.Runs.{IsOutcome}
 use Rattle.dom_meaning.specs.Starts.{Begins}
@@ -35,55 +27,6 @@ use Rattle.domcheck_core.specs.Calls.{IsWhole}
 use Rattle.model_terms.specs.TermLimits.{or_else}
 use Rattle.domcheck_core.specs.declared.status.Status.{Status}
 use Rattle.domcheck_core.specs.Answers.{Answer, outcome_on, outcome_answer, grove_answer, refusal}
-use Rattle.std.proofs.lemmas.Bool.{and_parts}
-
--- the commands of the first form are those that the machine runs
-same_kinds : (c : Command) → is_first_kind c ≡ is_built_kind c
-same_kinds skip = refl
-same_kinds (block b) = refl
-same_kinds (assign x e) = refl
-same_kinds (create_node x e) = refl
-same_kinds (node_name x e) = refl
-same_kinds (child_nodes x e) = refl
-same_kinds (parent_node x e) = refl
-same_kinds (list_item x e f) = refl
-same_kinds (append_child e f) = refl
-same_kinds (remove_child e f) = refl
-same_kinds (if_else c a b) = refl
-same_kinds (while_do c b) = refl
-same_kinds (local x b) = refl
-same_kinds (call results name arguments) = refl
-
-all_kinds : (cs : List Command) → list_all is_first_kind cs ≡ list_all is_built_kind cs
-all_kinds [] = refl
-all_kinds (c ∷ cs) = λ i. same_kinds c i && all_kinds cs i
-
-built_body : (f : ProcedureOf Named) → is_first_procedure f ≡ true → is_built f.body ≡ true
-built_body f e =
-    let a = and_parts (same_data_sort f.sort grove)
-    (is_first_formula f.pre && (is_first_formula
-    f.post && (is_first_command f.body && list_all is_first_step f.proof))) e in
-    let b = and_parts (is_first_formula f.pre)
-    (is_first_formula f.post && (is_first_command f.body && list_all is_first_step f.proof)) a.1
-    in
-    let c = and_parts (is_first_formula f.post)
-    (is_first_command f.body && list_all is_first_step f.proof) b.1 in
-    sym (all_kinds (commands_in f.body))
-    ∙ (and_parts (is_first_command f.body) (list_all is_first_step f.proof) c.1).0
-
--- of the procedure at a place
-pub built_at : (xs : List Procedure) (k : ℕ) (p : Procedure)
-    → list_all is_first_procedure (map procedure_of xs) ≡ true → slice_get xs k ≡ Some p
-    → is_built (procedure_of p).body ≡ true
-built_at [] k p e h = absurd cc
-built_at (x ∷ xs) zero p e h =
-    let same : x ≡ p = cc in
-    subst (λ (z : Procedure). is_built (procedure_of z).body ≡ true) same
-    (built_body (procedure_of x) (and_parts (is_first_procedure (procedure_of x))
-    (list_all is_first_procedure (map procedure_of xs)) e).0)
-built_at (x ∷ xs) (suc k) p e h =
-    built_at xs k p (and_parts (is_first_procedure (procedure_of x))
-    (list_all is_first_procedure (map procedure_of xs)) e).1 h
 
 -- where a run ends, the grove is well formed
 ends_whole : (theory : Theory) → IsWellFormedTheory theory → (results : List ProgVar) (fuel : ℕ)

@@ -17,10 +17,10 @@ use Rattle.dom_meaning.proofs.plans.command_planned.Goals as goal
 pub returns-in-Create-clause-limit : goal.returns-in-Create-clause-limit
 returns-in-Create-clause-limit c =
     let is : command_of c.args.command.now
-    ≡ create_node (prog_var_of c.in-Create.variable) (term_of c.in-Create.name) =
-    ap command_of (c.in-Create.is ∙ sym (rolls-Create c.in-Create.variable c.in-Create.name))
+    ≡ create_node (prog_var_of c.in-Create.x) (term_of c.in-Create.name) =
+    ap command_of (c.in-Create.is ∙ sym (rolls-Create c.in-Create.x c.in-Create.name))
     ∙ fold-roll-Command Command command_step
-    (Command-F.Create c.in-Create.variable c.in-Create.name) in
+    (Command-F.Create c.in-Create.x c.in-Create.name) in
     subst (λ (z : Command). TellsLimit c.created.result (step_limit standard_limits (run z)
     (pieces_in c.args.others.now) (store_of c.args.store.now) (forest_of c.args.grove.now)))
     (sym is) (c.created.ensures.limit (pieces_in c.args.others.now))

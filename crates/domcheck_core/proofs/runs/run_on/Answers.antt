@@ -1,22 +1,10 @@
 use Rattle.std.proofs.Common.{◌≡◌, ◌∙◌, ap, map, Some}
-use Rattle.std.proofs.lemmas.Bool.{and_parts}
-use Rattle.std.specs.List.{list_all}
-use Rattle.model_grammar.specs.FirstForm.{declares_none, is_first_procedure}
 use Rattle.dom_terms.specs.Terms.{prog_var_of}
 use Rattle.dom_terms.specs.Values.{value_seen}
 use Rattle.theory_syntax.specs.declared.theories.Procedure.{Procedure}
 use Rattle.theory_syntax.specs.Theories.{procedure_of, theory_of}
-use Rattle.domcheck_core.proofs.Outcomes.{built_at, whole, ran, on_grove}
+use Rattle.domcheck_core.proofs.Outcomes.{whole, ran, on_grove}
 use Rattle.domcheck_core.proofs.runs.run_on.Goals as goal
-
-pub run_plain-outcome-requires-clause-runnable : goal.run_plain-outcome-requires-clause-runnable
-run_plain-outcome-requires-clause-runnable c =
-    let theory = theory_of c.args.theory.now in
-    let all = and_parts (declares_none theory.logic) (list_all is_first_procedure theory.procedures)
-    c.requires.of_form.first_form in
-    c.in_ok-config-in-Ok.ensures.runnable c.requires.procedure c.requires.stands
-    (built_at c.args.theory.now.procedures c.args.call.procedure c.requires.procedure
-    all.1 c.requires.stands)
 
 pub outcome_reply-requires : goal.outcome_reply-requires
 outcome_reply-requires c =
