@@ -6,7 +6,6 @@ use Rattle.model_shapes.specs.Trees.{Trees}
 use Rattle.model_shapes.specs.Values.{Value}
 use Rattle.model_shapes.specs.Shapes.{Shaped}
 use Rattle.model_commands.specs.Theories.{nameless_procedure, procedures_of}
-use Rattle.model_machine.specs.Machine as model
 use Rattle.model_files.specs.FileFaults.{IsWellFormedTheory}
 use Rattle.model_machine.specs.Fitting.{ValuesFit, FitsConfig}
 use Rattle.model_machine.proofs.Starts.{start-fits}

@@ -49,3 +49,6 @@ module _ (found : Option model.Procedure) (es : List Term) where
         (entering (map prog_var_of p.params) es store) grove ≡ calling found xs es store grove
     calls_it xs store grove =
         ap (λ (z : Option model.Procedure). calling z xs es store grove) is
+
+-- what a call enters
+pub ruleset call_rules = (not_called, fed_params, calls_it)

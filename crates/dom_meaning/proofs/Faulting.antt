@@ -1,10 +1,10 @@
 -- Only a command faults.
-use Rattle.std.proofs.Common.{◌≡◌, List, [], ◌∷◌, ◌++◌, ap, ◌∙◌, sym}
+use Rattle.std.proofs.Common.{◌≡◌, List, [], ◌∷◌}
 use Rattle.model_shapes.specs.Trees.{Trees}
 use Rattle.model_terms.specs.Stores.{Store}
 use Rattle.model_commands.specs.Theories.{Procedures}
 use Rattle.model_groves.specs.Picks.{Pick}
-use Rattle.model_machine.specs.Machine.{FaultKind, Piece, run, restore, return, Config, configuration, at_fault, step}
+use Rattle.model_machine.specs.Machine.{FaultKind, Piece, run, restore, return, configuration, at_fault, step}
 
 module _ (ps : Procedures) (pick : Pick) (kind : FaultKind) where
   -- a command comes first

@@ -1,5 +1,5 @@
 -- Pieces that are kept with the first one last.
-use Rattle.std.proofs.Common.{◌≡◌, ℕ, ◌+◌, ◌-◌, Bool, true, false, cond, List, [], ◌∷◌, ◌++◌, map, length, get_or, set, refl, sym, ap, ◌∙◌, arith, zero-add, length-append}
+use Rattle.std.proofs.Common.{◌≡◌, ℕ, ◌<◌, ◌+◌, ◌-◌, Bool, true, false, cond, List, [], ◌∷◌, ◌++◌, map, length, get_or, set, refl, sym, ap, ◌∙◌, arith, zero-add, length-append}
 use Rattle.std.specs.Prelude.{reverse}
 use Rattle.std.specs.List.{count_by}
 use mathlib.Core.List.{map-map}
@@ -107,6 +107,15 @@ returns_counted (x ∷ pending) =
     ∙ ap (λ n. n + returns_in (piece_of x ∷ [])) (returns_counted pending)
     ∙ sym (ap returns_in (pieces_in-append (x ∷ []) pending)
     ∙ returns_in-append (pieces_in pending) (piece_of x ∷ []))
+
+-- a list that isn't empty has a last item
+pub parted : {A : Type 0} (xs : List A) → 0 < length xs
+    → (others : List A) × (last : A) × (xs ≡ others ++ last ∷ [])
+parted [] h = absurd (omega arith)
+parted (x ∷ []) h = ([], x, refl)
+parted (x ∷ (y ∷ xs)) h =
+    let rest = parted (y ∷ xs) (omega arith) in
+    (x ∷ rest.0, rest.1, ap (λ z. x ∷ z) rest.2)
 
 -- the last of a list
 get-last : {A : Type 0} (others : List A) (last d : A)

@@ -1,5 +1,5 @@
 -- What is read off a node.
-use Rattle.std.proofs.Common.{◌≡◌, ◌≢◌, ℕ, zero, suc, List, [], ◌∷◌, Option, Some, None, refl, sym, ap, ◌∙◌}
+use Rattle.std.proofs.Common.{◌≡◌, ◌≢◌, ℕ, zero, suc, List, [], ◌∷◌, Some, None, refl, sym, ap, ◌∙◌}
 use Rattle.std.specs.Prelude.{slice_get}
 use Rattle.model_shapes.specs.Values.{Value, null, node_number}
 use Rattle.model_shapes.specs.Trees.{Trees, none, node, beside, WellFormed}

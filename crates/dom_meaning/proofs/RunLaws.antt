@@ -6,10 +6,10 @@ use Rattle.model_terms.specs.TermLimits.{or_else, unless}
 use Rattle.model_terms.specs.Stores.{ProgVar, Store, value_of, text_in}
 use Rattle.model_commands.specs.Commands.{skip, block, assign, create_node, node_name, child_nodes, parent_node, list_item, append_child, remove_child, if_else, while_do, local, call}
 use Rattle.model_commands.specs.Theories.{Procedures}
-use Rattle.model_groves.specs.Picks.{Pick, next_pick}
+use Rattle.model_groves.specs.Picks.{next_pick}
 use Rattle.model_groves.specs.Sizes.{greatest_node, greatest_list}
-use Rattle.model_limits.specs.Limits.{LimitKind, identifier_limit, standard_limits}
-use Rattle.model_machine.specs.Machine.{Piece, run, restore, return, creating, Config, configuration, StepOut, next, done, at_fault, at_bad_pick, stepped, step}
+use Rattle.model_limits.specs.Limits.{identifier_limit, standard_limits}
+use Rattle.model_machine.specs.Machine.{Piece, run, restore, return, creating, Config, configuration, StepOut, at_bad_pick, stepped, step}
 use Rattle.model_machine.specs.Outcomes.{limit_ahead, pick_limit, Outcome, passes_limit, within, on_step, outcome}
 use Rattle.model_machine.proofs.NextMoves.{next-steps}
 use Rattle.dom_meaning.specs.Runs.{pick_within}

@@ -30,6 +30,9 @@ absent_default x (holding y w store) e = by_test (same_name x y) e (absent_defau
     by_test true q h = absurd cc
     by_test false q h = h q
 
+-- whether it is found or not
+pub ruleset value_rules = (found_value, absent_default)
+
 -- the values, one by one
 pub values_are : (xs : List declared.ProgVar) (store : Store)
     → values_in (map prog_var_of xs) store

@@ -1,6 +1,6 @@
 -- The terms of each command that a run may take pass their tests.
-use Rattle.std.proofs.Common.{◌≡◌, List, [], ◌∷◌, Bool, true, false, ◌&&◌, Option, Some, None, is_some}
-use Rattle.model_shapes.specs.Sorts.{ValueSort, node_sort, list_sort, int_sort, str_sort}
+use Rattle.std.proofs.Common.{◌≡◌, List, [], ◌∷◌, Bool, true, ◌&&◌, Option, Some, None, is_some}
+use Rattle.model_shapes.specs.Sorts.{node_sort, list_sort, int_sort, str_sort}
 use Rattle.model_shapes.specs.Tests.{same_value_sort}
 use Rattle.model_shapes.proofs.Truth.{false≢true, both_true}
 use Rattle.model_terms.specs.Terms.{Term}

@@ -2,10 +2,10 @@
 ghost use Rattle.std.specs.Prelude.{◌≡◌, IfOk, map};
 ghost use Rattle.dom_terms.specs.Terms.{prog_var_of};
 
-use theory_syntax::Command;
 use dom_terms::{Copied, List, MadeOf, OutOfMemory, ProgVar, Store, Value, Vars};
 use grove_data::Grove;
 use std::alloc::Global;
+use theory_syntax::Command;
 
 /// The pieces that are pending, the first one last.
 pub type Pieces = List<Pending>;

@@ -31,12 +31,12 @@ use crate::configurations::{Pending, Pieces};
 use crate::faults::StepFault;
 use crate::plans::{Change, Plan};
 use crate::results::{default_of, value_of};
-use theory_syntax::{Block, Command, Procedure, Theory};
 use dom_terms::{
     Cond, Copied, EvalFault, LimitKind, List, OutOfMemory, ProgVar, Store, Term, Terms, Text,
     Value, Vars, eval, holds, same_text,
 };
 use std::alloc::Global;
+use theory_syntax::{Block, Command, Procedure, Theory};
 
 // The most calls that may not have returned.
 const DEPTH: usize = 10_000;
@@ -114,7 +114,11 @@ pub(crate) fn chosen(
     ensures limit { TellsLimit result (terms_limit standard_limits (store_of store.now)
         (terms_of_cond (cond_of cond.now))) }
 {
-    let block = if holds(alloc, cond, store)? { first } else { second };
+    let block = if holds(alloc, cond, store)? {
+        first
+    } else {
+        second
+    };
     Ok(Plan::Becomes(Change::Pieces(block_piece(alloc, block)?)))
 }
 
@@ -151,11 +155,7 @@ fn block_piece(alloc: Global, block: &Block) -> Result<Pieces, OutOfMemory>
 
 /// The body of the procedure with the name, and behind it the return. The store is that of the
 /// callee: its parameters with the values of the arguments.
-#[tactic(auto, using(
-    crate::proofs::Calls::not_called,
-    crate::proofs::Calls::fed_params,
-    crate::proofs::Calls::calls_it
-))]
+#[tactic(auto, using(crate::proofs::Calls::call_rules))]
 pub(crate) fn called(
     alloc: Global,
     theory: &Theory,
@@ -178,7 +178,12 @@ pub(crate) fn called(
     let Some(procedure) = procedure_with(theory, name) else {
         unreachable!();
     };
-    let callee = entered(alloc, procedure.params.as_slice(), arguments.as_slice(), store)?;
+    let callee = entered(
+        alloc,
+        procedure.params.as_slice(),
+        arguments.as_slice(),
+        store,
+    )?;
     if returns_among(others) >= DEPTH {
         return Err(StepFault::Limit(LimitKind::Depth));
     }

@@ -20,10 +20,10 @@ use crate::faults::{FaultKind, StepFault};
 use crate::flow::{assigned, called, chosen, given_back, opened, repeated, restored};
 use crate::moves::{Place, created, moved};
 use crate::reads::{Read, item_read, node_read};
-use theory_syntax::{Command, Theory};
-use dom_terms::{List, ProgVar, Store, Value};
+use dom_terms::{ProgVar, Store, Value};
 use grove_data::{Grove, Tree};
 use std::alloc::Global;
+use theory_syntax::{Command, Theory};
 
 /// What a piece changes.
 #[derive(Drop)]
@@ -32,7 +32,7 @@ pub(crate) enum Change {
     Pieces(Pieces),
     /// These pieces come before it, the first one last, and it stays.
     Before(Pieces),
-    /// It is a block, and its commands stand in its place.
+    /// Its commands stand in its place: those of a block, and none where it is no block.
     Unfold,
     /// A variable is set.
     Set(ProgVar, Value),
@@ -106,31 +106,20 @@ fn command_planned(
         (pieces_in others.now) (store_of store.now) (forest_of grove.now)) }
 {
     match command {
-        Command::Skip => Ok(Plan::Becomes(Change::Pieces(List::new(alloc)))),
-        Command::Block(_) => Ok(Plan::Becomes(Change::Unfold)),
-        Command::Assign(variable, value) => assigned(alloc, variable, value, store),
-        Command::Create(variable, name) => created(alloc, variable, name, store, grove, pick),
-        Command::Name(variable, node) => {
-            node_read(alloc, Read::Name, variable, node, store, grove)
-        }
-        Command::Parent(variable, node) => {
-            node_read(alloc, Read::Parent, variable, node, store, grove)
-        }
-        Command::Children(variable, node) => {
-            node_read(alloc, Read::List, variable, node, store, grove)
-        }
-        Command::Item(variable, list, place) => {
-            item_read(alloc, variable, list, place, store, grove)
-        }
+        Command::Skip | Command::Block(_) => Ok(Plan::Becomes(Change::Unfold)),
+        Command::Assign(x, value) => assigned(alloc, x, value, store),
+        Command::Create(x, name) => created(alloc, x, name, store, grove, pick),
+        Command::Name(x, node) => node_read(alloc, Read::Name, x, node, store, grove),
+        Command::Parent(x, node) => node_read(alloc, Read::Parent, x, node, store, grove),
+        Command::Children(x, node) => node_read(alloc, Read::List, x, node, store, grove),
+        Command::Item(x, list, place) => item_read(alloc, x, list, place, store, grove),
         Command::Append(parent, child) => {
             moved(alloc, Place::Children, parent, child, store, grove)
         }
-        Command::Remove(parent, child) => {
-            moved(alloc, Place::Roots, parent, child, store, grove)
-        }
+        Command::Remove(parent, child) => moved(alloc, Place::Roots, parent, child, store, grove),
         Command::If(cond, first, second) => chosen(alloc, cond, first, second, store),
         Command::While(cond, block) => repeated(alloc, cond, block, store),
-        Command::Local(variable, block) => Ok(opened(alloc, variable, block, store)?),
+        Command::Local(x, block) => Ok(opened(alloc, x, block, store)?),
         Command::Call(results, name, arguments) => {
             called(alloc, theory, results, name, arguments, others, store)
         }

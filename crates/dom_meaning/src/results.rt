@@ -29,7 +29,7 @@ pub(crate) fn values_of(
 }
 
 /// The value of a variable, or its sort's default where it was never set.
-#[tactic(auto, using(crate::proofs::StoreLaws::found_value, crate::proofs::StoreLaws::absent_default))]
+#[tactic(auto, using(crate::proofs::StoreLaws::value_rules))]
 pub(crate) fn value_of(
     alloc: Global,
     variable: &ProgVar,

@@ -21,10 +21,10 @@ use crate::configurations::{Config, Pending};
 use crate::faults::{FaultKind, StepFault};
 use crate::results::values_of;
 use crate::steps::{StepOut, step};
-use theory_syntax::{Command, Theory};
 use dom_terms::{LimitKind, Values};
 use grove_data::{Grove, greatest_ids};
 use std::alloc::Global;
+use theory_syntax::{Command, Theory};
 
 /// How a run came out within its fuel.
 #[derive(Debug, Drop)]

@@ -16,10 +16,10 @@ ghost use Rattle.dom_meaning.specs.Configs.{config_of};
 ghost use Rattle.dom_meaning.specs.Starts.{Begins};
 
 use crate::configurations::{Config, Pending};
-use theory_syntax::{Procedure, Theory};
 use dom_terms::{Copied, List, OutOfMemory, ProgVar, Store, Value, Values};
 use grove_data::Grove;
 use std::alloc::Global;
+use theory_syntax::{Procedure, Theory};
 
 /// The configuration with which the procedure at a place, counted from 0, begins: its body is
 /// pending, and its parameters have the arguments as their values.

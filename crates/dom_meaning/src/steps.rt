@@ -4,6 +4,7 @@ ghost use Rattle.std.specs.Prelude.{◌≡◌, ◌≢◌, ◌<◌, [], ◌∷◌
 ghost use Rattle.model_commands.specs.Theories.{procedures_of};
 ghost use Rattle.model_files.specs.FileFaults.{IsWellFormedTheory};
 ghost use Rattle.model_machine.specs.Machine as model;
+ghost use Rattle.model_machine.specs.Machine.{run};
 ghost use Rattle.model_machine.specs.Fitting.{FitsConfig};
 ghost use Rattle.model_machine.specs.Outcomes.{limit_ahead};
 ghost use Rattle.model_limits.specs.Limits.{standard_limits};
@@ -15,6 +16,7 @@ ghost use Rattle.dom_terms.specs.Terms.{prog_var_of};
 ghost use Rattle.dom_terms.specs.Values.{value_seen};
 ghost use Rattle.dom_terms.specs.Stores.{store_of};
 ghost use Rattle.grove_data.specs.Trees.{tree_of, forest_of};
+ghost use Rattle.theory_syntax.specs.Commands.{command_of};
 ghost use Rattle.theory_syntax.specs.Theories.{theory_of};
 ghost use Rattle.dom_meaning.specs.Configs.{config_of, piece_of, pieces_in, pick_of};
 ghost use Rattle.dom_meaning.specs.Faults.{TellsLimit};
@@ -27,11 +29,11 @@ ghost use Rattle.theory_syntax.specs.declared.commands.Command.TheVariants.{Bloc
 use crate::configurations::{Config, Pending, Pieces};
 use crate::faults::{FaultKind, StepFault};
 use crate::plans::{Change, Plan, planned};
-use theory_syntax::{Block, Command, Theory};
 use dom_terms::{OutOfMemory, ProgVar, Value};
 use grove_data::Tree;
 use std::alloc::Global;
 use std::mem::replace;
+use theory_syntax::{Block, Command, Theory};
 
 /// What a step came to.
 #[derive(Clone, Copy, Debug, PartialEq, Eq)]
@@ -68,7 +70,15 @@ pub fn step(
     let Some((piece, others)) = config.pending.as_slice().split_last() else {
         return Ok(StepOut::Done);
     };
-    match planned(alloc, theory, piece, others, &config.store, &config.grove, pick)? {
+    match planned(
+        alloc,
+        theory,
+        piece,
+        others,
+        &config.store,
+        &config.grove,
+        pick,
+    )? {
         Plan::Becomes(change) => {
             advance(config, change)?;
             Ok(StepOut::Next)
@@ -165,17 +175,32 @@ fn block_of(piece: Pending) -> Option<Block>
         (λ block. piece ≡ Run (BlockOf block)) }
 {
     match piece {
-        Pending::Run(Command::Block(block)) => Some(block),
-        _ => None,
+        Pending::Run(command) => block_in(command),
+        Pending::Restore(_, _) | Pending::Return(_, _, _) => None,
+    }
+}
+
+// The block that a command is.
+fn block_in(command: Command) -> Option<Block>
+    ensures { MatchOption result (in_block (run (command_of command)) ≡ [])
+        (λ block. command ≡ BlockOf block) }
+{
+    match command {
+        Command::Block(block) => Some(block),
+        other => {
+            drop(other);
+            None
+        }
     }
 }
 
 // Puts a piece in the place of the last one, and gives that one.
 fn replace_last(pending: &mut Pieces, piece: Pending) -> Pending
     requires { 0 < length pending.old }
-    ensures { (last : Pending) (others : plain.List Pending)
+    ensures replaced { (last : Pending) (others : plain.List Pending)
         → pending.old ≡ others ++ last ∷ []
         → (result ≡ last) × (pending.new ≡ others ++ piece ∷ []) }
+    ensures length { length pending.new ≡ length pending.old }
 {
     let Some(last) = pending.last_mut() else {
         unreachable!();

@@ -17,10 +17,22 @@ use Rattle.dom_meaning.proofs.plans.command_planned.Goals as goal
 pub returns-in-Create-clause-limit : goal.returns-in-Create-clause-limit
 returns-in-Create-clause-limit c =
     let is : command_of c.args.command.now
-    ≡ create_node (prog_var_of c.in-Create.variable) (term_of c.in-Create.name) =
-    ap command_of (c.in-Create.is ∙ sym (rolls-Create c.in-Create.variable c.in-Create.name))
+    ≡ create_node (prog_var_of c.in-Create.x) (term_of c.in-Create.name) =
+    ap command_of (c.in-Create.is ∙ sym (rolls-Create c.in-Create.x c.in-Create.name))
     ∙ fold-roll-Command Command command_step
-    (Command-F.Create c.in-Create.variable c.in-Create.name) in
+    (Command-F.Create c.in-Create.x c.in-Create.name) in
     subst (λ (z : Command). TellsLimit c.created.result (step_limit standard_limits (run z)
     (pieces_in c.args.others.now) (store_of c.args.store.now) (forest_of c.args.grove.now)))
     (sym is) (c.created.ensures.limit (pieces_in c.args.others.now))
+
+pub returns-in-Call-clause-limit : goal.returns-in-Call-clause-limit
+returns-in-Call-clause-limit c =
+    let is : command_of c.args.command.now ≡ call (map prog_var_of c.in-Call.results)
+    c.in-Call.name (map term_of c.in-Call.arguments) =
+    ap command_of (c.in-Call.is
+    ∙ sym (rolls-Call c.in-Call.results c.in-Call.name c.in-Call.arguments))
+    ∙ fold-roll-Command Command command_step
+    (Command-F.Call c.in-Call.results c.in-Call.name c.in-Call.arguments) in
+    subst (λ (z : Command). TellsLimit c.called.result (step_limit standard_limits (run z)
+    (pieces_in c.args.others.now) (store_of c.args.store.now) (forest_of c.args.grove.now)))
+    (sym is) (c.called.ensures.limit (forest_of c.args.grove.now))

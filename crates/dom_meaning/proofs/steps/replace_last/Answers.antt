@@ -2,8 +2,8 @@ use Rattle.std.proofs.Common.{◌-◌, ◌∙◌, length, set, ap}
 use Rattle.dom_meaning.proofs.PieceLaws.{last_is, set_last}
 use Rattle.dom_meaning.proofs.steps.replace_last.Goals as goal
 
-pub returns : goal.returns
-returns c = λ last others e.
+pub returns-clause-replaced : goal.returns-clause-replaced
+returns-clause-replaced c = λ last others e.
     let pending = c.args.pending.now in (
       c.replace.ensures.value
           ∙ last_is pending others last c.in-Some.last.now e c.in-Some.ensures.item.1,
