@@ -5,7 +5,7 @@ use Rattle.model_commands.specs.Theories.{Theory}
 use Rattle.model_files.specs.FileFaults.{IsWellFormedTheory}
 use Rattle.model_files.specs.FileLimits.{variables_within, step_count}
 use Rattle.model_text.specs.Nesting.{nests_within, texts_within, lexemes_of}
-use Rattle.model_grammar.specs.Grammar.{SpellsTheory}
+use Rattle.model_grammar.specs.Theories.{SpellsTheory}
 use Rattle.model_grammar.specs.FirstForm.{is_first_form}
 
 -- What is asked of the theory beside the grammar: that it is well formed, uses no other parts than

@@ -1,10 +1,8 @@
-pub mod Expressions
-pub mod Grammar
-pub mod FirstForm
-pub mod Files
 pub mod Words
 pub mod Terms
 pub mod Formulas
 pub mod Commands
 pub mod Sorts
 pub mod Theories
+pub mod FirstForm
+pub mod Files
