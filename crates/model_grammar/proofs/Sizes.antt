@@ -52,13 +52,22 @@ pub formula_parts : {p : Named} {s : List Lexeme} → SpellsFormula p s → part
 formula_parts (a_word l) = word_parts l
 formula_parts (shape_variable (a_logic_name name)) = omega arith
 formula_parts (comparison {a = a} {b = b} {left = left} {sign = sign} {right = right} la l lb) =
-    omega (arith, (compared l a b).0, (compared l a b).1, length-append left (sign ++ right),
-    length-append sign right)
+    omega (
+      arith,
+      (compared l a b).0,
+      (compared l a b).1,
+      length-append left (sign ++ right),
+      length-append sign right,
+    )
 formula_parts (node {name = name} {number = number} {children = inner} {list = list} la lb lp lc) =
-    omega (arith, formula_parts lp,
-    length-append name (the "#" ++ (number ++ (the "[" ++ (inner ++ (the "]" ++ (the "%" ++ list)))))),
-    length-append number (the "[" ++ (inner ++ (the "]" ++ (the "%" ++ list)))),
-    length-append inner (the "]" ++ (the "%" ++ list)))
+    omega (
+      arith,
+      formula_parts lp,
+      length-append name
+          (the "#" ++ (number ++ (the "[" ++ (inner ++ (the "]" ++ (the "%" ++ list)))))),
+      length-append number (the "[" ++ (inner ++ (the "]" ++ (the "%" ++ list)))),
+      length-append inner (the "]" ++ (the "%" ++ list)),
+    )
 formula_parts (long la) = omega arith
 formula_parts (a_tree {inner = inner} l) =
     omega (arith, formula_parts l, length-append inner (the ">"))
@@ -67,15 +76,28 @@ formula_parts (a_root {inner = inner} l) =
 formula_parts (not {inner = inner} l) =
     omega (arith, formula_parts l, length-append inner (the ")"))
 formula_parts (quantified {p = p} {kind = kind} {inner = inner} lk (a_logic_name name) l) =
-    omega (arith, formula_parts l, (closed lk (used_logic name) p).0,
-    (closed lk (used_logic name) p).1, length-append kind
-    (logic_lexeme name ∷ (the "." ++ (inner ++ the ")"))), length-append inner (the ")"))
+    omega (
+      arith,
+      formula_parts l,
+      (closed lk (used_logic name) p).0,
+      (closed lk (used_logic name) p).1,
+      length-append kind
+          (logic_lexeme name ∷ (the "." ++ (inner ++ the ")"))),
+      length-append inner (the ")"),
+    )
 formula_parts (is {inner = inner} (a_logic_name name) l) =
     omega (arith, formula_parts l, length-append inner (the ")"))
 formula_parts (joined {p = p} {q = q} {left = left} {sign = sign} {right = right} lp l lq) =
-    omega (arith, formula_parts lp, formula_parts lq, (connected l p q).0, (connected l p q).1,
-    length-append left (sign ++ (right ++ the ")")), length-append sign (right ++ the ")"),
-    length-append right (the ")"))
+    omega (
+      arith,
+      formula_parts lp,
+      formula_parts lq,
+      (connected l p q).0,
+      (connected l p q).1,
+      length-append left (sign ++ (right ++ the ")")),
+      length-append sign (right ++ the ")"),
+      length-append right (the ")"),
+    )
 
 -- its variables' sorts are no parts of it
 pub parts_sorted : (declared : Declared) (p : Named) → parts (sorted_formula declared p) ≡ parts p
