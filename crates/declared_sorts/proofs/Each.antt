@@ -25,7 +25,7 @@ all_changed view change (x ∷ new) [] l h = absurd (omega (arith, l))
 all_changed view change [] (y ∷ old) l h = absurd (omega (arith, l))
 all_changed view change (x ∷ new) (y ∷ old) l h =
     two _ _ _ _ (h 0 x (omega arith)) (all_changed view change new old (omega arith) λ k d lt. h
-        (suc k) d (omega arith))
+    (suc k) d (omega arith))
 
 -- a block is changed command by command
 pub block_changed : (declared : Declared) (cs : List Command)

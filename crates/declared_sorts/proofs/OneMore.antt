@@ -22,7 +22,7 @@ pub one_more : {X : Type 0} (view : X → Command) (block : List X) (i : ℕ) (d
     (view (get_or block i d))
 one_more view block i d h =
     ap (λ z. flat_map locals (commands_of (block_with (map view z))))
-        (rw add-one (take-suc block i d h))
+    (rw add-one (take-suc block i d h))
     ∙ ap (λ z. flat_map locals (commands_of (block_with z)))
     (map-append view (take i block) (get_or block i d ∷ []))
     ∙ ap (flat_map locals) (block_more (map view (take i block)) (view (get_or block i d)))
@@ -39,7 +39,7 @@ pub added : {X : Type 0} (view : X → Command) (block : List X) (i : ℕ) (item
 added view block i item init before after h is e f =
     let X = flat_map locals (commands_of (block_with (map view (take i block)))) in
     let same : flat_map locals (commands_of (block_with (map view (take (i + 1) block))))
-        ≡ X ++ locals_of (view item) =
+    ≡ X ++ locals_of (view item) =
     one_more view block i item h ∙ ap (λ z. X ++ locals_of (view z)) (sym is) in
     f ∙ ap (λ z. z ++ locals_of (view item)) e ∙ append_assoc init X (locals_of (view item))
-        ∙ ap (λ z. init ++ z) (sym same)
+    ∙ ap (λ z. init ++ z) (sym same)

@@ -1,59 +1,75 @@
 // Judgements and steps of proofs.
-ghost use Rattle.std.specs.Prelude.{◌≡◌, map};
+ghost use Rattle.std.specs.Prelude.{◌≡◌};
 ghost use Rattle.model_grammar.specs.Sorts.{sorted_reason, sorted_judgement, sorted_step};
 ghost use Rattle.theory_syntax.specs.Judgements.{reason_of, judgement_of, step_of};
-ghost use Rattle.declared_sorts.specs.Declared.{declared_of};
+ghost use Rattle.declared_sorts.specs.Declarations.{declared_of};
 
-use crate::commands::set_command;
-use crate::formulas::set_formula;
-use crate::lists::set_terms;
+use crate::declared::Declared;
+use crate::sorted::{Sorted, set_all};
 use theory_syntax::{Judgement, Reason, Step};
-use dom_terms::{LogicVar, ProgVar};
 
-// Gives each variable of a judgement its sort.
-fn set_judgement(variables: &[ProgVar], logics: &[LogicVar], judgement: &mut Judgement)
-    ensures { judgement_of judgement.new
-        ≡ sorted_judgement (declared_of variables.now logics.now) (judgement_of judgement.old) }
-{
-    match judgement {
-        Judgement::Entails(entailment) => {
-            set_formula(variables, logics, &mut entailment.left);
-            set_formula(variables, logics, &mut entailment.right);
-        }
-        Judgement::Triple(triple) => {
-            set_formula(variables, logics, &mut triple.pre);
-            set_command(variables, logics, &mut triple.command);
-            set_formula(variables, logics, &mut triple.post);
+impl Sorted for Judgement {
+    ghost use Rattle.model_formulas.specs.Formulas.{Named};
+    ghost use Rattle.model_commands.specs.Theories as model;
+
+    ghost Seen = { model.JudgementOf Named };
+
+    ghost seen = { judgement_of };
+
+    ghost sorted = { sorted_judgement };
+
+    fn set_sorts(&mut self, declared: &Declared)
+        ensures { judgement_of self.new
+            ≡ sorted_judgement (declared_of declared.now) (judgement_of self.old) }
+    {
+        match self {
+            Judgement::Entails(entailment) => {
+                entailment.left.set_sorts(declared);
+                entailment.right.set_sorts(declared);
+            }
+            Judgement::Triple(triple) => {
+                triple.pre.set_sorts(declared);
+                triple.command.set_sorts(declared);
+                triple.post.set_sorts(declared);
+            }
         }
     }
 }
 
-// Gives each variable of the arguments of a reason its sort.
-fn set_reason(variables: &[ProgVar], logics: &[LogicVar], reason: &mut Reason)
-    ensures { reason_of reason.new ≡ sorted_reason (declared_of variables.now logics.now)
-        (reason_of reason.old) }
-{
-    match reason {
-        Reason::Auto => {}
-        Reason::Rule { arguments, .. } => set_terms(variables, logics, arguments.as_mut_slice()),
+impl Sorted for Reason {
+    ghost use Rattle.model_commands.specs.Theories as model;
+
+    ghost Seen = { model.Reason };
+
+    ghost seen = { reason_of };
+
+    ghost sorted = { sorted_reason };
+
+    fn set_sorts(&mut self, declared: &Declared)
+        ensures { reason_of self.new
+            ≡ sorted_reason (declared_of declared.now) (reason_of self.old) }
+    {
+        match self {
+            Reason::Auto => {}
+            Reason::Rule { arguments, .. } => set_all(arguments.as_mut_slice(), declared),
+        }
     }
 }
 
-// Gives each variable of a step its sort.
-fn set_step(variables: &[ProgVar], logics: &[LogicVar], step: &mut Step)
-    ensures { step_of step.new ≡ sorted_step (declared_of variables.now logics.now)
-        (step_of step.old) }
-{
-    set_reason(variables, logics, &mut step.reason);
-    set_judgement(variables, logics, &mut step.judgement);
-}
+impl Sorted for Step {
+    ghost use Rattle.model_formulas.specs.Formulas.{Named};
+    ghost use Rattle.model_commands.specs.Theories as model;
 
-/// Gives each variable of the steps its sort.
-pub fn set_steps(variables: &[ProgVar], logics: &[LogicVar], steps: &mut [Step])
-    ensures { map step_of steps.new ≡ map (sorted_step (declared_of variables.now logics.now))
-        (map step_of steps.old) }
-{
-    for i in 0..steps.len() {
-        set_step(variables, logics, &mut steps[i]);
+    ghost Seen = { model.StepOf Named };
+
+    ghost seen = { step_of };
+
+    ghost sorted = { sorted_step };
+
+    fn set_sorts(&mut self, declared: &Declared)
+        ensures { step_of self.new ≡ sorted_step (declared_of declared.now) (step_of self.old) }
+    {
+        self.reason.set_sorts(declared);
+        self.judgement.set_sorts(declared);
     }
 }

@@ -1,36 +1,87 @@
-// Terms.
+// Terms and conditions.
 ghost use Rattle.std.specs.Prelude.{◌≡◌};
-ghost use Rattle.model_grammar.specs.Sorts.{sorted_term};
+ghost use Rattle.model_grammar.specs.Sorts.{sorted_term, sorted_cond};
 ghost use Rattle.dom_terms.specs.Terms.{term_of};
-ghost use Rattle.declared_sorts.specs.Declared.{declared_of};
+ghost use Rattle.dom_terms.specs.Conditions.{cond_of};
+ghost use Rattle.declared_sorts.specs.Declarations.{declared_of};
 
-use crate::variables::{set_logic, set_variable};
-use dom_terms::{LogicVar, ProgVar, Term};
+use crate::declared::Declared;
+use crate::sorted::Sorted;
+use dom_terms::{Cond, Term};
 
-/// Gives each variable of a term its sort.
-pub fn set_term(variables: &[ProgVar], logics: &[LogicVar], term: &mut Term)
-    ensures { term_of term.new ≡ sorted_term (declared_of variables.now logics.now)
-        (term_of term.old) }
+impl Sorted for Term {
+    ghost use Rattle.model_terms.specs.Terms as model;
+
+    ghost Seen = { model.Term };
+
+    ghost seen = { term_of };
+
+    ghost sorted = { sorted_term };
+
+    fn set_sorts(&mut self, declared: &Declared)
+        ensures { term_of self.new ≡ sorted_term (declared_of declared.now) (term_of self.old) }
+    {
+        match self {
+            Term::NullNode => {}
+            Term::NullList => {}
+            Term::Int(_) => {}
+            Term::Str(_) => {}
+            Term::Bool(_) => {}
+            Term::Prog(variable) => variable.set_sorts(declared),
+            Term::Logic(variable) => variable.set_sorts(declared),
+            Term::Add(left, right) => {
+                left.set_sorts(declared);
+                right.set_sorts(declared);
+            }
+            Term::Sub(left, right) => {
+                left.set_sorts(declared);
+                right.set_sorts(declared);
+            }
+            Term::Cat(left, right) => {
+                left.set_sorts(declared);
+                right.set_sorts(declared);
+            }
+        }
+    }
+}
+
+/// Gives each variable of two terms the sort of its declaration.
+pub fn set_terms(left: &mut Term, right: &mut Term, declared: &Declared)
+    ensures left { term_of left.new ≡ sorted_term (declared_of declared.now) (term_of left.old) }
+    ensures right { term_of right.new
+        ≡ sorted_term (declared_of declared.now) (term_of right.old) }
 {
-    match term {
-        Term::NullNode => {}
-        Term::NullList => {}
-        Term::Int(_) => {}
-        Term::Str(_) => {}
-        Term::Bool(_) => {}
-        Term::Prog(variable) => set_variable(variables, logics, variable),
-        Term::Logic(variable) => set_logic(variables, logics, variable),
-        Term::Add(left, right) => {
-            set_term(variables, logics, left);
-            set_term(variables, logics, right);
-        }
-        Term::Sub(left, right) => {
-            set_term(variables, logics, left);
-            set_term(variables, logics, right);
-        }
-        Term::Cat(left, right) => {
-            set_term(variables, logics, left);
-            set_term(variables, logics, right);
+    left.set_sorts(declared);
+    right.set_sorts(declared);
+}
+
+impl Sorted for Cond {
+    ghost use Rattle.model_terms.specs.Conditions as model;
+
+    ghost Seen = { model.Cond };
+
+    ghost seen = { cond_of };
+
+    ghost sorted = { sorted_cond };
+
+    fn set_sorts(&mut self, declared: &Declared)
+        ensures { cond_of self.new ≡ sorted_cond (declared_of declared.now) (cond_of self.old) }
+    {
+        match self {
+            Cond::True => {}
+            Cond::False => {}
+            Cond::Holds(variable) => variable.set_sorts(declared),
+            Cond::Eq(left, right) => set_terms(left, right, declared),
+            Cond::Le(left, right) => set_terms(left, right, declared),
+            Cond::Not(inner) => inner.set_sorts(declared),
+            Cond::And(left, right) => {
+                left.set_sorts(declared);
+                right.set_sorts(declared);
+            }
+            Cond::Or(left, right) => {
+                left.set_sorts(declared);
+                right.set_sorts(declared);
+            }
         }
     }
 }

@@ -171,9 +171,9 @@ fn whole_grove(alloc: Global, tokens: &[Token]) -> Result<RawGrove, ReadFault>
     }
 }
 
-/// The grove that the tokens spell, all of them. `BadText` comes exactly where they spell none, with
-/// the fault token where they are those of a text, and `OutOfMemory` also where trees nest more than
-/// `MOST_DEPTH` deep.
+/// The grove that the tokens spell, all of them. `BadText` comes exactly where they spell none,
+/// with the fault token where they are those of a text, and `OutOfMemory` also where trees nest
+/// more than `MOST_DEPTH` deep.
 pub fn read_grove(alloc: Global, tokens: &Tokens) -> Result<RawGrove, TextFault>
     ensures found { IfOk result (λ g. SpellsGrove (raw_forest_of g) (lexemes_in tokens.now)) }
     ensures bad_text { IfBadText result (λ token.

@@ -1,6 +1,6 @@
--- The readers of conditions and commands on lists of lexemes, each with one lexeme of look-ahead.
--- Nothing here is to be believed: the proofs tie them to the grammar. Depth bounds the nesting and
--- `most` the length of blocks and lists.
+-- Needn't be believed: the readers of conditions and commands on lists of lexemes, each with one
+-- lexeme of look-ahead. The proofs tie them to the grammar. Depth bounds the nesting and `most` the
+-- length of blocks and lists.
 use Rattle.std.specs.Prelude.{ℕ, zero, suc, Bool, true, not, ◌||◌, List, [], ◌∷◌, Err, codes}
 use Rattle.model_terms.specs.Variables.{prog}
 use Rattle.model_terms.specs.Terms.{Term, variable}
@@ -96,7 +96,7 @@ local_at body =
 unfoldable pub call_at : ℕ → Read Term → Read Command
 call_at most term =
     then (bracketed_at (leaf leaf_variable) most) λ xs. expect (codes ":=")
-        (then (leaf leaf_name) λ name.
+    (then (leaf leaf_name) λ name.
     then (bracketed_at term most) λ es. ret (call xs name es))
 
 -- a command that begins with a name or a word for a change of the document

@@ -1,7 +1,6 @@
--- The reader of formulas on lists of lexemes, with one lexeme of look-ahead: a term at the head is
--- read first and the next lexeme decides; behind a bracket a formula is read first, and `is` stands
--- only behind a lone logic variable. Nothing here is to be believed: the proofs tie it to the
--- grammar.
+-- Needn't be believed: the reader of formulas on lists of lexemes, with one lexeme of look-ahead. A
+-- term at the head is read first and the next lexeme decides; behind a bracket a formula is read
+-- first, and `is` stands only behind a lone logic variable. The proofs tie it to the grammar.
 use Rattle.std.specs.Prelude.{ℕ, zero, suc, Bool, true, not, ◌||◌, cond, List, [], ◌∷◌, Option, Some, None, Err, codes}
 use Rattle.model_shapes.specs.Sorts.{tree, forest, grove}
 use Rattle.model_terms.specs.Variables.{Var, logic}

@@ -1,5 +1,5 @@
--- The readers of names, sorts and lists in brackets. Nothing here is to be believed: the proofs tie
--- them to the grammar. `most` bounds the length of lists.
+-- Needn't be believed: the readers of names, sorts and lists in brackets. The proofs tie them to
+-- the grammar. `most` bounds the length of lists.
 use Rattle.std.specs.Prelude.{ℕ, cond, List, [], Option, Some, None, bytes_eq, codes}
 use Rattle.model_shapes.specs.Sorts.{ValueSort, node_sort, list_sort, int_sort, str_sort, bool_sort, DataSort, tree, forest, grove}
 use Rattle.model_terms.specs.Stores.{ProgVar}
@@ -30,7 +30,7 @@ leaf_value_sort lexeme = None
 abbrev pub data_sort_called : List ℕ → Option DataSort
 data_sort_called word =
     called (codes "t") word tree (called (codes "f") word forest
-        (called (codes "g") word grove None))
+    (called (codes "g") word grove None))
 
 abbrev pub leaf_data_sort : Lexeme → Option DataSort
 leaf_data_sort (name_lexeme word) = data_sort_called word

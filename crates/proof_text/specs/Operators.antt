@@ -1,4 +1,4 @@
--- The operators and connectives that those of the program stand for.
+-- Needn't be believed: the operators and connectives that those of the program stand for.
 use Rattle.model_terms.specs.Variables.{Var}
 use Rattle.model_terms.specs.Terms.{Term, sum, difference, appended}
 use Rattle.model_formulas.specs.Formulas.{Named, conjunction, disjunction, implication, existential, universal, concatenation, grove_sum, grove_sum_hole, application, hole_adjoint, context_adjoint}

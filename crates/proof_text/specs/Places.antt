@@ -1,4 +1,4 @@
--- The places of terms that those of the program stand for.
+-- Needn't be believed: the places of terms that those of the program stand for.
 use Rattle.model_grammar.specs.Terms as model
 use Rattle.proof_text.specs.declared.terms.Place.{Place}
 use Rattle.proof_text.specs.declared.terms.Place.TheVariants as p

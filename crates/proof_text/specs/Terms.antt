@@ -1,5 +1,5 @@
--- The reader of terms on lists of lexemes, with one lexeme of look-ahead. Nothing here is to be
--- believed: the proofs tie it to the grammar, which says what it reads. Depth bounds the nesting.
+-- Needn't be believed: the reader of terms on lists of lexemes, with one lexeme of look-ahead. The
+-- proofs tie it to the grammar, which says what it reads. Depth bounds the nesting.
 use Rattle.model_limits.specs.Limits.{standard_limits}
 use Rattle.std.specs.Prelude.{ℕ, zero, suc, nat_le, true, false, cond, List, Option, Some, None, Err, codes, pos, negsuc}
 use Rattle.model_shapes.specs.Sorts.{node_sort}

@@ -1,6 +1,5 @@
--- The readers of theories on lists of lexemes, each with one lexeme of look-ahead. Nothing here is
--- to
--- be believed: the proofs tie them to the grammar, which says what they read. Depth bounds the
+-- Needn't be believed: the readers of theories on lists of lexemes, each with one lexeme of
+-- look-ahead. The proofs tie them to the grammar, which says what they read. Depth bounds the
 -- nesting and `most` the length of lists.
 use Rattle.std.specs.Prelude.{ℕ, List, [], ◌∷◌, ◌++◌, Option, None, map, codes}
 use Rattle.model_shapes.specs.Sorts.{node_sort, list_sort, int_sort, str_sort, bool_sort, DataSort, tree, forest, grove, Sort, value, shape, context}
@@ -52,7 +51,7 @@ declaration_at =
 unfoldable pub arguments_at : ℕ → ℕ → Read (List Term)
 arguments_at depth most =
     when (codes "with") (expect (codes "(") (then (sep_list comma (term_at in_formula depth) most) λ
-        es.
+    es.
     expect (codes ")") (ret es)))
     (ret [])
 

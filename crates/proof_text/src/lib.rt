@@ -1,7 +1,7 @@
 //! Theories from tokens. Promises that a list of tokens is read as the theory that it spells by the
 //! grammar, each variable with the sort of its declaration, and refused exactly where it spells
 //! none, at the fault token.
-//! Stands on the readers of tokens, the types of theories, the walk that sets sorts and the grammar.
+//! Stands on the readers of tokens, the types of theories, the grammar and what sets sorts.
 #![tactic(auto)]
 
 mod bracketed;

@@ -22,13 +22,13 @@ pub s_list : {A : Type 0} (sep : List ℕ) {item : Read A} {L : A → List Lexem
 unfolding sep_list
 s_list sep {item} {L} zero n h S =
     s_less n 0 (omega arith) (s_deep (sep_list sep item zero) (SpellsList sep L) (λ ts. refl)
-        (S.some.0 ∷ []) S.some.1 (last S.some.2) S.some.3)
+    (S.some.0 ∷ []) S.some.1 (last S.some.2) S.some.3)
 s_list sep {item} {L} (suc m) n h S =
     s_then (SpellsList sep L) S λ a s la.
     s_step (pred n) n (omega arith) sep
     (s_then _ (s_list sep m (pred n) (omega arith) (s_less (pred n) n (omega arith) S)) λ xs t las.
     s_ret (pred n) (a ∷ xs) _ (more la (subst (λ (z : List Lexeme). SpellsList sep L xs z)
-        (sym (append-nil t)) las)))
+    (sym (append-nil t)) las)))
     (s_ret n (a ∷ []) _ (subst (λ (z : List Lexeme). SpellsList sep L (a ∷ []) z)
     (sym (append-nil s)) (last la)))
 
@@ -72,14 +72,16 @@ module _ {A : Type 0} (sep : List ℕ) (item : Read A) (L : A → List Lexeme �
   list_reads (suc m) xs s rest (more {a = a} {xs = bs} {t = t} la las) st nx =
       let h : OrDeep (sep_list sep item m (t ++ rest)) bs rest = list_reads m bs t rest las st nx in
       o_then _ _ rest O la (at_sep (t ++ rest)) (or_first sep _ (ret (a ∷ [])) (t ++ rest)
-          (or_map (sep_list sep item m (t ++ rest)) a bs rest h))
+      (or_map (sep_list sep item m (t ++ rest)) a bs rest h))
 
 -- items that need no look ahead
 pub list_only : {A : Type 0} (sep : List ℕ) (item : Read A) (L : A → List Lexeme → Type 0)
     → Only item L Prefix_free → (m : ℕ) → Only (sep_list sep item m) (SpellsList sep L)
     (not_next sep)
-list_only sep item L O m = record { only = λ xs s rest l st. list_reads sep item L Prefix_free O
-    (λ ts. refl) m xs s rest l refl st }
+list_only sep item L O m = record {
+  only = λ xs s rest l st. list_reads sep item L Prefix_free O
+      (λ ts. refl) m xs s rest l refl st;
+}
 
 -- ---- items as long as one begins
 
@@ -101,9 +103,9 @@ s_many f item L (suc m) n h S =
     s_begins (pred n) n (omega arith) f _ (ret []) (SpellsMany f L)
     (λ t x e. s_then _ (s_less (pred n) n (omega arith) (S t x e)) λ a s la.
     s_then _ (s_many f item L m (pred n) (omega arith) (λ t x e. s_less (pred n) n (omega arith)
-        (S t x e))) λ xs u las.
+    (S t x e))) λ xs u las.
     s_ret (pred n) (a ∷ xs) _ (one_more t x e la (subst (λ (z : List Lexeme). SpellsMany f L xs z)
-        (sym (append-nil u)) las)))
+    (sym (append-nil u)) las)))
     (s_ret n [] _ none_left)
 
 -- nothing that begins an item comes next
@@ -162,7 +164,7 @@ unfolding sep_list
 goes_on sep item front most i ts a behind next total lt h n so_far =
     let k : most - i ≡ suc (most - (i + 1)) = omega arith in
     let one : with_front front (sep_list sep item (most - i) ts)
-        ≡ with_front (front ++ a ∷ []) (sep_list sep item (most - (i + 1)) next) =
+    ≡ with_front (front ++ a ∷ []) (sep_list sep item (most - (i + 1)) next) =
     rw (k, h, n) (regroup front a (sep_list sep item (most - (i + 1)) next)) in
     sym one ∙ so_far
 
@@ -186,7 +188,7 @@ unfolding sep_list
 is_done sep item front most i ts a behind total lt h n so_far =
     let k : most - i ≡ suc (most - (i + 1)) = omega arith in
     let one : with_front front (sep_list sep item (most - i) ts)
-        ≡ Ok (front ++ a ∷ [], behind) = rw (k, h, n) refl in
+    ≡ Ok (front ++ a ∷ [], behind) = rw (k, h, n) refl in
     sym so_far ∙ one
 
 pub nothing_yet : {A : Type 0} (r : Answer (List A)) → with_front [] r ≡ r
@@ -204,7 +206,7 @@ module _ {X A : Type 0} (f : Lexeme → Option X) (item : X → Read A) where
   many_goes_on front most i ts x behind a next total lt b h so_far =
       let k : most - i ≡ suc (most - (i + 1)) = omega arith in
       let one : with_front front (many f item (most - i) ts)
-          ≡ with_front (front ++ a ∷ []) (many f item (most - (i + 1)) next) =
+      ≡ with_front (front ++ a ∷ []) (many f item (most - (i + 1)) next) =
       rw (k, b, h) (regroup front a (many f item (most - (i + 1)) next)) in
       sym one ∙ so_far
 
@@ -226,5 +228,5 @@ module _ {X A : Type 0} (f : Lexeme → Option X) (item : X → Read A) where
   many_done front most i ts total lt b so_far =
       let k : most - i ≡ suc (most - (i + 1)) = omega arith in
       let one : with_front front (many f item (most - i) ts)
-          ≡ Ok (front, ts) = rw (k, b) (ap (λ (z : List A). done (z, ts)) (append-nil front)) in
+      ≡ Ok (front, ts) = rw (k, b) (ap (λ (z : List A). done (z, ts)) (append-nil front)) in
       sym so_far ∙ one

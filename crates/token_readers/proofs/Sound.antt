@@ -42,10 +42,18 @@ ok_parts {A} a b s t e =
 -- two ways to cut one list, with rests of one length
 pub split_rest : (a b p r : List Lexeme) → p ++ r ≡ a ++ b → length r ≡ length b → (p ≡ a) × (r ≡ b)
 split_rest [] b [] r e l = (refl, e)
-split_rest (x ∷ a) b [] r e l = absurd (omega (arith, ap
-    (length {A = Lexeme}) e, length-append a b))
-split_rest [] b (y ∷ p) r e l = absurd (omega (arith, ap
-    (length {A = Lexeme}) e, length-append p r))
+split_rest (x ∷ a) b [] r e l = absurd (omega (
+  arith,
+  ap
+      (length {A = Lexeme}) e,
+  length-append a b,
+))
+split_rest [] b (y ∷ p) r e l = absurd (omega (
+  arith,
+  ap
+      (length {A = Lexeme}) e,
+  length-append p r,
+))
 split_rest (x ∷ a) b (y ∷ p) r e l =
     let h : y ≡ x = cc in
     let t : p ++ r ≡ a ++ b = cc in
@@ -108,10 +116,10 @@ then_moved {A} r k p q1 q2 t rest x e cut e1 s far y e2 =
     let a2 : p ++ (t ∷ s) ≡ q1 ++ (q2 ++ (t ∷ s)) = rw cut (append_assoc q1 q2 (t ∷ s)) in
     let ex : done x ≡ done (x.0, q2 ++ (t ∷ rest)) = ap (λ (z : List Lexeme). done (x.0, z)) e1 in
     let h : r (q1 ++ (q2 ++ (t ∷ rest))) ≡ Ok (x.0, q2 ++ (t ∷ rest)) = subst
-        (λ (z : List Lexeme). r z ≡ Ok (x.0, q2 ++ (t ∷ rest))) a1 (e ∙ ex) in
+    (λ (z : List Lexeme). r z ≡ Ok (x.0, q2 ++ (t ∷ rest))) a1 (e ∙ ex) in
     let g = far q1 q2 t rest x.0 h s in
     let g1 : r (p ++ (t ∷ s)) ≡ Ok (x.0, q2 ++ (t ∷ s)) = subst
-        (λ (z : List Lexeme). r z ≡ Ok (x.0, q2 ++ (t ∷ s))) (sym a2) g in
+    (λ (z : List Lexeme). r z ≡ Ok (x.0, q2 ++ (t ∷ s))) (sym a2) g in
     bind_then (r (p ++ (t ∷ s))) (λ (z : A × List Lexeme). k z.0 z.1) (x.0, q2 ++ (t ∷ s)) g1 ∙ e2
 
 -- ---- a value
@@ -164,16 +172,27 @@ s_then {A} {B} {n} {r} {k} {L1} L S1 S2 = record {
   found = λ ts b rest e.
       let x = bind_ok (r ts) (λ (x : A × List Lexeme). k x.0 x.1) (b, rest) e in
       let f = S1.found ts x.0.0 x.0.1 x.1 in
-      let g = (S2 x.0.0 f.0 f.2).found x.0.1 b rest x.2 in
-      (f.0 ++ g.0, f.1 ∙ ap (λ (z : List Lexeme). f.0 ++ z) g.1
-      ∙ sym (append_assoc f.0 g.0 rest), g.2);
+      let g = (S2 x.0.0 f.0 f.2).found x.0.1 b rest x.2 in (
+        f.0 ++ g.0,
+        f.1 ∙ ap (λ (z : List Lexeme). f.0 ++ z) g.1
+            ∙ sym (append_assoc f.0 g.0 rest),
+        g.2,
+      );
   viable = λ ts j e.
       elim (bind_err (r ts) (λ (x : A × List Lexeme). k x.0 x.1) (At j) e) [
         | inl h ↦
             let v = S1.viable ts j h in
-            let y = (S2 v.4 (v.0 ++ v.5) v.6).some in
-            (v.0, v.1, v.2, v.3, y.0, v.5 ++ y.1, subst (λ (z : List Lexeme). L y.0 z)
-            (append_assoc v.0 v.5 y.1) y.2, seen_both v.5 y.1 v.7 y.3)
+            let y = (S2 v.4 (v.0 ++ v.5) v.6).some in (
+              v.0,
+              v.1,
+              v.2,
+              v.3,
+              y.0,
+              v.5 ++ y.1,
+              subst (λ (z : List Lexeme). L y.0 z)
+                  (append_assoc v.0 v.5 y.1) y.2,
+              seen_both v.5 y.1 v.7 y.3,
+            )
         | inr x ↦
             let f = S1.found ts x.0.0 x.0.1 x.1 in
             let v = (S2 x.0.0 f.0 f.2).viable x.0.1 j x.2 in (
@@ -193,14 +212,14 @@ s_then {A} {B} {n} {r} {k} {L1} L S1 S2 = record {
       let S = S2 x.0.0 f.0 f.2 in
       let g = S.found x.0.1 b (t ∷ rest) x.2 in
       let cut = split_rest (f.0 ++ g.0) (t ∷ rest) p (t ∷ rest)
-          (f.1 ∙ ap (λ (z : List Lexeme). f.0 ++ z) g.1 ∙ sym (append_assoc f.0 g.0 (t ∷ rest)))
-          refl in
+      (f.1 ∙ ap (λ (z : List Lexeme). f.0 ++ z) g.1 ∙ sym (append_assoc f.0 g.0 (t ∷ rest)))
+      refl in
       then_moved r k p f.0 g.0 t rest x.0 x.1 cut.0 g.1 s (local_ok_far S1) (Ok (b, t ∷ s))
       (S.local_ok g.0 t rest b (subst (λ (z : List Lexeme). k x.0.0 z ≡ Ok (b, t ∷ rest)) g.1 x.2)
       s);
   local_err = λ p t rest e s.
       elim (bind_err (r (p ++ (t ∷ rest))) (λ (x : A × List Lexeme). k x.0 x.1)
-          (At (suc (length rest))) e) [
+      (At (suc (length rest))) e) [
         | inl h ↦ bind_stop (r (p ++ (t ∷ s))) (λ (x : A × List Lexeme). k x.0 x.1) _
             (S1.local_err p t rest h s)
         | inr x ↦
@@ -208,12 +227,12 @@ s_then {A} {B} {n} {r} {k} {L1} L S1 S2 = record {
             let S = S2 x.0.0 f.0 f.2 in
             let v = S.viable x.0.1 (suc (length rest)) x.2 in
             let cut = split_rest (f.0 ++ v.0) v.1 p (t ∷ rest)
-                (f.1 ∙ ap (λ (z : List Lexeme). f.0 ++ z) v.2 ∙ sym (append_assoc f.0 v.0 v.1)) v.3
-                in
+            (f.1 ∙ ap (λ (z : List Lexeme). f.0 ++ z) v.2 ∙ sym (append_assoc f.0 v.0 v.1)) v.3
+            in
             let g1 : x.0.1 ≡ v.0 ++ (t ∷ rest) = v.2 ∙ ap (λ (z : List Lexeme). v.0 ++ z)
-                (sym cut.1) in
+            (sym cut.1) in
             then_moved r k p f.0 v.0 t rest x.0 x.1 cut.0 g1 s (local_ok_far S1)
-                (Err (At (suc (length s))))
+            (Err (At (suc (length s))))
             (S.local_err v.0 t rest (subst (λ (z : List Lexeme). k x.0.0 z
             ≡ Err (At (suc (length rest)))) g1 x.2) s)
       ];
@@ -275,7 +294,7 @@ module _ {X A : Type 0} (n k : ℕ) (nk : k ≤ suc n) (f : Lexeme → Option X)
       elim (option_cases (f t)) [
         | inr y ↦
             let g = (S1 t y.0 y.1).found rest a (t ∷ rest)
-                (sym (begins_yes f r other t rest y.0 y.1) ∙ e) in
+            (sym (begins_yes f r other t rest y.0 y.1) ∙ e) in
             absurd (omega (arith, length_of rest g.0 (t ∷ rest) g.1))
         | inl q ↦ begins_no f r other t s q ∙ S2.local_ok [] t rest a
             (sym (begins_no f r other t rest q) ∙ e) s
@@ -296,7 +315,7 @@ module _ {X A : Type 0} (n k : ℕ) (nk : k ≤ suc n) (f : Lexeme → Option X)
       elim (option_cases (f t)) [
         | inr y ↦
             let v = (S1 t y.0 y.1).viable rest (suc (length rest))
-                (sym (begins_yes f r other t rest y.0 y.1) ∙ e) in
+            (sym (begins_yes f r other t rest y.0 y.1) ∙ e) in
             absurd (omega (arith, length_of rest v.0 v.1 v.2, v.3))
         | inl q ↦ begins_no f r other t s q ∙ S2.local_err [] t rest
             (sym (begins_no f r other t rest q) ∙ e) s
@@ -404,9 +423,12 @@ module _ {A : Type 0} (n : ℕ) (f : Lexeme → Option A) (L : A → List Lexeme
       elim (option_cases (f t)) [
         | inl q ↦ absurd (let h = sym (leaf_none f t ts q) ∙ e in cc)
         | inr y ↦
-            let d = ok_parts y.0 a ts rest (sym (leaf_some f t ts y.0 y.1) ∙ e) in
-            (t ∷ [], ap (λ (z : List Lexeme). t ∷ z) d.1, subst (λ (z : A). L z (t ∷ [])) d.0
-            (each t y.0 y.1))
+            let d = ok_parts y.0 a ts rest (sym (leaf_some f t ts y.0 y.1) ∙ e) in (
+              t ∷ [],
+              ap (λ (z : List Lexeme). t ∷ z) d.1,
+              subst (λ (z : A). L z (t ∷ [])) d.0
+                  (each t y.0 y.1),
+            )
       ]
 
   leaf_viable : (ts : List Lexeme) (k : ℕ) → leaf f ts ≡ Err (At k)
@@ -437,7 +459,7 @@ module _ {A : Type 0} (n : ℕ) (f : Lexeme → Option A) (L : A → List Lexeme
         | inl q ↦ absurd (let h = sym (leaf_none f u (p ++ (t ∷ rest)) q) ∙ e in cc)
         | inr y ↦
             let d = ok_parts y.0 a (p ++ (t ∷ rest)) (t ∷ rest)
-                (sym (leaf_some f u (p ++ (t ∷ rest)) y.0 y.1) ∙ e) in
+            (sym (leaf_some f u (p ++ (t ∷ rest)) y.0 y.1) ∙ e) in
             let ep : p ≡ [] = (split_rest [] (t ∷ rest) p (t ∷ rest) d.1 refl).0 in
             let ea : y.0 ≡ a = d.0 in
             leaf_some f u (p ++ (t ∷ s)) y.0 y.1 ∙ rw (ea, ep) refl

@@ -57,7 +57,7 @@ no_longer : {A : Type 0} (L : A → List Lexeme → Type 0) (ts p rest : List Le
 no_longer L ts p [] e dead le x = omega (arith, ap (length {A = Lexeme}) e, length-append p [])
 no_longer L ts p (t ∷ s) e dead le x =
     let h : take (suc (length p)) ts ≡ p ++ (t ∷ []) = ap (take (suc (length p))) e
-        ∙ take_next p t s in
+    ∙ take_next p t s in
     let y : Begins L (p ++ (t ∷ [])) = subst (λ (z : List Lexeme). Begins L z) h x in
     dead t s refl y.0 y.1 (subst (λ (z : List Lexeme). L y.0 z) (append_assoc p (t ∷ []) y.1) y.2)
 
@@ -72,7 +72,7 @@ cut_fault L ts p rest each e b dead = record {
   before = λ j lt.
       let h : take j ts ≡ take j p = ap (take j) e ∙ take_front p rest j (omega arith) in
       subst (λ (z : List Lexeme). Begins L z) (sym h) (begins_front L p j
-          (seen_front p rest (subst AreOfTokens e each)) b);
+      (seen_front p rest (subst AreOfTokens e each)) b);
   here = λ le x. no_longer L ts p rest e dead le x;
 }
 
@@ -95,7 +95,7 @@ module _ {A : Type 0} (r : ℕ → Read A) (L : A → List Lexeme → Type 0) (s
       ended_found b [] a e ts s h l =
           let ba : b ≡ a = cc in
           subst (λ (z : A). L z ts) ba (subst (λ (z : List Lexeme). L b z)
-              (sym (h ∙ append-nil s)) l)
+          (sym (h ∙ append-nil s)) l)
       ended_found b (t ∷ rest) a e ts s h l = absurd cc
 
   -- what is spelled is read
@@ -120,15 +120,15 @@ module _ {A : Type 0} (r : ℕ → Read A) (L : A → List Lexeme → Type 0) (s
         | inl h ↦
             let v = (S n).viable ts k h in
             let len : length ts - k ≡ length v.0 = omega
-                (arith, ap (length {A = Lexeme}) v.2, length-append v.0 v.1, v.3) in
+            (arith, ap (length {A = Lexeme}) v.2, length-append v.0 v.1, v.3) in
             subst (λ (z : ℕ). IsFaultToken L ts (suc z)) (sym len)
             (cut_fault L ts v.0 v.1 each v.2 (v.4, v.5, v.6, v.7) λ t s es a u la.
             let h2 : r n (v.0 ++ (t ∷ s)) ≡ Err (At (suc (length s))) =
             subst (λ (z : List Lexeme). r n (v.0 ++ z) ≡ Err (At (length z))) es
-                (subst (λ (z : List Lexeme). r n z ≡ Err (At (length v.1))) v.2
-                (subst (λ (z : ℕ). r n ts ≡ Err (At z)) v.3 h)) in
+            (subst (λ (z : List Lexeme). r n z ≡ Err (At (length v.1))) v.2
+            (subst (λ (z : ℕ). r n ts ≡ Err (At z)) v.3 h)) in
             never_err (r n (v.0 ++ (t ∷ u))) a [] (suc (length u))
-                (whole_reads n a (v.0 ++ (t ∷ u)) la) ((S n).local_err v.0 t s h2 u))
+            (whole_reads n a (v.0 ++ (t ∷ u)) la) ((S n).local_err v.0 t s h2 u))
         | inr x ↦
             let f = (S n).found ts x.0.0 x.0.1 x.1 in
             more_fault n ts k each x.0.0 x.0.1 f.0 x.1 x.2 f.1 f.2
@@ -141,16 +141,26 @@ module _ {A : Type 0} (r : ℕ → Read A) (L : A → List Lexeme → Type 0) (s
       more_fault n ts k each b [] s e h cut l = absurd cc
       more_fault n ts k each b (t ∷ rest) s e h cut l =
           let ke : suc (length rest) ≡ k = cc in
-          let len : length ts - k ≡ length s = omega (arith, ap
-              (length {A = Lexeme}) cut, length-append s (t ∷ rest), ke) in
+          let len : length ts - k ≡ length s = omega (
+            arith,
+            ap
+                (length {A = Lexeme}) cut,
+            length-append s (t ∷ rest),
+            ke,
+          ) in
           subst (λ (z : ℕ). IsFaultToken L ts (suc z)) (sym len)
-          (cut_fault L ts s (t ∷ rest) each cut (b, [], subst (λ (z : List Lexeme). L b z)
-          (sym (append-nil s)) l, tt) λ t2 s2 es a u la.
+          (cut_fault L ts s (t ∷ rest) each cut (
+            b,
+            [],
+            subst (λ (z : List Lexeme). L b z)
+                (sym (append-nil s)) l,
+            tt,
+          ) λ t2 s2 es a u la.
           let h2 : r n (s ++ (t2 ∷ s2)) ≡ Ok (b, t2 ∷ s2) =
           subst (λ (z : List Lexeme). r n (s ++ z) ≡ Ok (b, z)) es
-              (subst (λ (z : List Lexeme). r n z ≡ Ok (b, t ∷ rest)) cut e) in
+          (subst (λ (z : List Lexeme). r n z ≡ Ok (b, t ∷ rest)) cut e) in
           never_more (r n (s ++ (t2 ∷ u))) a b t2 u (whole_reads n a (s ++ (t2 ∷ u)) la)
-              ((S n).local_ok s t2 s2 b h2 u))
+          ((S n).local_ok s t2 s2 b h2 u))
 
   -- what is spelled is read, or nothing is said
   pub whole_or_deep : (n : ℕ) (ts : List Lexeme) (a : A) → L a ts
@@ -165,11 +175,20 @@ module _ {A : Type 0} (r : ℕ → Read A) (L : A → List Lexeme → Type 0) (s
   pub left_fits : (n : ℕ) (ts : List Lexeme) (k : ℕ) → whole (r n) ts ≡ Err (At k) → k ≤ length ts
   left_fits n ts k e =
       elim (bind_err (r n ts) (λ (x : A × List Lexeme). ended x.0 x.1) (At k) e) [
-        | inl h ↦ let v = (S n).viable ts k h in omega (arith, ap
-            (length {A = Lexeme}) v.2, length-append v.0 v.1, v.3)
-        | inr x ↦ let f = (S n).found ts x.0.0 x.0.1 x.1 in omega
-            (arith, ap (length {A = Lexeme}) f.1, length-append f.0 x.0.1, ended_left x.0.0 x.0.1 k
-            x.2)
+        | inl h ↦ let v = (S n).viable ts k h in omega (
+          arith,
+          ap
+              (length {A = Lexeme}) v.2,
+          length-append v.0 v.1,
+          v.3,
+        )
+        | inr x ↦ let f = (S n).found ts x.0.0 x.0.1 x.1 in omega (
+          arith,
+          ap (length {A = Lexeme}) f.1,
+          length-append f.0 x.0.1,
+          ended_left x.0.0 x.0.1 k
+              x.2,
+        )
       ]
     where
       ended_left : (b : A) (rest : List Lexeme) (k : ℕ) → ended b rest ≡ Err (At k)
@@ -192,7 +211,7 @@ module _ {A : Type 0} (r : ℕ → Read A) (L : A → List Lexeme → Type 0) (s
   fault_spells_none n ts reading.Memory e count (faults.BadText token) t = absurd t
   fault_spells_none n ts (reading.Text left) e count (faults.BadText token) t =
       λ a l. elim (whole_or_deep n ts a l)
-          [ inl h ↦ (let x = sym e ∙ h in cc) | inr h ↦ (let x = sym e ∙ h in cc) ]
+      [ inl h ↦ (let x = sym e ∙ h in cc) | inr h ↦ (let x = sym e ∙ h in cc) ]
 
   -- at the fault token
   pub fault_at_token : (n : ℕ) (ts : List Lexeme) (fault : ReadFault)

@@ -5,4 +5,4 @@ use Rattle.declared_sorts.proofs.locals.add_all.Given as goal
 abbrev pub invariant-loop-item : goal.invariant-loop-item
 invariant-loop-item l =
     map prog_var_of l.found ≡ map prog_var_of l.initial.found ++ map prog_var_of
-        (take l.item-index l.more)
+    (take l.item-index l.more)

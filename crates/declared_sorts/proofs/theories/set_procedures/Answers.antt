@@ -8,5 +8,5 @@ use Rattle.declared_sorts.proofs.theories.set_procedures.Goals as goal
 pub returns : goal.returns
 returns c =
     all_changed procedure_of (sorted_procedure (map logic_var_of c.args.logics.now))
-        c.loop-i.procedures c.args.procedures.now (omega arith)
+    c.loop-i.procedures c.args.procedures.now (omega arith)
     λ k d lt. c.loop-i.invariant.1.each k d (omega arith)

@@ -4,7 +4,8 @@ use Rattle.logic_text.proofs.Exact.{found, within, nothing, fault_token}
 use Rattle.logic_text.proofs.reading.read_grove.Goals as goal
 
 pub of_whole-requires : goal.of_whole-requires
-of_whole-requires c = within 128 _ _ c.in-Err.ensures _ (length-map c.as_slice-tokens.result.now seen)
+of_whole-requires c =
+    within 128 _ _ c.in-Err.ensures _ (length-map c.as_slice-tokens.result.now seen)
 
 pub returns-in-Ok-clause-found : goal.returns-in-Ok-clause-found
 returns-in-Ok-clause-found c = found 128 _ _ (rw c.as_slice-tokens.ensures at c.in-Ok.ensures)

@@ -5,7 +5,8 @@ use Rattle.proof_text.proofs.Exact.{found, within, none, fault_token}
 use Rattle.proof_text.proofs.theories.read_theory.Goals as goal
 
 pub of_whole-requires : goal.of_whole-requires
-of_whole-requires c = within 128 _ _ c.in-Err.ensures _ (length-map c.as_slice-tokens.result.now seen)
+of_whole-requires c =
+    within 128 _ _ c.in-Err.ensures _ (length-map c.as_slice-tokens.result.now seen)
 
 pub returns-in_ok-set_theory-in-Ok-clause-found : goal.returns-in_ok-set_theory-in-Ok-clause-found
 returns-in_ok-set_theory-in-Ok-clause-found c = record {
