@@ -1,11 +1,11 @@
 -- Only symbols are brackets.
-use Rattle.std.proofs.Common.{◌≡◌, ◌≢◌, ℕ, Bool, true, false, cond, List, bytes_eq, codes, refl, sym, ap, ◌∙◌, ◌||◌}
+use Rattle.std.proofs.Common.{◌≡◌, ◌≢◌, ℕ, Bool, true, false, List, bytes_eq, codes, refl, sym, ap, ◌∙◌}
 use Rattle.std.specs.Prelude.{if◌then◌else◌}
 use Rattle.std.specs.Str.Parse.{digits_value}
 use Rattle.std.proofs.lemmas.Slice.Eq.{bytes_eq-Decides}
-use Rattle.model_text.specs.Lexemes.{Lexeme, terminal, step_word, name_lexeme, number_lexeme, bad_lexeme, reserved_words, is_reserved, word_lexeme, digits_lexeme, lexeme_at}
+use Rattle.model_text.specs.Lexemes.{terminal, step_word, name_lexeme, number_lexeme, bad_lexeme, reserved_words, is_reserved, lexeme_at}
 use Rattle.model_text.specs.Tokens.{TokenKind, word_token, logic_token, number_token, literal_token, symbol_token, bad_token, digits_fit}
-use Rattle.model_text.specs.Nesting.{opens, closes, open_behind}
+use Rattle.model_text.specs.Nesting.{open_behind}
 
 -- no reserved word is this text, which isn't reserved
 other_text : (text bracket : List ℕ) → is_reserved text ≡ true → is_reserved bracket ≡ false

@@ -8,3 +8,8 @@ pub record IsPosition (bytes text : List ℕ) (position : Position) : Type 0 whe
   pub within : position.number ≤ length text
   pub place_is : position.place ≡ place_of text position.number
   pub line_is : position.line ≡ line_of bytes position.place
+
+-- its line is that of its place, before which no more characters than bytes stand
+pub record IsPlace (bytes : List ℕ) (position : Position) : Type 0 where
+  pub counted : position.number ≤ position.place
+  pub line_is : position.line ≡ line_of bytes position.place

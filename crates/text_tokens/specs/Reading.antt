@@ -1,9 +1,12 @@
--- What reading one piece of a text does; nothing here is to be believed.
-use Rattle.std.specs.Prelude.{◌≡◌, ℕ, ◌<◌, List, ◌++◌, drop}
+-- What reading a part of a line does; nothing here is to be believed.
+use Rattle.std.specs.Prelude.{◌≡◌, ℕ, suc, ◌+◌, ◌-◌, ◌≤◌, List, ◌++◌, length, take, drop, encode_utf8_all}
+use Rattle.std.specs.Str.{IsUtf8, chars}
+use Rattle.std.specs.Str.Lossy.{utf8_valid_len}
 use Rattle.model_text.specs.Tokens as model
-use Rattle.model_text.specs.Tokens.{piece_at, token_text, tokens_with}
+use Rattle.model_text.specs.Tokens.{characters, token_text, tokens_from, tokens_of}
 use Rattle.text_tokens.specs.declared.positions.Position.{Position}
-use Rattle.text_tokens.specs.Positions.{IsPosition}
+use Rattle.text_tokens.specs.Lines.{IsLine}
+use Rattle.text_tokens.specs.Positions.{IsPlace, IsPosition}
 
 -- the token of the kind that has these characters, from a position to another
 abbrev pub token_between : model.TokenKind → List ℕ → Position → Position → model.Token
@@ -15,20 +18,37 @@ token_between kind own from to = record {
   line = from.line;
 }
 
--- the tokens from the position on, where others gives those after the piece there
-abbrev pub tokens_at : List ℕ → List ℕ → Position → (ℕ → List model.Token) → List model.Token
-tokens_at bytes text from others =
-    tokens_with bytes text from.number (piece_at (drop from.number text)) others
+-- the tokens of the text from the character of this number on
+abbrev pub tokens_left : List ℕ → List ℕ → ℕ → List model.Token
+tokens_left bytes text number = tokens_from bytes text (suc (length text - number)) number
 
--- with the tokens before, the list ends at the position
-abbrev pub Ends : List ℕ → List ℕ → List model.Token → Position → List model.Token → Type 0
-Ends bytes text before from after = (others : ℕ → List model.Token)
-    → before ++ tokens_at bytes text from others ≡ after
+-- with the tokens before, the list ends in the line, whatever the text is
+abbrev pub EndsIn : List ℕ → List ℕ → List model.Token → Position → List model.Token → Type 0
+EndsIn bytes line before from after = (text : List ℕ) → IsLine bytes text line from
+    → before ++ tokens_left bytes text from.number ≡ after
 
--- with the tokens before, it goes on from a position after the piece
-pub record GoesOn (bytes text : List ℕ) (before : List model.Token) (from : Position)
-    (after : List model.Token) (to : Position) : Type 0 where
-  pub is : IsPosition bytes text to
-  pub further : from.number < to.number
-  pub same : (others : ℕ → List model.Token)
-      → before ++ tokens_at bytes text from others ≡ after ++ others to.number
+-- with the tokens before, it goes on from a position after so many characters of the line
+pub record GoesOn (bytes line : List ℕ) (before : List model.Token) (from : Position)
+    (after : List model.Token) (count : ℕ) (to : Position) : Type 0 where
+  pub is : IsPlace bytes to
+  pub within : count ≤ length line
+  pub number : to.number ≡ from.number + count
+  pub place : to.place ≡ from.place + length (encode_utf8_all (take count line))
+  pub same : (text : List ℕ) → IsLine bytes text line from
+      → before ++ tokens_left bytes text from.number ≡ after ++ tokens_left bytes text to.number
+
+-- the characters of the line before those left are read
+pub record IsReadTo (bytes line : List ℕ) (before : List model.Token) (from : Position)
+    (after : List model.Token) (left : List ℕ) (to : Position) : Type 0 where
+  pub read : GoesOn bytes line before from after (length line - length left) to
+  pub rest : left ≡ drop (length line - length left) line
+
+-- the lines before those left are read, of the longest prefix of the bytes that is UTF-8
+pub record AreRead (bytes : List ℕ) (before after : List model.Token) (left : List ℕ)
+    (to : Position) : Type 0 where
+  pub is : IsPosition bytes (characters bytes) to
+  pub rest : drop to.number (characters bytes) ≡ chars left
+  pub utf8 : IsUtf8 left
+  pub place : to.place + length left ≡ utf8_valid_len bytes
+  pub same : before ++ tokens_of bytes
+      ≡ after ++ tokens_left bytes (characters bytes) to.number

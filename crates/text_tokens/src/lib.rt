@@ -5,6 +5,7 @@
 #![tactic(auto)]
 
 mod limits;
+mod lines;
 mod literals;
 mod numbers;
 mod pieces;

@@ -1,7 +1,7 @@
 // Places in the bytes, and the lines on which they stand.
 ghost use Rattle.std.specs.Prelude.{◌≡◌, ℕ, List, ◌+◌, ◌<◌, ◌≤◌, ◌==◌, ◌^◌, length, count_by, encode_utf8_all};
-ghost use Rattle.model_text.specs.Tokens.{newline, place_of};
-ghost use Rattle.text_tokens.specs.Positions.{IsPosition};
+ghost use Rattle.model_text.specs.Tokens.{newline};
+ghost use Rattle.text_tokens.specs.Positions.{IsPlace, IsPosition};
 
 /// A place between two characters.
 #[derive(Clone, Copy, Debug)]
@@ -38,6 +38,7 @@ fn byte_length(characters: &[char]) -> usize
 pub fn first_position() -> Position
     ensures is { (bytes text : List ℕ) → IsPosition bytes text result }
     ensures number { result.number ≡ 0 }
+    ensures place { result.place ≡ 0 }
 {
     Position {
         number: 0,
@@ -46,20 +47,19 @@ pub fn first_position() -> Position
     }
 }
 
-/// The position after so many characters more.
-pub fn advanced(bytes: &[u8], text: &[char], position: Position, count: usize) -> Position
-    requires is { IsPosition bytes.now text.now position }
-    requires within { position.number + count ≤ length text.now }
-    requires spelled { length (encode_utf8_all text.now) ≤ length bytes.now }
+/// The position after these characters, which stand at a position.
+pub fn advanced(bytes: &[u8], own: &[char], position: Position) -> Position
+    requires is { IsPlace bytes.now position }
+    requires within { position.place + length (encode_utf8_all own.now) ≤ length bytes.now }
     requires bounded { length bytes.now < 4294967295 }
-    ensures is { IsPosition bytes.now text.now result }
-    ensures number { result.number ≡ position.number + count }
+    ensures is { IsPlace bytes.now result }
+    ensures number { result.number ≡ position.number + length own.now }
+    ensures place { result.place ≡ position.place + length (encode_utf8_all own.now) }
 {
-    let number = position.number + count;
-    let place = position.place + byte_length(&text[position.number..number]);
+    let place = position.place + byte_length(own);
     let lines = newlines(&bytes[position.place..place]);
     Position {
-        number,
+        number: position.number + own.len(),
         place,
         line: position.line + lines,
     }

@@ -1,12 +1,12 @@
 // The list of the tokens of bytes.
 ghost use Rattle.std.specs.Prelude.{◌≡◌, ◌+◌, ◌-◌, ◌<◌, ◌≤◌, [], ◌∷◌, ◌++◌, length, take, drop, map, encode_utf8_all, IfOk, IfNone, IfSome, OnOk};
 ghost use Rattle.std.specs.Str.Lossy.{utf8_valid_len};
-ghost use Rattle.model_text.specs.Tokens.{characters, piece_at, token_text, tokens_of};
-ghost use Rattle.text_tokens.specs.Pieces.{piece_of};
-ghost use Rattle.text_tokens.specs.Positions.{IsPosition};
-ghost use Rattle.text_tokens.specs.Reading.{token_between, Ends, GoesOn};
+ghost use Rattle.model_text.specs.Tokens.{token_text, tokens_of};
+ghost use Rattle.text_tokens.specs.Positions.{IsPlace};
+ghost use Rattle.text_tokens.specs.Reading.{token_between, EndsIn, GoesOn, AreRead};
 ghost use Rattle.text_tokens.specs.Tokens.{kind_of, token_of};
 
+use crate::lines::{decode, line_length};
 use crate::literals::{spelled, unescaped};
 use crate::pieces::{Piece, piece_at};
 use crate::positions::{Position, advanced, first_position};
@@ -23,14 +23,6 @@ fn valid_prefix(bytes: &[u8]) -> &str
         Ok(text) => text,
         Err(fault) => str::from_utf8(&bytes[..fault.valid_up_to()]).unwrap(),
     }
-}
-
-/// The characters of the longest prefix of the bytes that is UTF-8.
-fn characters(alloc: Global, bytes: &[u8]) -> Result<Vec<char>, OutOfMemory>
-    ensures { IfOk result (λ text. text.items ≡ characters bytes.now) }
-{
-    let text: Vec<char> = valid_prefix(bytes).chars().collect(alloc)?;
-    Ok(text)
 }
 
 /// What stands between the quotes of a literal.
@@ -76,59 +68,98 @@ fn push_token(
     })
 }
 
-/// What stands at the front of the text from the character of this number on.
-fn piece_from(text: &[char], number: usize) -> Piece
-    requires { number ≤ length text.now }
-    ensures { piece_of result ≡ piece_at (drop number text.now) }
-{
-    piece_at(&text[number..])
-}
-
-/// Reads the piece at the position, and puts its token, if it is one, at the end of the list. Gives
-/// the position after the piece, and none where the list ends.
+/// Reads the piece at the front of what is left of a line, and puts its token, if it is one, at the
+/// end of the list. Gives the position after the piece, and none where the list ends.
 fn read_piece(
     alloc: Global,
     bytes: &[u8],
-    text: &[char],
+    line: &[char],
     from: Position,
     tokens: &mut Tokens,
 ) -> Result<Option<Position>, OutOfMemory>
-    requires is { IsPosition bytes.now text.now from }
-    requires spelled { length (encode_utf8_all text.now) ≤ length bytes.now }
+    requires is { IsPlace bytes.now from }
+    requires within { from.place + length (encode_utf8_all line.now) ≤ length bytes.now }
+    requires some { 0 < length line.now }
     requires bounded { length bytes.now < 4294967295 }
     ensures ends { IfOk result (λ next. IfNone next
-        (Ends bytes.now text.now (map token_of tokens.old) from (map token_of tokens.new))) }
-    ensures goes_on { IfOk result (λ next. IfSome next
-        (GoesOn bytes.now text.now (map token_of tokens.old) from (map token_of tokens.new))) }
+        (EndsIn bytes.now line.now (map token_of tokens.old) from (map token_of tokens.new))) }
+    ensures goes_on { IfOk result (λ next. IfSome next (λ to. GoesOn bytes.now line.now
+        (map token_of tokens.old) from (map token_of tokens.new) (to.number - from.number) to)) }
+    ensures further { IfOk result (λ next. IfSome next (λ to. from.number < to.number)) }
 {
-    match piece_from(text, from.number) {
-        Piece::Gap(count) => Ok(Some(advanced(bytes, text, from, count))),
-        Piece::Token(kind, count) => {
-            let to = advanced(bytes, text, from, count);
-            push_token(alloc, kind, &text[from.number..to.number], from, to, tokens)?;
+    let piece = piece_at(line);
+    let own = &line[..piece.len()];
+    let to = advanced(bytes, own, from);
+    match piece {
+        Piece::Gap(_) => Ok(Some(to)),
+        Piece::Token(kind, _) => {
+            push_token(alloc, kind, own, from, to, tokens)?;
             Ok(Some(to))
         }
         Piece::Nothing => {
-            if from.place < bytes.len() {
-                push_token(alloc, TokenKind::Bad, &[], from, from, tokens)?;
-            }
+            push_token(alloc, TokenKind::Bad, &[], from, from, tokens)?;
             Ok(None)
         }
     }
 }
 
-/// The tokens of the bytes, whose characters are these.
-fn read_tokens(alloc: Global, bytes: &[u8], text: &[char]) -> Result<Tokens, OutOfMemory>
-    requires is { text.now ≡ characters bytes.now }
+/// Reads a line and puts its tokens at the end of the list. Gives the position after the line, and
+/// none where the list ends.
+fn read_line(
+    alloc: Global,
+    bytes: &[u8],
+    line: &[char],
+    from: Position,
+    tokens: &mut Tokens,
+) -> Result<Option<Position>, OutOfMemory>
+    requires is { IsPlace bytes.now from }
+    requires within { from.place + length (encode_utf8_all line.now) ≤ length bytes.now }
     requires bounded { length bytes.now < 4294967295 }
-    ensures { IfOk result (λ tokens. map token_of tokens ≡ tokens_of bytes.now) }
+    ensures ends { IfOk result (λ next. IfNone next
+        (EndsIn bytes.now line.now (map token_of tokens.old) from (map token_of tokens.new))) }
+    ensures goes_on { IfOk result (λ next. IfSome next (GoesOn bytes.now line.now
+        (map token_of tokens.old) from (map token_of tokens.new) (length line.now))) }
 {
-    let mut tokens = Tokens::new(alloc);
-    let mut position = first_position();
-    while let Some(next) = read_piece(alloc, bytes, text, position, &mut tokens)? {
+    let mut position = from;
+    let mut left = line;
+    while !left.is_empty() {
+        let Some(next) = read_piece(alloc, bytes, left, position, tokens)? else {
+            return Ok(None);
+        };
+        left = &left[next.number - position.number..];
         position = next;
     }
-    Ok(tokens)
+    Ok(Some(position))
+}
+
+/// Reads the lines of the longest prefix of the bytes that is UTF-8, and puts their tokens at the
+/// end of the list. Gives the position after them, and none where the list ends.
+fn read_lines(
+    alloc: Global,
+    bytes: &[u8],
+    text: &str,
+    tokens: &mut Tokens,
+) -> Result<Option<Position>, OutOfMemory>
+    requires is { text.now ≡ take (utf8_valid_len bytes.now) bytes.now }
+    requires bounded { length bytes.now < 4294967295 }
+    ensures ends { IfOk result (λ next. IfNone next
+        (map token_of tokens.old ++ tokens_of bytes.now ≡ map token_of tokens.new)) }
+    ensures goes_on { IfOk result (λ next. IfSome next
+        (AreRead bytes.now (map token_of tokens.old) (map token_of tokens.new) [])) }
+{
+    let mut line = Vec::new(alloc);
+    let mut left = text;
+    let mut position = first_position();
+    while !left.is_empty() {
+        let (own, later) = left.split_at(line_length(left));
+        decode(own, &mut line)?;
+        let Some(next) = read_line(alloc, bytes, &line, position, tokens)? else {
+            return Ok(None);
+        };
+        left = later;
+        position = next;
+    }
+    Ok(Some(position))
 }
 
 /// The tokens of the bytes, in their order: exactly those of the definition. At the first place
@@ -138,6 +169,13 @@ pub fn token_list(alloc: Global, bytes: &[u8]) -> Result<Tokens, OutOfMemory>
     requires { length bytes.now < 4294967295 }
     ensures { IfOk result (λ tokens. map token_of tokens ≡ tokens_of bytes.now) }
 {
-    let text = characters(alloc, bytes)?;
-    read_tokens(alloc, bytes, &text)
+    let mut tokens = Tokens::new(alloc);
+    let Some(end) = read_lines(alloc, bytes, valid_prefix(bytes), &mut tokens)? else {
+        return Ok(tokens);
+    };
+    if end.place < bytes.len() {
+        push_token(alloc, TokenKind::Bad, &[], end, end, &mut tokens)?;
+        return Ok(tokens);
+    }
+    Ok(tokens)
 }

@@ -1,39 +1,54 @@
-use Rattle.std.proofs.Common.{drop, arith, length-drop}
+use Rattle.std.proofs.Common.{ap, ◌∙◌, arith, length-take}
+use Rattle.model_text.specs.Tokens.{piece_length}
+use Rattle.text_tokens.specs.Pieces.{piece_of}
 use Rattle.text_tokens.specs.Tokens.{kind_of}
-use Rattle.text_tokens.proofs.ReadingLemmas.{gap_fits, token_fits, goes_on_gap, goes_on_token, ends_at_end}
+use Rattle.text_tokens.proofs.ReadingLemmas.{front_le, piece_fits, gap_fits, token_fits, further, read_gap, read_token, ends_bad}
 use Rattle.text_tokens.proofs.reading.read_piece.Goals as goal
 
-pub advanced-requires-clause-within : goal.advanced-requires-clause-within
-advanced-requires-clause-within c =
+pub slice_bounds-own-end : goal.slice_bounds-own-end
+slice_bounds-own-end c =
     omega (
       arith,
-      length-drop c.args.from.number c.args.text.now,
-      (gap_fits (drop c.args.from.number c.args.text.now) c.in-Gap.count c.in-Gap.ensures).1,
+      length-take c.len.result c.args.line.now,
+      piece_fits c.args.line.now (piece_of c.piece_at-piece.result) c.piece_at-piece.ensures,
     )
 
 pub advanced-to-requires-clause-within : goal.advanced-to-requires-clause-within
-advanced-to-requires-clause-within c =
-    omega (
-      arith,
-      length-drop c.args.from.number c.args.text.now,
-      (token_fits (drop c.args.from.number c.args.text.now)
-          (kind_of c.in-Token.kind) c.in-Token.count c.in-Token.ensures).1,
-    )
+advanced-to-requires-clause-within c = omega (arith, front_le c.args.line.now c.len.result)
 
 pub returns-in-Gap-clause-goes_on : goal.returns-in-Gap-clause-goes_on
 returns-in-Gap-clause-goes_on c =
-    goes_on_gap c.args.bytes.now c.args.text.now _ c.args.from c.advanced.result c.in-Gap.count
-    c.in-Gap.ensures c.advanced.ensures.is c.advanced.ensures.number
+    read_gap c.args.bytes.now c.args.line.now _ c.args.from c.advanced-to.result c.in-Gap.field-0
+    c.len.result c.in-Gap.ensures (c.len.ensures ∙ ap (λ p. piece_length (piece_of p)) c.in-Gap.is)
+    c.requires.some c.advanced-to.ensures.is c.advanced-to.ensures.number
+    c.advanced-to.ensures.place
+
+pub returns-in-Gap-clause-further : goal.returns-in-Gap-clause-further
+returns-in-Gap-clause-further c =
+    further c.args.line.now c.args.from c.advanced-to.result c.in-Gap.field-0 c.len.result
+    (gap_fits c.args.line.now c.in-Gap.field-0 c.in-Gap.ensures)
+    (c.len.ensures ∙ ap (λ p. piece_length (piece_of p)) c.in-Gap.is)
+    c.advanced-to.ensures.number
 
 pub returns-in_ok-push_token-in-Token-clause-goes_on :
     goal.returns-in_ok-push_token-in-Token-clause-goes_on
 returns-in_ok-push_token-in-Token-clause-goes_on c =
-    goes_on_token c.args.bytes.now c.args.text.now _ _ c.args.from c.advanced-to.result
-    (kind_of c.in-Token.kind) c.in-Token.count c.in-Token.ensures
-    c.requires.is c.advanced-to.ensures.is c.advanced-to.ensures.number
-    c.in_ok-push_token-in-Token.ensures
+    read_token c.args.bytes.now c.args.line.now _ _ c.args.from c.advanced-to.result
+    (kind_of c.in-Token.kind) c.in-Token.field-1 c.len.result c.in-Token.ensures
+    (c.len.ensures ∙ ap (λ p. piece_length (piece_of p)) c.in-Token.is)
+    c.requires.some c.advanced-to.ensures.is c.advanced-to.ensures.number
+    c.advanced-to.ensures.place c.in_ok-push_token-in-Token.ensures
 
-pub returns-else-from-bytes-clause-ends : goal.returns-else-from-bytes-clause-ends
-returns-else-from-bytes-clause-ends c =
-    ends_at_end c.args.bytes.now c.args.text.now _ c.args.from c.in-Nothing.ensures c.requires.is
-    c.requires.spelled c.if-from-bytes.false
+pub returns-in_ok-push_token-in-Token-clause-further :
+    goal.returns-in_ok-push_token-in-Token-clause-further
+returns-in_ok-push_token-in-Token-clause-further c =
+    further c.args.line.now c.args.from c.advanced-to.result c.in-Token.field-1 c.len.result
+    (token_fits c.args.line.now (kind_of c.in-Token.kind) c.in-Token.field-1 c.in-Token.ensures)
+    (c.len.ensures ∙ ap (λ p. piece_length (piece_of p)) c.in-Token.is)
+    c.advanced-to.ensures.number
+
+pub returns-in_ok-push_token-in-Nothing-clause-ends :
+    goal.returns-in_ok-push_token-in-Nothing-clause-ends
+returns-in_ok-push_token-in-Nothing-clause-ends c =
+    ends_bad c.args.bytes.now c.args.line.now _ _ c.args.from c.in-Nothing.ensures
+    c.requires.some c.requires.within c.in_ok-push_token-in-Nothing.ensures
