@@ -19,16 +19,15 @@ abbrev pub StepsAreSmall : List (StepOf Named) → Type 0
 StepsAreSmall [] = Unit
 StepsAreSmall (step ∷ steps) = JudgementIsSmall step.judgement × StepsAreSmall steps
 
-pub record ProcedureIsSmall (f : ProcedureOf Named) : Type 0 where
-  pub pre : IsSmall f.pre
-  pub post : IsSmall f.post
-  pub proof : StepsAreSmall f.proof
+abbrev pub ProcedureIsSmall : ProcedureOf Named → Type 0
+ProcedureIsSmall f = IsSmall f.pre × IsSmall f.post × StepsAreSmall f.proof
 
 abbrev pub ProceduresAreSmall : List (ProcedureOf Named) → Type 0
 ProceduresAreSmall [] = Unit
 ProceduresAreSmall (f ∷ fs) = ProcedureIsSmall f × ProceduresAreSmall fs
 
 -- and so have those of a theory, whose procedures and proof steps together are fewer too
-pub record TheoryIsSmall (theory : Theory) : Type 0 where
-  pub procedures : ProceduresAreSmall theory.procedures
-  pub counts : length theory.procedures + step_count theory.procedures < 4294967295
+abbrev pub TheoryIsSmall : Theory → Type 0
+TheoryIsSmall theory =
+    ProceduresAreSmall theory.procedures
+    × (length theory.procedures + step_count theory.procedures < 4294967295)

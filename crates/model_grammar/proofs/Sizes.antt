@@ -209,11 +209,11 @@ procedure_sized logics {f = f} (files.procedure {name = name} {params = params}
     ⌢ the "ensures" ⌢ post ⌢ the "body" ⌢ body ⌢ the "proof" ⌢ proof ⌢ the "end") in
     let a = two name (params ⌢ the "returns" ⌢ results ⌢ the "sort" ⌢ sort ⌢ the "requires" ⌢ pre
     ⌢ the "ensures" ⌢ post ⌢ the "body" ⌢ body ⌢ the "proof" ⌢ proof ⌢ the "end") in record {
-      small = λ h. record {
-        pre = formula_small d lp (omega (arith, a, b, c, e, g, h));
-        post = formula_small d lq (omega (arith, a, b, c, e, g, k, h));
-        proof = steps_small d lxs (omega (arith, a, b, c, e, g, k, m, n, h));
-      };
+      small = λ h. (
+        formula_small d lp (omega (arith, a, b, c, e, g, h)),
+        formula_small d lq (omega (arith, a, b, c, e, g, k, h)),
+        steps_small d lxs (omega (arith, a, b, c, e, g, k, m, n, h)),
+      );
       counts = omega (arith, a, b, c, e, g, k, m, n, steps_length d lxs);
     }
 
@@ -243,10 +243,8 @@ raw_small : {t : Theory} {s : List Lexeme} → SpellsRaw t s → Few s → Theor
 raw_small (files.theory {xs = xs} {version = v} {lines = l} {procedures = ps} lv ll lps) h =
     let all = procedures_sized xs lps in
     let a = two v (l ⌢ ps) in
-    let b = two l ps in record {
-      procedures = all.small (omega (arith, a, b, h));
-      counts = omega (arith, a, b, h, all.counts);
-    }
+    let b = two l ps in
+    (all.small (omega (arith, a, b, h)), omega (arith, a, b, h, all.counts))
 
 pub theory_small : {t : Theory} {s : List Lexeme} → SpellsTheory t s → length s < 4294967295
     → TheoryIsSmall t
