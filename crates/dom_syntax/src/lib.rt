@@ -5,8 +5,11 @@
 #![tactic(auto)]
 
 mod kinds;
+mod programs;
+mod tables;
 
 pub use kinds::FileKind;
+pub use programs::ProgramFault;
 pub use theory_syntax::{
     Block, Command, Judgement, Procedure, Procedures, Reason, Step, Steps, Theory, Triple,
     same_command,
