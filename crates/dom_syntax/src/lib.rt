@@ -4,9 +4,11 @@
 //! Stands on the types of theories.
 #![tactic(auto)]
 
+mod command_tests;
 mod kinds;
 mod programs;
 mod tables;
+mod variable_tests;
 
 pub use kinds::FileKind;
 pub use programs::ProgramFault;
