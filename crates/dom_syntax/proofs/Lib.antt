@@ -1,1 +1,3 @@
 pub mod TableLaws
+pub mod Gathered
+pub mod VariableSetLaws

@@ -7,7 +7,9 @@
 mod command_tests;
 mod kinds;
 mod programs;
+mod scopes;
 mod tables;
+mod variable_sets;
 mod variable_tests;
 
 pub use kinds::FileKind;
