@@ -1,3 +1,5 @@
 pub mod TableLaws
 pub mod Gathered
 pub mod VariableSetLaws
+pub mod ScopeLaws
+pub mod ScopeTestLaws

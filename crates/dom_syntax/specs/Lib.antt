@@ -4,3 +4,4 @@ pub mod Tables
 pub mod VariableSets
 pub mod Callees
 pub mod Scopes
+pub mod ScopeTests

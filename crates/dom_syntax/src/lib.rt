@@ -7,6 +7,7 @@
 mod command_tests;
 mod kinds;
 mod programs;
+mod scope_tests;
 mod scopes;
 mod tables;
 mod variable_sets;

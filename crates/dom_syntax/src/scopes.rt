@@ -3,6 +3,7 @@ ghost use Rattle.std.specs.Prelude.{◌≡◌, List, ◌++◌, map, IfOk, OnOk};
 ghost use Rattle.model_shapes.specs.Sorts as sorts;
 ghost use Rattle.model_commands.specs.CommandParts.{locals_of};
 ghost use Rattle.model_commands.specs.Theories as model;
+ghost use Rattle.model_files.specs.FileFaults.{declared_by};
 ghost use Rattle.dom_terms.specs.Sorts.{sort_of, value_sort_of};
 ghost use Rattle.dom_terms.specs.Terms.{prog_var_of};
 ghost use Rattle.theory_syntax.specs.Commands.{block_of, command_of};
@@ -157,6 +158,21 @@ fn declare_block_locals<'a>(
     Ok(())
 }
 
+// The variables that the procedure declares, by their names.
+fn variable_table<'a>(
+    alloc: Global,
+    procedure: &'a Procedure,
+) -> Result<Table<'a, ValueSort>, OutOfMemory>
+    ensures { IfOk result (λ table. Declares value_sort_of table
+        (map variable_entry (declared_by (procedure_of procedure.now)))) }
+{
+    let mut table = Table::new(alloc);
+    declare_all(&mut table, procedure.params.as_slice())?;
+    declare_all(&mut table, procedure.results.as_slice())?;
+    declare_locals(&mut table, &procedure.body)?;
+    Ok(table)
+}
+
 impl<'a> Scope<'a> {
     /// The names in the procedure of the theory.
     pub(crate) fn new(
@@ -168,16 +184,12 @@ impl<'a> Scope<'a> {
         ensures { IfOk result (λ scope. IsScope scope × (scope.names.now ≡ names.now)
             × (scope.procedure.now ≡ procedure.now)) }
     {
-        let mut variables = Table::new(alloc);
-        declare_all(&mut variables, procedure.params.as_slice())?;
-        declare_all(&mut variables, procedure.results.as_slice())?;
-        declare_locals(&mut variables, &procedure.body)?;
         Ok(Scope {
             names,
             procedure,
             params: VariableSet::of(alloc, procedure.params.as_slice())?,
             results: VariableSet::of(alloc, procedure.results.as_slice())?,
-            variables,
+            variables: variable_table(alloc, procedure)?,
         })
     }
 }
