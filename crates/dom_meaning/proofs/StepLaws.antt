@@ -16,7 +16,7 @@ use Rattle.model_limits.specs.Limits.{standard_limits}
 use Rattle.model_machine.specs.Outcomes.{step_limit, limit_ahead}
 use Rattle.model_machine.specs.Fitting.{FitsPiece, FitPieces}
 use Rattle.model_commands.specs.Sorting.{BodiesSorted}
-use Rattle.model_files.proofs.FileTests.{all-append}
+use Rattle.model_terms.proofs.Computing.{all-append}
 use Rattle.model_machine.proofs.Fine.{step-fits}
 use Rattle.dom_meaning.specs.Built.{is_built_kind, is_built, is_built_piece, IsRunnable}
 

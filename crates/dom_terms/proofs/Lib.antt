@@ -1,1 +1,4 @@
+mod PlainTerms
+mod SortedParts
 mod StoreLaws
+mod TermLimitLaws

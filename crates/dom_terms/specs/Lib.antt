@@ -5,4 +5,5 @@ pub mod Terms
 pub mod Conditions
 pub mod Stores
 pub mod Evaluation
+pub mod Lends
 pub mod formers

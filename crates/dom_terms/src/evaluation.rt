@@ -1,10 +1,12 @@
 // The value of a term in a store, within the limits.
-ghost use Rattle.std.specs.Prelude.{◌≡◌, ℤ, IfOk, FitsSigned};
+ghost use Rattle.std.specs.Prelude.{◌≡◌, true, ℤ, IfOk, FitsSigned};
 ghost use Rattle.std.specs.Int.{w64};
 ghost use Rattle.std.specs.Option.{SomeIff};
 ghost use Rattle.model_shapes.specs.Sorts as model;
-ghost use Rattle.model_shapes.specs.Values.{FitsValue, int, str};
-ghost use Rattle.model_terms.specs.Stores.{Computes, default, value_in, value_of};
+ghost use Rattle.model_shapes.specs.Values.{FitsValue, int, str, boolean};
+ghost use Rattle.model_terms.specs.Stores.{default, value_in, value_of};
+ghost use Rattle.model_terms.specs.TermSorts.{evaluates};
+ghost use Rattle.model_terms.specs.Computing.{Computes};
 ghost use Rattle.model_limits.specs.Limits.{standard_limits};
 ghost use Rattle.model_terms.specs.TermLimits.{value_limit, term_limit};
 ghost use Rattle.dom_terms.specs.Sorts.{value_sort_of};
@@ -28,7 +30,21 @@ use std::alloc::Global;
 /// sort's default. NumberRange comes exactly where the first subterm that passes a limit, from left
 /// to right and inner ones first, is an integer that leaves 64 bits, and TextLimit exactly where it
 /// is a text of more than 4,096 bytes; want of memory may come before either.
+#[tactic(auto, using(crate::proofs::SortedParts::evaluates_some))]
 pub fn eval(alloc: Global, term: &Term, store: &Store) -> Result<Value, EvalFault>
+    requires { (s : model.ValueSort) × (evaluates s (term_of term.now) ≡ true) }
+    ensures value { IfOk result (λ value.
+        value_seen value ≡ value_of (store_of store.now) (term_of term.now)) }
+    ensures limit { Reports result (term_limit standard_limits (store_of store.now)
+        (term_of term.now)) }
+    ensures sort { (s : model.ValueSort) → evaluates s (term_of term.now) ≡ true
+        → IfOk result (λ value. FitsValue s (value_seen value)) }
+{
+    evaluated(alloc, term, store)
+}
+
+// The same, of a term whose parts are known to be sorted.
+pub(crate) fn evaluated(alloc: Global, term: &Term, store: &Store) -> Result<Value, EvalFault>
     requires { (s : model.ValueSort) × Computes s (term_of term.now) }
     ensures value { IfOk result (λ value.
         value_seen value ≡ value_of (store_of store.now) (term_of term.now)) }
@@ -46,18 +62,18 @@ pub fn eval(alloc: Global, term: &Term, store: &Store) -> Result<Value, EvalFaul
         Term::Prog(variable) => within_limit(value_or_default(alloc, variable, store)?),
         Term::Logic(_) => unreachable!(),
         Term::Add(left, right) => {
-            let left = integer(eval(alloc, left, store)?);
-            let right = integer(eval(alloc, right, store)?);
+            let left = integer(evaluated(alloc, left, store)?);
+            let right = integer(evaluated(alloc, right, store)?);
             number_within(left.checked_add(right))
         }
         Term::Sub(left, right) => {
-            let left = integer(eval(alloc, left, store)?);
-            let right = integer(eval(alloc, right, store)?);
+            let left = integer(evaluated(alloc, left, store)?);
+            let right = integer(evaluated(alloc, right, store)?);
             number_within(left.checked_sub(right))
         }
         Term::Cat(left, right) => {
-            let mut joined = text(eval(alloc, left, store)?);
-            let right = text(eval(alloc, right, store)?);
+            let mut joined = text(evaluated(alloc, left, store)?);
+            let right = text(evaluated(alloc, right, store)?);
             joined.append(&right)?;
             within_limit(Value::Str(joined))
         }
@@ -78,7 +94,11 @@ fn number_within(number: Option<i64>) -> Result<Value, EvalFault>
 }
 
 // The value of a variable, or its sort's default where the store doesn't have it.
-fn value_or_default(alloc: Global, variable: &ProgVar, store: &Store) -> Result<Value, OutOfMemory>
+pub(crate) fn value_or_default(
+    alloc: Global,
+    variable: &ProgVar,
+    store: &Store,
+) -> Result<Value, OutOfMemory>
     ensures value { IfOk result (λ value.
         value_seen value ≡ value_in (store_of store.now) (prog_var_of variable.now)) }
     ensures sort { IfOk result (λ value.
@@ -115,7 +135,7 @@ fn within_limit(value: Value) -> Result<Value, EvalFault>
 }
 
 // The integer that a value is.
-fn integer(value: Value) -> i64
+pub(crate) fn integer(value: Value) -> i64
     requires { FitsValue model.int_sort (value_seen value) }
     ensures { int result ≡ value_seen value }
 {
@@ -132,6 +152,17 @@ fn text(value: Value) -> Text
 {
     match value {
         Value::Str(text) => text,
+        _ => unreachable!(),
+    }
+}
+
+// The truth value that a value is.
+pub(crate) fn truth(value: Value) -> bool
+    requires { FitsValue model.bool_sort (value_seen value) }
+    ensures { boolean result ≡ value_seen value }
+{
+    match value {
+        Value::Bool(truth) => truth,
         _ => unreachable!(),
     }
 }

@@ -1,9 +1,12 @@
 // Lists of items, which contracts see as lists.
 ghost use Rattle.std.specs.Prelude.{◌≡◌, ◌≤◌, ◌<◌, ◌+◌, ◌↔◌, [], ◌∷◌, ◌++◌, length, map, take, drop, slice_get, option_copied, Some, ◌-◌};
-ghost use Rattle.std.specs.Prelude.{IsTrue, IsNone, IfOk, OnOk, OnErr};
+ghost use Rattle.std.specs.Prelude.{reverse, IsTrue, IsNone, MatchOption, IfOk, OnOk, OnErr};
+ghost use Rattle.std.specs.Borrow.{sem};
+ghost use Rattle.std.specs.List.{ItemMut};
 ghost use Rattle.std.specs.List.Sorted.{IsPermutation, IsSortedByKeyClosure};
 
 use crate::copied::Copied;
+use crate::made::MadeOf;
 use crate::memory::OutOfMemory;
 use std::alloc::Global;
 use std::marker::Model;
@@ -26,6 +29,8 @@ impl<T> Model for List<T> {
 }
 
 impl<T> List<T> {
+    ghost use Rattle.dom_terms.specs.Lends.{LendsLast};
+
     /// The empty list. It takes memory only when it grows.
     pub fn new(alloc: Global) -> List<T>
         ensures { result ≡ [] }
@@ -72,6 +77,23 @@ impl<T> List<T> {
         self.items.as_slice().last()
     }
 
+    /// The last item, to be changed: none exactly where there is no item. The rest of the list is
+    /// unchanged.
+    pub fn last_mut(&mut self) -> Option<&mut T>
+        ensures* writes_back { sem 𝓛 (LendsLast T.row self.entry result) }
+        ensures item { ItemMut self.old 0 (length self.old - 1) result }
+    {
+        self.items.last_mut()
+    }
+
+    /// Takes the last item away: none exactly where there is no item.
+    pub fn pop(&mut self) -> Option<T>
+        ensures { MatchOption result ((self.old ≡ []) × (self.new ≡ []))
+            (λ item. self.old ≡ self.new ++ item ∷ []) }
+    {
+        self.items.pop()
+    }
+
     /// Takes the item at a place counted from 0 away. Those behind it keep their order.
     pub fn remove(&mut self, place: usize) -> T
         requires { place < length self.old }
@@ -87,6 +109,22 @@ impl<T> List<T> {
         ensures err { OnErr result ((self.new ≡ self.old) × (other.new ≡ other.old)) }
     {
         self.items.append(&mut other.items)?;
+        Ok(())
+    }
+
+    /// Moves the items of another list to the end, the last one first, and makes an item of each.
+    /// Where memory is refused both are unchanged.
+    pub fn append_reversed<U>(&mut self, other: &mut List<U>) -> Result<(), OutOfMemory>
+    where
+        T: MadeOf<U>,
+        ensures ok { OnOk result ((self.new ≡ self.old ++ map T.make (reverse other.old))
+            × (other.new ≡ [])) }
+        ensures err { OnErr result ((self.new ≡ self.old) × (other.new ≡ other.old)) }
+    {
+        self.items.reserve(other.items.len())?;
+        while let Some(item) = other.items.pop() {
+            self.items.push_reserved(T::made(item));
+        }
         Ok(())
     }
 

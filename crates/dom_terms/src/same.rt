@@ -1,13 +1,15 @@
-// Tests of equality: of texts, sorts and variables.
+// Tests of equality: of texts, sorts, values and variables.
 ghost use Rattle.std.specs.Prelude.{◌≡◌, bytes_eq};
 ghost use Rattle.model_shapes.specs.Tests as sorts;
 ghost use Rattle.model_terms.specs.VariableTests.{same_var};
 ghost use Rattle.dom_terms.specs.Sorts.{value_sort_of, data_sort_of, sort_of};
+ghost use Rattle.dom_terms.specs.Values.{value_seen};
 ghost use Rattle.dom_terms.specs.Terms.{var_of, logic_var_of};
 
 use crate::sorts::{DataSort, Sort, ValueSort};
 use crate::terms::{LogicVar, ProgVar};
 use crate::text::Text;
+use crate::values::Value;
 
 /// Whether the texts have the same bytes.
 pub fn same_text(left: &Text, right: &Text) -> bool
@@ -40,6 +42,21 @@ pub fn same_sort(left: Sort, right: Sort) -> bool
         (Sort::Context(hole, whole), Sort::Context(other_hole, other_whole)) => {
             same_data_sort(hole, other_hole) && same_data_sort(whole, other_whole)
         }
+        _ => false,
+    }
+}
+
+/// Whether the values are the same.
+pub fn same_value(left: &Value, right: &Value) -> bool
+    ensures { result ≡ sorts.same_value (value_seen left.now) (value_seen right.now) }
+{
+    match (left, right) {
+        (Value::NullNode, Value::NullNode) | (Value::NullList, Value::NullList) => true,
+        (Value::Node(left), Value::Node(right)) => left == right,
+        (Value::List(left), Value::List(right)) => left == right,
+        (Value::Int(left), Value::Int(right)) => left == right,
+        (Value::Str(left), Value::Str(right)) => same_text(left, right),
+        (Value::Bool(left), Value::Bool(right)) => left == right,
         _ => false,
     }
 }

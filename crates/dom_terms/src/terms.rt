@@ -51,6 +51,13 @@ pub enum Term {
     Cat(Box<Term>, Box<Term>),
 }
 
+// what stands where a list of few terms has none
+impl Default for Term {
+    fn default() -> Term {
+        Term::NullNode
+    }
+}
+
 impl Copied for ProgVar {
     ghost use Rattle.model_terms.specs.Stores as model;
 

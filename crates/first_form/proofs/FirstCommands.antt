@@ -13,7 +13,7 @@ use Rattle.model_commands.specs.CommandParts.{commands_in, commands_of, variable
 use Rattle.model_commands.specs.Theories.{Procedures}
 use Rattle.model_commands.specs.SortTests.{is_plain, evaluates, is_among, has_command, parts_fit, callee_known, results_apart}
 use Rattle.model_files.specs.FileFaults.{spares}
-use Rattle.model_files.proofs.FileTests.{all-append}
+use Rattle.model_terms.proofs.Computing.{all-append}
 use Rattle.model_grammar.specs.FirstForm.{is_first_kind}
 use Rattle.first_form.specs.FormTests.{is_declared, is_term_declared, does_setting_fit, does_query_fit, does_command_fit, does_block_fit}
 use Rattle.first_form.proofs.Declared.{join, and-true, all-weaker, all-both, all-flat, all-program, term-declared}

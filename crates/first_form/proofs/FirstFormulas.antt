@@ -9,7 +9,7 @@ use Rattle.model_formulas.specs.Formulas.{Named, truth, conjunction, equality, e
 use Rattle.model_formulas.specs.WellSorted.{both_have, one_sort, both_logic_of_one_sort, first_fault, flags}
 use Rattle.model_terms.specs.Stores.{ProgVar}
 use Rattle.model_commands.specs.CommandParts.{variables_of_term, variables_of}
-use Rattle.model_files.proofs.FileTests.{all-append}
+use Rattle.model_terms.proofs.Computing.{all-append}
 use Rattle.model_grammar.specs.FirstForm.{is_first_formula}
 use Rattle.first_form.specs.FormTests.{is_declared, is_term_declared, are_alike, does_formula_fit}
 use Rattle.first_form.proofs.Declared.{join, all-join, term-declared}

@@ -14,7 +14,7 @@ use Rattle.model_commands.specs.SortTests.{distinct_by}
 use Rattle.model_commands.specs.Theories.{StepOf, ProcedureOf, Theory, procedures_of}
 use Rattle.model_files.specs.FileFaults.{FileKind, version_kind, twice_kind, unknown_kind, sort_kind, constant_kind, scope_kind, share_name, declared_by, scope_of, is_judged_at, is_logic_sort, only_among, declarations, inside_head, header, head_kind, proof_step, steps_from, procedures_from, first_fault_at, IsWellFormedTheory}
 use Rattle.model_files.proofs.Places.{passes-each, each-passes, first-none, both-none, none-first, none-both}
-use Rattle.model_files.proofs.FileTests.{all-append}
+use Rattle.model_terms.proofs.Computing.{all-append}
 use Rattle.model_grammar.specs.FirstForm.{is_first_formula, is_first_kind, is_first_command, is_first_step, is_first_procedure, is_first_form, declares_none}
 use Rattle.first_form.specs.FormTests.{is_declared, does_formula_fit, does_command_fit, do_steps_fit, are_apart, does_head_fit, do_procedures_fit, is_name_among, do_names_differ, does_theory_fit}
 use Rattle.first_form.proofs.Declared.{join, all-join, form_scope, params-only, only-params, declared-only, distinct-apart}

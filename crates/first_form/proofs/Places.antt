@@ -17,7 +17,7 @@ use Rattle.model_commands.specs.Theories.{JudgementOf, entails, triple, Reason, 
 use Rattle.model_files.specs.RuleNames.{is_rule_name}
 use Rattle.model_files.specs.FileFaults.{FileKind, unknown_kind, sort_kind, constant_kind, results_kind, rule_kind, number_kind, scope_of, is_known, is_as_declared, is_judged_at, is_argument, spares, judgement_sorted, rule_known, inside, inside_step, proof_step, step_kind}
 use Rattle.model_files.proofs.Places.{passes-each, each-passes}
-use Rattle.model_files.proofs.FileTests.{all-append}
+use Rattle.model_terms.proofs.Computing.{all-append}
 use Rattle.model_grammar.specs.FirstForm.{is_first_formula, is_first_kind, is_first_command, is_first_reason, is_first_judgement, is_first_step}
 use Rattle.first_form.specs.FormTests.{is_declared, is_term_declared, are_alike, does_formula_fit, does_command_fit, does_judgement_fit, does_argument_fit, do_arguments_fit}
 use Rattle.first_form.proofs.Declared.{join, all-join, all-weaker, all-both, all-flat, all-known, known-all, form_scope, term-declared}

@@ -17,12 +17,12 @@ mod sorting;
 mod substituting;
 mod variables;
 
+pub use dom_terms::{both_have, has_sort};
 pub use entailments::Entailment;
 pub use formulas::{Formula, Side};
 pub use free::{free_vars, the_list_has_the_free_variables};
 pub use purity::is_pure;
 pub use same::{is_replacement, is_substitution, same_formula};
-pub use sort_tests::{both_have, has_sort};
 pub use sorting::{IllSorted, sorted_as};
 pub use substituting::substitute;
 pub use variables::{AnyVar, Pair};

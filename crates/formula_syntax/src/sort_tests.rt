@@ -1,14 +1,14 @@
-// The sorts of terms, and which sorts the parts of a formula have.
+// Which sorts the parts of a formula have.
 ghost use Rattle.std.specs.Prelude.{◌≡◌};
 ghost use Rattle.model_shapes.specs.Sorts as model;
 ghost use Rattle.model_formulas.specs.Formulas as formulas;
 ghost use Rattle.model_formulas.specs.WellSorted as tests;
-ghost use Rattle.dom_terms.specs.Sorts.{value_sort_of, data_sort_of, sort_of};
+ghost use Rattle.dom_terms.specs.Sorts.{data_sort_of, sort_of};
 ghost use Rattle.dom_terms.specs.Terms.{term_of};
 ghost use Rattle.formula_syntax.specs.Formulas.{side_of};
 
 use crate::formulas::Side;
-use dom_terms::{DataSort, Sort, Term, ValueSort, same_data_sort, same_sort, same_value_sort};
+use dom_terms::{DataSort, Sort, Term, ValueSort, both_have, same_data_sort, same_sort};
 
 // whether a context of the sort can be: no tree and no forest has a hole for a grove
 pub(crate) fn is_sort(sort: Sort) -> bool
@@ -107,38 +107,6 @@ pub(crate) fn right_at(side: Side, sort: Sort) -> Sort
         Side::Whole | Side::HoleRight => sort,
         Side::HoleLeft => Sort::Shape(outer(sort)),
     }
-}
-
-/// Whether the term is well sorted and has the sort.
-pub fn has_sort(term: &Term, sort: ValueSort) -> bool
-    ensures { result ≡ tests.has_sort (value_sort_of sort) (term_of term.now) }
-{
-    match term {
-        Term::NullNode => same_value_sort(sort, ValueSort::Node),
-        Term::NullList => same_value_sort(sort, ValueSort::List),
-        Term::Int(_) => same_value_sort(sort, ValueSort::Int),
-        Term::Str(_) => same_value_sort(sort, ValueSort::Str),
-        Term::Bool(_) => same_value_sort(sort, ValueSort::Bool),
-        Term::Prog(variable) => same_value_sort(sort, variable.sort),
-        Term::Logic(variable) => same_sort(Sort::Value(sort), variable.sort),
-        Term::Add(left, right) | Term::Sub(left, right) => {
-            same_value_sort(sort, ValueSort::Int)
-                && has_sort(left, ValueSort::Int)
-                && has_sort(right, ValueSort::Int)
-        }
-        Term::Cat(left, right) => {
-            same_value_sort(sort, ValueSort::Str)
-                && has_sort(left, ValueSort::Str)
-                && has_sort(right, ValueSort::Str)
-        }
-    }
-}
-
-/// Whether both terms are well sorted and have the sort.
-pub fn both_have(sort: ValueSort, left: &Term, right: &Term) -> bool
-    ensures { result ≡ tests.both_have (value_sort_of sort) (term_of left.now) (term_of right.now) }
-{
-    has_sort(left, sort) && has_sort(right, sort)
 }
 
 // whether the terms are logic variables of one data or context sort

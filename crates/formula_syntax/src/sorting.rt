@@ -9,10 +9,10 @@ ghost use Rattle.formula_syntax.specs.Sorting as own;
 
 use crate::formulas::Formula;
 use crate::sort_tests::{
-    both_have, gives, giving, has_sort, inner, is_context, is_form, is_shape, is_sort, left_at,
-    one_sort, outer, right_at, side_fits,
+    gives, giving, inner, is_context, is_form, is_shape, is_sort, left_at, one_sort, outer,
+    right_at, side_fits,
 };
-use dom_terms::{DataSort, Sort, ValueSort, same_sort};
+use dom_terms::{DataSort, Sort, ValueSort, both_have, has_sort, same_sort};
 
 /// A part of a formula is at fault.
 #[derive(Clone, Copy, Debug, PartialEq, Eq)]

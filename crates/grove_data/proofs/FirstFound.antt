@@ -13,7 +13,7 @@ use Rattle.grove_data.specs.declared.trees.Tree.{Tree, out-Tree}
 use Rattle.grove_data.proofs.Walks.{tree_is, forest_at}
 
 -- the first of two lists of roots
-first_tree-beside : (a b : Trees) → first_tree (beside a b)
+pub first_tree-beside : (a b : Trees) → first_tree (beside a b)
     ≡ option_or (first_tree a) (first_tree b)
 first_tree-beside none b = refl
 first_tree-beside (node s i k l r) b = refl

@@ -4,3 +4,5 @@ pub mod Counts
 pub mod Parents
 pub mod Sorted
 pub mod Bare
+pub mod Moves
+pub mod Uses

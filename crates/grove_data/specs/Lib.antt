@@ -2,3 +2,4 @@ pub mod Trees
 pub mod Finding
 pub mod UsedNumbers
 pub mod SameTrees
+pub mod Moving

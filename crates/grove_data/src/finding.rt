@@ -4,10 +4,10 @@ ghost use Rattle.std.specs.Prelude.{MatchOption, option_copied};
 ghost use Rattle.std.specs.Option.{option_map};
 ghost use Rattle.model_shapes.specs.Values.{node_number, list_number};
 ghost use Rattle.model_shapes.specs.Trees as shapes;
-ghost use Rattle.model_shapes.specs.Trees.{WellFormed};
+ghost use Rattle.model_shapes.specs.Trees.{node_uses, WellFormed};
 ghost use Rattle.model_groves.specs.Groves as groves;
 ghost use Rattle.model_groves.specs.Groves.{nodes_where, parental, first_number};
-ghost use Rattle.model_groves.specs.Groves.{node_at, list_at};
+ghost use Rattle.model_groves.specs.Groves.{node_at, list_at, positive};
 ghost use Rattle.grove_data.specs.Trees.{tree_of, forest_of};
 ghost use Rattle.grove_data.specs.Finding.{test_of, first_tree, number_or_null};
 ghost use Rattle.grove_data.specs.declared.trees.Tree.{out-Tree};
@@ -66,12 +66,20 @@ pub fn parent_of(grove: &Grove, id: u32) -> Option<Option<u32>>
     Some(Some(parent.id))
 }
 
-// whether a root has the number
-#[tactic(auto, using(crate::proofs::FirstFound::roots_in_turn))]
-fn has_root(grove: &Grove, id: u32) -> bool
-    ensures { result ≡ groves.has_root id (forest_of grove.now) }
+/// Whether the node with the number is this one or stands below it.
+#[tactic(auto, using(crate::proofs::Uses::told_by_search))]
+pub fn is_within(tree: &Tree, id: u32) -> bool
+    ensures { result ≡ positive (node_uses id (tree_of tree.now)) }
 {
-    for tree in grove.as_slice() {
+    first_in(tree, Wanted::Node(id)).is_some()
+}
+
+/// Whether a root of the forest has the number.
+#[tactic(auto, using(crate::proofs::FirstFound::roots_in_turn))]
+pub fn has_root(forest: &Forest, id: u32) -> bool
+    ensures { result ≡ groves.has_root id (forest_of forest.now) }
+{
+    for tree in forest.as_slice() {
         if tree.id == id {
             return true;
         }

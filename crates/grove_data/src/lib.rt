@@ -4,14 +4,16 @@
 //! Stands on the texts and lists of the program and on the definitions of groves and documents.
 #![tactic(auto)]
 
+mod changing;
 mod counting;
 mod finding;
 mod roots;
 mod trees;
 mod unique;
 
+pub use changing::{moved_below, moved_to_roots};
 pub use counting::{greatest_ids, has_at_most};
-pub use finding::{find, find_list, parent_of};
+pub use finding::{find, find_list, has_root, is_within, parent_of};
 pub use roots::{same_sorted, sort_roots};
 pub use trees::{Forest, Grove, IdKind, Tree};
 pub use unique::{UniqueFault, check_unique};

@@ -48,11 +48,6 @@ same_commands b c d h =
     same_from_decides b (same_command c d) h
     (same_command-is c d, λ e. subst (λ z. same_command c z ≡ true) e (same_command-refl c))
 
--- the parts of a term have a logic variable where the term has
-pub plain_parts : (xs ys : List Var)
-    → list_all is_program (xs ++ ys) ≡ (list_all is_program xs && list_all is_program ys)
-plain_parts xs ys = list_all-append is_program xs ys
-
 -- the test of a substitution
 pub replaced_is : (x : ProgVar) (t : Term) (q p : Named) → replaced_test x t q p ≡ true
     → formula_with (replacing (as_var x) t) (nameless q) ≡ nameless p

@@ -11,12 +11,11 @@ ghost use Rattle.hoare_kernel.specs.Tests as test;
 use crate::chains::is_chain;
 use crate::citations::are_numbered;
 use crate::same::{is_replaced, same};
-use crate::terms::evaluates;
 use theory_syntax::{Command, Judgement, Reason, Step, Triple};
-use dom_terms::{List, Numbers, OutOfMemory, Text};
+use dom_terms::{Numbers, OutOfMemory, Text, evaluates};
 use std::alloc::Global;
 
-fn is_nothing<T>(items: &List<T>) -> bool
+fn is_nothing<T>(items: &[T]) -> bool
     ensures { result ≡ test.no_items items.now }
 {
     items.is_empty()
@@ -78,7 +77,7 @@ fn is_seq_triple(
 {
     match &triple.command {
         Command::Block(block) => {
-            if is_nothing(block) {
+            if is_nothing(block.as_slice()) {
                 Ok(false)
             } else {
                 is_chain(
@@ -112,7 +111,7 @@ fn is_triple_by(
 {
     if name.as_str() == "seq" {
         is_seq_triple(alloc, earlier, numbered, citations.as_slice(), triple)
-    } else if !is_nothing(citations) {
+    } else if !is_nothing(citations.as_slice()) {
         Ok(false)
     } else if name.as_str() == "skip" {
         is_skip_triple(alloc, triple)
@@ -144,7 +143,7 @@ fn is_instance(
             },
             Judgement::Triple(triple),
         ) => {
-            if is_nothing(arguments) {
+            if is_nothing(arguments.as_slice()) {
                 is_triple_by(alloc, earlier, numbered, name, premises, triple)
             } else {
                 Ok(false)

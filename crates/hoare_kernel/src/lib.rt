@@ -7,7 +7,6 @@ mod chains;
 mod citations;
 mod instances;
 mod same;
-mod terms;
 mod theories;
 
 pub use theories::is_accepted;

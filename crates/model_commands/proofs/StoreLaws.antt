@@ -11,8 +11,9 @@ use Rattle.model_shapes.specs.Tests.{same_value}
 use Rattle.model_shapes.proofs.Tests.{same_value-refl, same_value-is}
 use Rattle.model_formulas.specs.Satisfaction.{Environment, Meets, meaning_of, number_of, text_of, Proper}
 use Rattle.model_formulas.specs.Satisfaction.{with_store}
-use Rattle.model_terms.specs.Stores.{ProgVar, named, as_var, sort_of, Store, value_in, lookup, ProperStore, int_in, text_in, value_of, Computes}
-use Rattle.model_terms.specs.Conditions.{Cond, cond_true, cond_false, cond_variable, cond_equal, cond_at_most, cond_not, cond_and, cond_or, truth_in, truth_of, Tests}
+use Rattle.model_terms.specs.Stores.{ProgVar, named, as_var, sort_of, Store, value_in, lookup, ProperStore, int_in, text_in, value_of}
+use Rattle.model_terms.specs.Conditions.{Cond, cond_true, cond_false, cond_variable, cond_equal, cond_at_most, cond_not, cond_and, cond_or, truth_in, truth_of}
+use Rattle.model_terms.specs.Computing.{Computes, Tests}
 use Rattle.model_commands.specs.ConditionFormulas.{formula_of}
 
 -- a proper store and a proper environment are one together

@@ -4,9 +4,10 @@
 use Rattle.std.specs.Prelude.{List, [], ◌∷◌, ◌++◌, map}
 use Rattle.std.specs.List.{flat_map}
 use Rattle.model_terms.specs.Variables.{Var}
-use Rattle.model_terms.specs.Terms.{Term, literal, variable, sum, difference, appended}
+use Rattle.model_terms.specs.Terms.{Term}
+pub use Rattle.model_terms.specs.TermSorts.{variables_of_term}
 use Rattle.model_terms.specs.Stores.{ProgVar, as_var}
-use Rattle.model_terms.specs.Conditions.{Cond, cond_true, cond_false, cond_variable, cond_equal, cond_at_most, cond_not, cond_and, cond_or}
+pub use Rattle.model_terms.specs.Conditions.{terms_of_cond}
 use Rattle.model_formulas.specs.Formulas.{Named, conjunction, disjunction, implication, negation, existential, universal, equality, at_most, node_formula, one_tree, one_root, concatenation, grove_sum, grove_sum_hole, application, hole_adjoint, context_adjoint, same_as, length_is, value_meets}
 use Rattle.model_commands.specs.Theories.{JudgementOf, entails, triple, Reason, auto, by_rule}
 use Rattle.model_commands.specs.Commands.{Command, block, assign, create_node, node_name, child_nodes, parent_node, list_item, append_child, remove_child, if_else, while_do, local, call, Block, stop, ◌then◌}
@@ -41,17 +42,6 @@ abbrev pub locals : Command → List ProgVar
 locals (local x b) = x ∷ []
 locals command = []
 
--- the terms of a condition, from left to right
-abbrev pub terms_of_cond : Cond → List Term
-terms_of_cond cond_true = []
-terms_of_cond cond_false = []
-terms_of_cond (cond_variable x) = variable (as_var x) ∷ []
-terms_of_cond (cond_equal a b) = a ∷ b ∷ []
-terms_of_cond (cond_at_most a b) = a ∷ b ∷ []
-terms_of_cond (cond_not c) = terms_of_cond c
-terms_of_cond (cond_and c d) = terms_of_cond c ++ terms_of_cond d
-terms_of_cond (cond_or c d) = terms_of_cond c ++ terms_of_cond d
-
 -- the terms that the command itself evaluates, from left to right
 abbrev pub terms_of : Command → List Term
 terms_of (assign x e) = e ∷ []
@@ -66,14 +56,6 @@ terms_of (if_else c a b) = terms_of_cond c
 terms_of (while_do c b) = terms_of_cond c
 terms_of (call results name arguments) = arguments
 terms_of command = []
-
--- the variables of a term
-abbrev pub variables_of_term : Term → List Var
-variables_of_term (literal v) = []
-variables_of_term (variable x) = x ∷ []
-variables_of_term (sum a b) = variables_of_term a ++ variables_of_term b
-variables_of_term (difference a b) = variables_of_term a ++ variables_of_term b
-variables_of_term (appended a b) = variables_of_term a ++ variables_of_term b
 
 -- the variables that a command has of its own
 abbrev pub own_variables : Command → List Var

@@ -1,42 +1,20 @@
 -- Tests of a command by itself: its parts have the right sorts and number, a procedure that it
--- calls is there, and the results of a call are apart.
-use Rattle.std.specs.Prelude.{List, [], ◌∷◌, Bool, true, false, not, ◌&&◌, Option, Some, None, is_some}
+-- calls is there, and the results of a call are apart. Files are tested by them, and they are what
+-- the conditions of a run's beginning and of a step ask.
+use Rattle.std.specs.Prelude.{◌≡◌, List, [], ◌∷◌, Bool, true, false, not, ◌&&◌, Option, Some, None, is_some}
 use Rattle.std.specs.List.{list_all, list_any, flat_map}
 use Rattle.model_shapes.specs.Tests.{same_value_sort}
-use Rattle.model_shapes.specs.Sorts.{ValueSort, node_sort, list_sort, int_sort, str_sort, bool_sort}
+use Rattle.model_shapes.specs.Sorts.{node_sort, list_sort, int_sort, str_sort}
+use Rattle.model_shapes.specs.Values.{Name}
 use Rattle.model_terms.specs.VariableTests.{same_var}
-use Rattle.model_terms.specs.Variables.{Var, prog}
+use Rattle.model_terms.specs.Variables.{Var}
 use Rattle.model_terms.specs.Terms.{Term}
 use Rattle.model_terms.specs.Stores.{ProgVar, as_var, sort_of, same_name}
-use Rattle.model_terms.specs.Conditions.{Cond, cond_true, cond_false, cond_variable, cond_equal, cond_at_most, cond_not, cond_and, cond_or}
-use Rattle.model_formulas.specs.WellSorted.{has_sort, one_sort}
+pub use Rattle.model_terms.specs.Conditions.{condition_sorted}
+pub use Rattle.model_terms.specs.TermSorts.{is_program, is_plain, evaluates}
 use Rattle.model_commands.specs.Commands.{Command, skip, block, assign, create_node, node_name, child_nodes, parent_node, list_item, append_child, remove_child, if_else, while_do, local, call, Block, stop, ◌then◌}
-use Rattle.model_commands.specs.CommandParts.{variables_of_term}
+use Rattle.model_commands.specs.CommandParts.{commands_in, variables_of_term}
 use Rattle.model_commands.specs.Theories.{Procedure, Procedures, procedure_named}
-
--- SORTS: a program variable
-abbrev pub is_program : Var → Bool
-is_program (prog name s) = true
-is_program x = false
-
--- no logic variable stands in the term
-abbrev pub is_plain : Term → Bool
-is_plain term = list_all is_program (variables_of_term term)
-
--- a term that a command may evaluate: it has the sort, and no logic variable
-abbrev pub evaluates : ValueSort → Term → Bool
-evaluates s term = has_sort s term && is_plain term
-
--- a condition with parts of the right sorts
-abbrev pub condition_sorted : Cond → Bool
-condition_sorted cond_true = true
-condition_sorted cond_false = true
-condition_sorted (cond_variable x) = same_value_sort (sort_of x) bool_sort
-condition_sorted (cond_equal a b) = one_sort a b && (is_plain a && is_plain b)
-condition_sorted (cond_at_most a b) = evaluates int_sort a && evaluates int_sort b
-condition_sorted (cond_not c) = condition_sorted c
-condition_sorted (cond_and c d) = condition_sorted c && condition_sorted d
-condition_sorted (cond_or c d) = condition_sorted c && condition_sorted d
 
 -- arguments for these parameters
 abbrev pub feeds : List ProgVar → List Term → Bool
@@ -108,3 +86,25 @@ results_apart (call results name arguments) =
     distinct_by same_name results
     && list_all (λ x. not (stands_in (flat_map variables_of_term arguments) x)) results
 results_apart command = true
+
+-- in a call, the results don't repeat
+abbrev pub results_differ : Command → Bool
+results_differ (call results name arguments) = distinct_by same_name results
+results_differ command = true
+
+-- what a run asks of a command, but for the commands in it: the procedure that it calls is there,
+-- its parts have the right sorts and number, and the results of a call don't repeat
+abbrev pub fits_alone : Procedures → Command → Bool
+fits_alone procedures command =
+    callee_known procedures command
+    && (parts_fit procedures command && results_differ command)
+
+-- what a run asks of a command, and of each command in it
+abbrev pub is_sorted : Procedures → Command → Bool
+is_sorted procedures command = list_all (fits_alone procedures) (commands_in command)
+
+-- so is the body of each procedure that a call may enter
+abbrev pub BodiesSorted : Procedures → Type 0
+BodiesSorted procedures =
+    (name : Name) (f : Procedure) → procedure_named name procedures ≡ Some f
+    → is_sorted procedures f.body ≡ true

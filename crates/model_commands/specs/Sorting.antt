@@ -1,11 +1,10 @@
--- Commands whose parts have the right sorts and number: what the conditions of a run's beginning
--- and of a step ask. A law says that the bodies of a well-formed theory are such commands.
+-- Needn't be believed: commands whose parts have the right sorts and number, as a relation that
+-- proofs take apart. A law says that what passes the test is so related.
 use Rattle.std.specs.Prelude.{◌≡◌, List, [], ◌∷◌, Option, Some, None}
 use Rattle.model_shapes.specs.Sorts.{node_sort, list_sort, int_sort, str_sort}
-use Rattle.model_shapes.specs.Values.{Name}
 use Rattle.model_terms.specs.Terms.{Term}
-use Rattle.model_terms.specs.Stores.{ProgVar, Computes, sort_of}
-use Rattle.model_terms.specs.Conditions.{Tests}
+use Rattle.model_terms.specs.Stores.{ProgVar, sort_of}
+use Rattle.model_terms.specs.Computing.{Computes, Tests}
 use Rattle.model_commands.specs.Commands.{Command, skip, block, assign, create_node, node_name, child_nodes, parent_node, list_item, append_child, remove_child, if_else, while_do, local, call, Block, stop, ◌then◌, Among}
 use Rattle.model_commands.specs.Theories.{Procedure, Procedures, procedure_named}
 
@@ -55,9 +54,3 @@ module _ (procedures : Procedures) where
     pub BlockSorted : Block → Type 0
     BlockSorted stop = Unit
     BlockSorted (c then b) = Sorted c × BlockSorted b
-
--- the body of each procedure that a call may enter has parts of the right sorts
-abbrev pub BodiesSorted : Procedures → Type 0
-BodiesSorted procedures =
-    (name : Name) (f : Procedure) → procedure_named name procedures ≡ Some f
-    → Sorted procedures f.body

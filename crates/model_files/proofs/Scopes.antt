@@ -17,7 +17,9 @@ use Rattle.model_commands.specs.CommandParts.{commands_in, commands_of, targets,
 use Rattle.model_commands.specs.SortTests.{distinct_by, is_among, stands_in}
 use Rattle.model_files.specs.FileFaults.{share_name, spares, only_among}
 use Rattle.model_terms.proofs.StoreLaws.{same_name-is, same_name-refl}
-use Rattle.model_files.proofs.FileTests.{all-append, not-both, left-true, right-true, among-test, stands-left, stands-right, each-among}
+use Rattle.model_terms.proofs.Computing.{all-append}
+use Rattle.model_commands.proofs.Sorting.{not-both, left-true, right-true, among-test}
+use Rattle.model_files.proofs.FileTests.{stands-left, stands-right, each-among}
 
 -- NAMES
 among-left : (xs ys : List ProgVar) (x : ProgVar) → Among xs x → Among (xs ++ ys) x

@@ -1,34 +1,47 @@
 -- A well-formed theory gives what runs and calls need: commands with parts of the right sorts, and
 -- procedures that keep to their scopes.
-use Rattle.std.proofs.Common.{◌≡◌, ◌⊎◌, ℕ, ◌+◌, List, [], ◌∷◌, ◌++◌, map, Bool, true, false, cond, subst, inl, inr, Some, None, bytes_eq}
+use Rattle.std.proofs.Common.{◌≡◌, ◌⊎◌, ℕ, ◌+◌, List, [], ◌∷◌, ◌++◌, map, Bool, true, false, cond, refl, subst, inl, inr, Some, None, bytes_eq}
 use Rattle.std.specs.List.{list_all}
 use Rattle.model_shapes.specs.Sorts.{DataSort}
-use Rattle.model_shapes.proofs.Truth.{both_true}
+use Rattle.model_shapes.proofs.Truth.{both_true, and_from}
 use Rattle.model_terms.specs.Variables.{Var}
 use Rattle.model_terms.specs.Stores.{ProgVar, as_var}
 use Rattle.model_formulas.specs.Formulas.{Named}
-use Rattle.model_commands.specs.Commands.{Command, Among}
+use Rattle.model_commands.specs.Commands.{Command, call, Among}
 use Rattle.model_commands.specs.CommandParts.{commands_in, variables_of, locals_of, commands_of_judgement}
-use Rattle.model_commands.specs.SortTests.{distinct_by}
+use Rattle.model_commands.specs.SortTests.{distinct_by, callee_known, parts_fit, results_apart, results_differ, is_sorted, BodiesSorted}
 use Rattle.model_commands.specs.Theories.{Procedure, ProcedureOf, Theory, StepOf, triple, procedures_of, procedure_named, nameless_procedure}
-use Rattle.model_commands.specs.Sorting.{Sorted}
-use Rattle.model_commands.specs.Sorting.{BodiesSorted}
 use Rattle.model_commands.specs.Scopes.{IsScoped}
 use Rattle.model_files.specs.FileFaults.{twice_kind, unknown_kind, sort_kind, constant_kind, results_kind, scope_kind, share_name, is_known, is_as_declared, scope_of, declared_by, only_among, inside, declarations, header, head_kind, proof_step, step_kind, steps_from, procedures_from, first_fault_at, IsWellFormedTheory}
-use Rattle.model_files.proofs.FileTests.{Checked, sorted-command}
+use Rattle.model_commands.proofs.Sorting.{Tested}
 use Rattle.model_files.proofs.Places.{passes-each, first-none, both-none}
 use Rattle.model_files.proofs.Scopes.{names-apart, modifies-spared, only-free, test-among}
 
 module _ (theory : Theory) where
-  -- variables and commands without a fault: the commands pass the tests
-  inside-checked : (f : ProcedureOf Named) (vars : List Var) (cs : List Command)
+  -- the results of a call that are apart don't repeat
+  apart-differ : (c : Command) → results_apart c ≡ true → results_differ c ≡ true
+  apart-differ (call results name arguments) e = (both_true _ _ e).0
+  apart-differ c e = refl
+
+  -- commands that pass three tests of files
+  all-fit : (cs : List Command) → list_all (callee_known (procedures_of theory)) cs ≡ true
+      → list_all (parts_fit (procedures_of theory)) cs ≡ true → list_all results_apart cs ≡ true
+      → Tested (procedures_of theory) cs
+  all-fit [] known fitting apart = refl
+  all-fit (c ∷ cs) known fitting apart =
+      let k = both_true _ _ known in
+      let f = both_true _ _ fitting in
+      let a = both_true _ _ apart in
+      and_from _ _ (and_from _ _ k.0 (and_from _ _ f.0 (apart-differ c a.0)))
+      (all-fit cs k.1 f.1 a.1)
+
+  -- variables and commands without a fault: the commands pass the test of what a run asks
+  inside-tested : (f : ProcedureOf Named) (vars : List Var) (cs : List Command)
       → inside theory f vars cs unknown_kind ≡ true → inside theory f vars cs sort_kind ≡ true
-      → inside theory f vars cs results_kind ≡ true → Checked (procedures_of theory) cs
-  inside-checked f vars cs known sorted apart = record {
-    known = (both_true (list_all (is_known (scope_of theory f)) vars) _ known).1;
-    fitting = (both_true (list_all (is_as_declared (scope_of theory f)) vars) _ sorted).1;
-    apart = apart;
-  }
+      → inside theory f vars cs results_kind ≡ true → Tested (procedures_of theory) cs
+  inside-tested f vars cs known sorted apart =
+      all-fit cs (both_true (list_all (is_known (scope_of theory f)) vars) _ known).1
+      (both_true (list_all (is_as_declared (scope_of theory f)) vars) _ sorted).1 apart
 
   -- a procedure of the theory whose header has no fault
   record Head (f : Procedure) : Type 0 where
@@ -73,18 +86,17 @@ module _ (theory : Theory) where
 
   -- a header without a fault has a body with parts of the right sorts
   head-sorted : (earlier : List (ProcedureOf Named)) (p : ProcedureOf Named)
-      → head_kind theory earlier p ≡ None → Sorted (procedures_of theory) p.body
+      → head_kind theory earlier p ≡ None → is_sorted (procedures_of theory) p.body ≡ true
   head-sorted earlier p e =
       let passes = passes-each (header theory earlier p) e in
-      sorted-command (procedures_of theory) p.body
-      (inside-checked p _ (commands_in p.body) (passes unknown_kind)
-      (both_true _ _ (passes sort_kind)).1 (passes results_kind))
+      inside-tested p _ (commands_in p.body) (passes unknown_kind)
+      (both_true _ _ (passes sort_kind)).1 (passes results_kind)
 
   -- a well-formed theory has bodies with parts of the right sorts
   pub well-formed-bodies : IsWellFormedTheory theory → BodiesSorted (procedures_of theory)
   well-formed-bodies w name f q =
       let h : Head f = named-head w name f q in
-      subst (λ z. Sorted (procedures_of theory) z.body) h.is
+      subst (λ z. is_sorted (procedures_of theory) z.body ≡ true) h.is
       (head-sorted h.earlier h.written h.no_fault)
 
   -- a header without a fault keeps to its scope
@@ -128,10 +140,9 @@ module _ (theory : Theory) where
   pub step-sorted : (procedure : ProcedureOf Named) (place : ℕ) (step : StepOf Named)
       (p : Named) (c : Command) (q : Named) (d : DataSort)
       → step_kind theory procedure place step ≡ None → step.judgement ≡ triple p c q d
-      → Sorted (procedures_of theory) c
+      → is_sorted (procedures_of theory) c ≡ true
   step-sorted procedure place step p c q d e is =
       let passes = passes-each (proof_step theory procedure place step) e in
-      sorted-command (procedures_of theory) c
-      (subst (λ z. Checked (procedures_of theory) (commands_of_judgement z)) is
-      (inside-checked procedure _ (commands_of_judgement step.judgement) (passes unknown_kind)
-      (both_true _ _ (passes sort_kind)).1 (passes results_kind)))
+      subst (λ z. Tested (procedures_of theory) (commands_of_judgement z)) is
+      (inside-tested procedure _ (commands_of_judgement step.judgement) (passes unknown_kind)
+      (both_true _ _ (passes sort_kind)).1 (passes results_kind))

@@ -2,24 +2,15 @@
 use Rattle.std.proofs.Common.{◌≡◌, sym, refl, subst, true, ◌&&◌}
 use Rattle.model_shapes.specs.Tests.{same_value_sort}
 use Rattle.model_shapes.specs.Sorts.{value, ValueSort, int_sort, str_sort, is_sort}
-use Rattle.model_shapes.specs.Values.{Value, null, nolist, node_number, list_number, int, str, boolean, FitsValue, value_sort}
+use Rattle.model_shapes.specs.Values.{FitsValue, value_sort}
 use Rattle.model_shapes.specs.Things.{Fits}
 use Rattle.model_shapes.proofs.Truth.{false≢true, both_true}
 use Rattle.model_terms.specs.Variables.{prog, logic, bound}
 use Rattle.model_shapes.proofs.Tests.{same_value_sort-is, same_sort-is}
 use Rattle.model_terms.specs.Terms.{Term, literal, variable, sum, difference, appended}
+use Rattle.model_terms.proofs.Computing.{literal-fits}
 use Rattle.model_formulas.specs.WellSorted.{has_sort, is_literal}
 use Rattle.model_formulas.specs.Satisfaction.{Environment, Proper, meaning_of}
-
--- a literal is of its own sort
-pub literal-fits : (v : Value) → is_literal v ≡ true → FitsValue (value_sort v) v
-literal-fits null e = tt
-literal-fits nolist e = tt
-literal-fits (int z) e = tt
-literal-fits (str s) e = tt
-literal-fits (boolean b) e = tt
-literal-fits (node_number n) e = false≢true e
-literal-fits (list_number n) e = false≢true e
 
 -- each term of the sort stands for a thing of the sort
 pub term-fits : (t : Term) (s : ValueSort) (e : Environment) → Proper e → has_sort s t ≡ true

@@ -2,35 +2,12 @@
 -- Parts are formulas, counted from 0, a formula before its parts; a term at fault is its formula's.
 use Rattle.std.specs.Prelude.{ℕ, Bool, true, false, ◌&&◌, ◌||◌, not, Option, List, [], ◌∷◌, ◌++◌}
 use Rattle.std.specs.List.{position_from}
-use Rattle.model_shapes.specs.Tests.{same_sort, same_data_sort, same_value_sort}
-use Rattle.model_shapes.specs.Sorts.{Sort, value, shape, context, ValueSort, node_sort, list_sort, int_sort, str_sort, bool_sort, DataSort, tree, forest, grove, is_sort, outer, inner, with_outer}
-use Rattle.model_shapes.specs.Values.{Value, node_number, list_number, value_sort}
-use Rattle.model_terms.specs.Variables.{Var, prog, logic, bound}
-use Rattle.model_terms.specs.Terms.{Term, literal, variable, sum, difference, appended}
+use Rattle.model_shapes.specs.Tests.{same_sort, same_data_sort}
+use Rattle.model_shapes.specs.Sorts.{Sort, value, shape, context, node_sort, list_sort, int_sort, str_sort, bool_sort, DataSort, tree, forest, grove, is_sort, outer, inner, with_outer}
+use Rattle.model_terms.specs.Variables.{Var, logic}
+use Rattle.model_terms.specs.Terms.{Term, variable}
+pub use Rattle.model_terms.specs.TermSorts.{is_literal, has_sort, both_have}
 use Rattle.model_formulas.specs.Formulas.{Named, Side, whole, truth, falsity, conjunction, disjunction, implication, negation, existential, universal, equality, at_most, empty, bare_hole, node_formula, one_tree, one_root, concatenation, grove_sum, grove_sum_hole, application, hole_adjoint, context_adjoint, same_as, length_is, value_meets, left_sort, right_sort}
-
--- the values that are literals: no number of a node or a list can be written
-abbrev pub is_literal : Value → Bool
-is_literal (node_number n) = false
-is_literal (list_number n) = false
-is_literal v = true
-
--- the term can be written and has the value sort; no bound variable can be written
-abbrev pub has_sort : ValueSort → Term → Bool
-has_sort s (literal v) = is_literal v && same_value_sort s (value_sort v)
-has_sort s (variable (prog name u)) = same_value_sort s u
-has_sort s (variable (logic name u)) = same_sort (value s) u
-has_sort s (variable (bound i u)) = false
-has_sort s (sum a b) =
-    same_value_sort s int_sort && (has_sort int_sort a && has_sort int_sort b)
-has_sort s (difference a b) =
-    same_value_sort s int_sort && (has_sort int_sort a && has_sort int_sort b)
-has_sort s (appended a b) =
-    same_value_sort s str_sort && (has_sort str_sort a && has_sort str_sort b)
-
--- both terms have the sort
-abbrev pub both_have : ValueSort → Term → Term → Bool
-both_have s a b = has_sort s a && has_sort s b
 
 -- a sort at which a formula is judged: a data sort, or a context sort that is one
 abbrev pub is_form : Sort → Bool

@@ -13,13 +13,15 @@ use Rattle.model_terms.specs.Stores.{ProgVar, Store, set, value_in, value_of, Pr
 use Rattle.model_terms.specs.Conditions.{truth_of}
 use Rattle.model_commands.specs.Commands.{skip, block, assign, create_node, node_name, child_nodes, parent_node, list_item, append_child, remove_child, if_else, while_do, local, call, Block, stop, ◌then◌}
 use Rattle.model_commands.specs.Theories.{Procedure, Procedures, procedure_named}
-use Rattle.model_commands.specs.Sorting.{Feed, Receive, CallFits, BlockSorted}
+use Rattle.model_commands.specs.Sorting.{Feed, Receive, CallFits}
+use Rattle.model_commands.specs.SortTests.{is_sorted, call_fits, BodiesSorted}
+use Rattle.model_commands.specs.CommandParts.{commands_in, commands_of}
+use Rattle.model_commands.proofs.Sorting.{Tested, rest-tested, both-tested, sorted-command, receives-received, local-body, loop-body, branches, call-fits-test}
 use Rattle.model_groves.specs.Groves.{nodes_where, has_root, numbered, listed, parental, node_at, list_at, first_number, number_at, item_of, without, adding, positive}
 use Rattle.model_machine.specs.Machine.{FaultKind, no_node, no_list, cycle, not_child, Piece, run, restore, return, Move, becomes, faults, bad_pick, pieces_of, reading, appending, removing, creating, entering, returning, calling, move, Config, configuration, StepOut, next, done, at_fault, at_bad_pick, stepped, step, is_done, running, ended, after_step, runs}
 use Rattle.model_groves.specs.Picks.{Pick, is_free}
 use Rattle.model_machine.specs.ClassicalTriples.{Ends}
 use Rattle.model_machine.specs.Fitting.{FitsPiece, FitPieces, Fine, FitsConfig}
-use Rattle.model_commands.specs.Sorting.{BodiesSorted}
 use Rattle.model_terms.proofs.StoreLaws.{unset-proper, set-proper, default-fits, value-fits}
 use Rattle.model_commands.proofs.StoreLaws.{not-true}
 use Rattle.model_groves.proofs.Groves.{node-taken-out, list-taken-out, holes-taken-out, node-moved-le, list-moved-le, holes-moved-le, node-those-le, list-those-le, width-numbered, found-number}
@@ -251,9 +253,11 @@ module _ (th : Procedures) where
   FineMove bad_pick = Unit
 
   -- the commands of a block that fits
-  pub pieces-fine : (b : Block) → BlockSorted th b → FitPieces th (pieces_of b)
+  pub pieces-fine : (b : Block) → Tested th (commands_of b) → FitPieces th (pieces_of b)
   pieces-fine stop s = tt
-  pieces-fine (c then b) s = (s.0, pieces-fine b s.1)
+  pieces-fine (c then b) s =
+      let parts = both-tested th (commands_in c) (commands_of b) s in
+      (parts.0, pieces-fine b parts.1)
 
   -- two lists of pieces that fit
   pub all-fine : (k k' : List Piece) → FitPieces th k → FitPieces th k' → FitPieces th (k ++ k')
@@ -364,11 +368,11 @@ module _ (th : Procedures) where
 
   module _ (bodies : BodiesSorted th) where
     calling-fine : (f : List ℕ) (o : Option Procedure) (xs : List ProgVar) (es : List Term)
-        (st : Store) (g : Trees) → procedure_named f th ≡ o → CallFits o xs es → Fine st g
-        → FineMove (calling o xs es st g)
-    calling-fine f None xs es st g e c fine = absurd c
-    calling-fine f (Some q) xs es st g e c fine = (
-      (bodies f q e, ((fine.proper, c.1), tt)),
+        (st : Store) (g : Trees) → procedure_named f th ≡ o → CallFits o xs es
+        → call_fits o xs es ≡ true → Fine st g → FineMove (calling o xs es st g)
+    calling-fine f None xs es st g e c t fine = absurd c
+    calling-fine f (Some q) xs es st g e c t fine = (
+      (bodies f q e, ((fine.proper, (both_true _ _ t).1), tt)),
       record { proper = entering-proper q.params es st c.0 fine.proper; whole = fine.whole },
     )
 
@@ -376,38 +380,50 @@ module _ (th : Procedures) where
     pub move-fine : (p : Pick) (x : Piece) (st : Store) (g : Trees) → FitsPiece th x → Fine st g
         → FineMove (move th p x st g)
     move-fine p (run skip) st g s fine = (tt, fine)
-    move-fine p (run (block b)) st g s fine = (pieces-fine b s, fine)
-    move-fine p (run (assign x e)) st g s fine =
-        (tt, set-fine x (value_of st e) st g (value-fits (sort_of x) e st s fine.proper) fine)
+    move-fine p (run (block b)) st g s fine =
+        (pieces-fine b (rest-tested th (block b) (commands_of b) s), fine)
+    move-fine p (run (assign x e)) st g s fine = (
+      tt,
+      set-fine x (value_of st e) st g (value-fits (sort_of x) e st
+          (sorted-command th (assign x e) s) fine.proper) fine,
+    )
     move-fine p (run (if_else c a b)) st g s fine = ((by_test (truth_of st c), tt), fine)
       where
-        by_test : (t : Bool) → BlockSorted th (cond t a b)
-        by_test true = s.1
-        by_test false = s.2
+        by_test : (t : Bool) → is_sorted th (block (cond t a b)) ≡ true
+        by_test true = (branches th c a b s).0
+        by_test false = (branches th c a b s).1
     move-fine p (run (while_do c b)) st g s fine = (by_test (truth_of st c), fine)
       where
         by_test : (t : Bool) → FitPieces th (cond t (run (block b) ∷ run (while_do c b) ∷ []) [])
-        by_test true = (s.1, (s, tt))
+        by_test true = (loop-body th c b s, (s, tt))
         by_test false = tt
     move-fine p (run (local x b)) st g s fine = (
-      (s, (fine.proper.fits x, tt)),
+      (local-body th x b s, (fine.proper.fits x, tt)),
       set-fine x (default (sort_of x)) st g (default-fits (sort_of x)) fine,
     )
     move-fine p (restore x v) st g s fine = (tt, set-fine x v st g s fine)
     move-fine p (run (call xs f es)) st g s fine =
-        calling-fine f (procedure_named f th) xs es st g refl s.0 fine
+        calling-fine f (procedure_named f th) xs es st g refl
+        (sorted-command th (call xs f es) s).0 (call-fits-test th xs f es s) fine
     move-fine p (return st0 rs xs) st g s fine = (
       tt,
-      record { proper = returning-proper rs xs st st0 s.1 fine.proper s.0; whole = fine.whole },
+      record {
+        proper = returning-proper rs xs st st0
+            (receives-received rs xs s.1) fine.proper s.0;
+        whole = fine.whole;
+      },
     )
     move-fine p (run (create_node x e)) st g s fine =
-        creating-fine p x (text_in (value_of st e)) st g s.0 fine
+        creating-fine p x (text_in (value_of st e)) st g
+        (sorted-command th (create_node x e) s).0 fine
     move-fine p (run (node_name x e)) st g s fine =
         reading-fine (node_at (value_of st e) g) no_node (λ s i k l. str s) x st g
-        (λ n i k l r q. subst (λ z. FitsValue z (str n)) (sym s.0) tt) fine
+        (λ n i k l r q. subst (λ z. FitsValue z (str n))
+        (sym (sorted-command th (node_name x e) s).0) tt) fine
     move-fine p (run (child_nodes x e)) st g s fine =
         reading-fine (node_at (value_of st e) g) no_node (λ s i k l. list_number l) x st g
-        (λ n i k l r q. subst (λ z. FitsValue z (list_number l)) (sym s.0)
+        (λ n i k l r q. subst (λ z. FitsValue z (list_number l))
+        (sym (sorted-command th (child_nodes x e) s).0)
         (not-zero l (zero-of n i k l r q))) fine
       where
         zero-of : (n : List ℕ) (i : ℕ) (k : Trees) (l : ℕ) (r : Trees)
@@ -419,13 +435,14 @@ module _ (th : Procedures) where
         reading-fine (node_at (value_of st e) g) no_node
         (λ s i k l. first_number (nodes_where (parental i) g)) x st g
         (λ n i k l r q. subst (λ z. FitsValue z (first_number (nodes_where (parental i) g)))
-        (sym s.0)
+        (sym (sorted-command th (parent_node x e) s).0)
         (first-fits (nodes_where (parental i) g)
         (those-no-zero (parental i) g fine.whole.well_formed).nodes)) fine
     move-fine p (run (list_item x e f)) st g s fine =
         reading-fine (list_at (value_of st e) g) no_list
         (λ s i k l. item_of (value_of st f) k) x st g
-        (λ n i k l r q. subst (λ z. FitsValue z (item_of (value_of st f) k)) (sym s.0)
+        (λ n i k l r q. subst (λ z. FitsValue z (item_of (value_of st f) k))
+        (sym (sorted-command th (list_item x e f) s).0)
         (item-fits (value_of st f) k (zero-of n i k l r q))) fine
       where
         zero-of : (n : List ℕ) (i : ℕ) (k : Trees) (l : ℕ) (r : Trees)

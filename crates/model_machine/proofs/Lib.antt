@@ -9,3 +9,7 @@ pub mod WorkedRuns
 pub mod Plain
 pub mod Starts
 pub mod Unchanged
+pub mod EachMove
+pub mod Members
+pub mod Parts
+pub mod Pending

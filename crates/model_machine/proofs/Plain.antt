@@ -1,5 +1,5 @@
 -- A triple that is proved with "some data" read classically holds with it read plainly.
-use Rattle.std.proofs.Common.{refl, subst}
+use Rattle.std.proofs.Common.{◌≡◌, true, refl, subst}
 use Rattle.model_shapes.specs.Trees.{Trees, fill}
 use Rattle.model_shapes.specs.Sorts.{shape, context, DataSort, grove}
 use Rattle.model_shapes.specs.Shapes.{Shaped}
@@ -10,8 +10,7 @@ use Rattle.model_formulas.proofs.Plainly.{plain_end}
 use Rattle.model_terms.specs.Stores.{Store, lookup}
 use Rattle.model_commands.specs.Commands.{Command}
 use Rattle.model_commands.specs.Theories.{Procedures}
-use Rattle.model_commands.specs.Sorting.{Sorted}
-use Rattle.model_commands.specs.Sorting.{BodiesSorted}
+use Rattle.model_commands.specs.SortTests.{is_sorted, BodiesSorted}
 use Rattle.model_machine.specs.Fitting.{Fine, FitsConfig}
 use Rattle.model_machine.specs.Machine.{beginning, RunOutcome, running, ended, fault, picked_badly, runs}
 use Rattle.model_machine.specs.LocalTriples.{EndsWith, GoesWell, HoldsLocally}
@@ -51,7 +50,8 @@ well-ends J (ended st g) w = w.each_end st g refl
 
 module _ (th : Procedures) (p : Formula) (c : Command) (q : Formula) (d : DataSort) where
   -- a classical triple over all runs is a local one
-  pub classical-plain : BodiesSorted th → Sorted th c → TripleFor th (λ n. Unit) p c q d
+  pub classical-plain : BodiesSorted th → is_sorted th c ≡ true
+      → TripleFor th (λ n. Unit) p c q d
       → HoldsLocally th p c q d
   classical-plain bodies sorted triple e st pr r wr mr around wa wf picks =
       let begun = beginning c st (fill around r) in

@@ -18,7 +18,7 @@ use Rattle.model_groves.proofs.Groves.{those-beside, without-beside, adding-besi
 use Rattle.model_machine.proofs.Fine.{FineMove, move-fine, all-fine}
 use Rattle.model_machine.specs.Fitting.{Fine, FitPieces, FitsConfig}
 use Rattle.model_machine.proofs.Runs.{moved_on}
-use Rattle.model_commands.specs.Sorting.{BodiesSorted}
+use Rattle.model_commands.specs.SortTests.{BodiesSorted}
 
 module _ (g g' : Trees) (same : SameAt grove g g') (w : WellFormed g) where
   same-node_at : (v : Value) → node_at v g ≡ node_at v g'

@@ -1,5 +1,5 @@
 -- A run begins with what fits, and a call begins as a run does.
-use Rattle.std.proofs.Common.{◌≡◌, List, [], ◌∷◌, map, refl, ap}
+use Rattle.std.proofs.Common.{◌≡◌, true, List, [], ◌∷◌, map, refl, ap}
 use Rattle.model_shapes.specs.Sorts.{shape, grove}
 use Rattle.model_shapes.specs.Trees.{Trees}
 use Rattle.model_shapes.specs.Shapes.{Shaped}
@@ -7,7 +7,7 @@ use Rattle.model_shapes.specs.Values.{Value}
 use Rattle.model_terms.specs.Terms.{Term}
 use Rattle.model_terms.specs.Stores.{ProgVar, Store, ProperStore, set, value_of}
 use Rattle.model_commands.specs.Theories.{Procedure, Procedures}
-use Rattle.model_commands.specs.Sorting.{Sorted}
+use Rattle.model_commands.specs.SortTests.{is_sorted}
 use Rattle.model_machine.specs.Machine.{entering, holding_values, start}
 use Rattle.model_machine.specs.Fitting.{ValuesFit, FitsConfig}
 use Rattle.model_terms.proofs.StoreLaws.{unset-proper, set-proper}
@@ -23,7 +23,7 @@ holding-proper (x ∷ xs) (v ∷ vs) f =
 
 -- what a run begins with fits
 pub start-fits : (th : Procedures) (f : Procedure) (vs : List Value) (g : Trees)
-    → Sorted th f.body → ValuesFit f.params vs → Shaped (shape grove) g
+    → is_sorted th f.body ≡ true → ValuesFit f.params vs → Shaped (shape grove) g
     → FitsConfig th (start f vs g)
 start-fits th f vs g sorted fit w = record {
   pieces = (sorted, tt);

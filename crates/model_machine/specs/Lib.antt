@@ -7,3 +7,4 @@ pub mod ClassicalTriples
 pub mod Behind
 pub mod Blocks
 pub mod SameMoves
+pub mod Parts

@@ -3,7 +3,7 @@
 //! Stands on model_commands and model_groves.
 #![tactic(auto)]
 
-ghost use Rattle.std.specs.Prelude.{◌≡◌, ℕ, List, [], ◌∷◌, map, true, None};
+ghost use Rattle.std.specs.Prelude.{◌≡◌, ℕ, List, [], ◌∷◌, map, true, Some, None, Contains};
 ghost use Rattle.model_shapes.specs.Sorts.{DataSort, grove, shape, context};
 ghost use Rattle.model_shapes.specs.Values.{Value};
 ghost use Rattle.model_shapes.specs.Trees.{Trees, WellFormed};
@@ -13,15 +13,16 @@ ghost use Rattle.model_formulas.specs.Formulas.{Formula};
 ghost use Rattle.model_formulas.specs.Satisfaction.{Environment};
 ghost use Rattle.model_terms.specs.Stores.{ProgVar, Store, value_in, value_of};
 ghost use Rattle.model_commands.specs.Commands.{Command, Block, block, Modifies};
+ghost use Rattle.model_commands.specs.CommandParts.{commands_in};
 ghost use Rattle.model_commands.specs.Theories.{Procedure, Procedures, triple};
-ghost use Rattle.model_commands.specs.Sorting.{Sorted};
 ghost use Rattle.model_groves.specs.Picks.{Pick};
-ghost use Rattle.model_machine.specs.Machine.{Piece, move, pieces_of, entering, holding_values, start, Config, configuration, beginning, next, step, ended, runs};
+ghost use Rattle.model_machine.specs.Machine.{FaultKind, Piece, run, move, pieces_of, entering, holding_values, start, Config, configuration, beginning, next, step, ended, runs};
 ghost use Rattle.model_limits.specs.Limits.{Limits};
-ghost use Rattle.model_machine.specs.Outcomes.{outcome, no_pick};
+ghost use Rattle.model_machine.specs.Outcomes.{outcome, has_fault, no_pick};
+ghost use Rattle.model_machine.specs.Parts.{parts_of, InSomeBody, after_picks};
 ghost use Rattle.model_machine.specs.Changes.{change_of};
 ghost use Rattle.model_machine.specs.Fitting.{ValuesFit, Fine, FitsConfig};
-ghost use Rattle.model_commands.specs.Sorting.{BodiesSorted};
+ghost use Rattle.model_commands.specs.SortTests.{BodiesSorted, is_sorted};
 ghost use Rattle.model_machine.specs.LocalTriples.{EndsWith, HoldsLocally};
 ghost use Rattle.model_machine.specs.ClassicalTriples.{Stands, TripleFor};
 ghost use Rattle.model_machine.specs.Blocks.{Followed};
@@ -32,7 +33,7 @@ ghost use Rattle.model_machine.specs.Behind.{Behind};
 /// beginning of a run does.
 pub fn a_run_begins_with_what_fits()
     ensures start { (ps : Procedures) (f : Procedure) (values : List Value) (roots : Trees)
-        → Sorted ps f.body → ValuesFit f.params values → Shaped (shape grove) roots
+        → is_sorted ps f.body ≡ true → ValuesFit f.params values → Shaped (shape grove) roots
         → FitsConfig ps (start f values roots) }
     ensures call { (params : List ProgVar) (arguments : List Term) (store : Store)
         → entering params arguments store
@@ -94,6 +95,20 @@ pub fn no_outcome_is_a_bad_pick()
         (config : Config) → outcome limits ps results fuel taken config ≡ no_pick → ⊥ }
 {}
 
+/// What runs stands in the bodies of the procedures: over any picks, a command that is pending is
+/// part of a body, and one that faults within the fuel is a command of a body.
+pub fn what_runs_stands_in_a_body()
+    ensures pending { (ps : Procedures) (f : Procedure) → Contains ps f → (values : List Value)
+        (roots : Trees) (picks : List Pick) (after : Config)
+        → after_picks ps picks (start f values roots) ≡ Some after
+        → (c : Command) → Contains after.pending (run c) → InSomeBody parts_of ps c }
+    ensures fault { (ps : Procedures) (limits : Limits) (f : Procedure) → Contains ps f
+        → (values : List Value) (roots : Trees) (results : List ProgVar) (fuel taken steps : ℕ)
+        (kind : FaultKind) (c : Command)
+        → outcome limits ps results fuel taken (start f values roots) ≡ has_fault kind steps c
+        → InSomeBody commands_in ps c }
+{}
+
 /// Behind each outcome within the fuel there is a run of as many steps; behind a limit that would
 /// be passed, one that is still running.
 pub fn outcomes_are_runs()
@@ -114,7 +129,7 @@ pub fn ends_plainly()
 /// context at the end can be computed. And a local triple is such a one.
 pub fn classical_triples_end_plainly()
     ensures plain { (ps : Procedures) (pre : Formula) (c : Command) (post : Formula) (d : DataSort)
-        → BodiesSorted ps → Sorted ps c → TripleFor ps (λ n. Unit) pre c post d
+        → BodiesSorted ps → is_sorted ps c ≡ true → TripleFor ps (λ n. Unit) pre c post d
         → HoldsLocally ps pre c post d }
     ensures classical { (ps : Procedures) (pre : Formula) (c : Command) (post : Formula)
         (d : DataSort) → HoldsLocally ps pre c post d → TripleFor ps (λ n. Unit) pre c post d }

@@ -1,6 +1,6 @@
 -- The form of a triple in which the rules are proved: from any grove in which the context stands
 -- round data that meets the formula, by the number of steps.
-use Rattle.std.proofs.Common.{ℕ, ◌≤◌, [], ◌∷◌, refl, subst}
+use Rattle.std.proofs.Common.{◌≡◌, true, ℕ, ◌≤◌, [], ◌∷◌, refl, subst}
 use mathlib.Core.HLevel.{Stable}
 use Rattle.model_shapes.specs.Sorts.{shape, context, DataSort, grove}
 use Rattle.model_shapes.specs.Trees.{Trees, fill}
@@ -12,8 +12,7 @@ use Rattle.model_formulas.proofs.Stable.{stable-not, stable-Shaped, stable-Prope
 use Rattle.model_terms.specs.Stores.{Store, lookup}
 use Rattle.model_commands.specs.Commands.{Command}
 use Rattle.model_commands.specs.Theories.{Procedures}
-use Rattle.model_commands.specs.Sorting.{Sorted}
-use Rattle.model_commands.specs.Sorting.{BodiesSorted}
+use Rattle.model_commands.specs.SortTests.{is_sorted, BodiesSorted}
 use Rattle.model_machine.specs.Fitting.{Fine, FitsConfig}
 use Rattle.model_machine.specs.Machine.{run, beginning, RunOutcome, running, ended, fault, picked_badly, runs}
 use Rattle.model_machine.specs.SameMoves.{SameOutcome}
@@ -98,7 +97,8 @@ module _ (ps : Procedures) (bodies : BodiesSorted ps) where
       → Well ps ⊥ n (At d around q e) (run c ∷ []) st g
 
   -- from the triple read classically
-  pub to_sound : (n : ℕ) (p : Formula) (c : Command) (q : Formula) (d : DataSort) → Sorted ps c
+  pub to_sound : (n : ℕ) (p : Formula) (c : Command) (q : Formula) (d : DataSort)
+      → is_sorted ps c ≡ true
       → TripleFor ps (UpTo n) p c q d → Sound n p c q d
   to_sound n p c q d so t e around wc st g a picks l =
       stable-Ends (At d around q e) (stable-At d around q e) (runs ps picks (beginning c st g))

@@ -15,19 +15,20 @@ use Rattle.model_formulas.specs.Satisfaction.{Environment, Meets, Entails, with_
 use Rattle.model_formulas.specs.Setting.{setting, setting_at}
 use Rattle.model_formulas.proofs.Quantified.{replacing-env}
 use Rattle.model_formulas.proofs.Substitutes.{meets-with}
-use Rattle.model_terms.specs.Stores.{ProgVar, named, as_var, same_name, sort_of, Store, set, value_in, lookup, value_of, Computes}
+use Rattle.model_terms.specs.Stores.{ProgVar, named, as_var, same_name, sort_of, Store, set, value_in, lookup, value_of}
+use Rattle.model_terms.specs.Computing.{Computes}
+use Rattle.model_terms.proofs.Computing.{evaluates-computes}
 use Rattle.model_groves.specs.Groves.{is_yes}
 use Rattle.model_commands.specs.Commands.{skip, block, assign, Block}
 use Rattle.model_commands.specs.Theories.{Procedures, Judgement, entails, triple}
-use Rattle.model_commands.specs.Sorting.{Sorted, BlockSorted}
-use Rattle.model_commands.specs.Sorting.{BodiesSorted}
-use Rattle.model_commands.specs.SortTests.{evaluates}
+use Rattle.model_commands.specs.CommandParts.{commands_in, commands_of}
+use Rattle.model_commands.specs.SortTests.{evaluates, has_command, is_sorted, BodiesSorted}
 use Rattle.model_machine.specs.Machine.{run, pieces_of}
 use Rattle.model_machine.specs.ClassicalTriples.{TripleFor}
 use Rattle.model_terms.proofs.StoreLaws.{value_in-set, same_name-not, set-proper, value-fits}
 use Rattle.model_commands.proofs.StoreLaws.{meaning-value, proper-store, other-store}
 use Rattle.model_machine.proofs.Runs.{Well, Well-less, at_end, at_step, at_zero, followed}
-use Rattle.model_files.proofs.FileTests.{sorted-command}
+use Rattle.model_commands.proofs.Sorting.{Tested, joint-tested, tested-block}
 use Rattle.model_rules.specs.Rows.{Chain, last_link, more_links, Row, skip_row, assign_row, seq_row}
 use Rattle.model_rules.proofs.Ends.{UpTo, At, At-map, Sound, to_sound, from_sound}
 
@@ -73,7 +74,7 @@ set-env x v st e = fun_ext at
 -- the command of a triple has parts of the right sorts
 abbrev pub JudgementSorted : Procedures → Judgement → Type 0
 JudgementSorted ps (entails p q s) = Unit
-JudgementSorted ps (triple p c q d) = Sorted ps c
+JudgementSorted ps (triple p c q d) = is_sorted ps c ≡ true
 
 -- a judgement holds for the runs of at most n steps
 abbrev pub HoldsUpTo : Procedures → ℕ → Judgement → Type 0
@@ -89,26 +90,33 @@ abbrev pub AllHold : Procedures → ℕ → List Judgement → Type 0
 AllHold ps n [] = Unit
 AllHold ps n (j ∷ js) = HoldsUpTo ps n j × AllHold ps n js
 
--- an assignment whose term is tested has parts of the right sorts
-assign-sorted : (ps : Procedures) (x : ProgVar) (t : Term) → IsTrue (evaluates (sort_of x) t)
+-- an assignment whose term is tested
+assign-computes : (x : ProgVar) (t : Term) → IsTrue (evaluates (sort_of x) t)
     → Computes (sort_of x) t
-assign-sorted ps x t e = sorted-command ps (assign x t)
-    (record { known = refl; fitting = rw e refl; apart = refl })
+assign-computes x t e = evaluates-computes (sort_of x) t (rw e refl)
 
 module _ (ps : Procedures) where
   -- the commands of a chain
-  chain-sorted : (d : DataSort) (js : List Judgement) (p : Formula) (b : Block) (q : Formula)
-      → Chain d js p b q → AllSorted ps js → BlockSorted ps b
-  chain-sorted d js p b q (last_link p1 q1 c) so = (so.0, tt)
-  chain-sorted d js p b q (more_links js1 p1 m q1 c b1 rest) so =
-      (so.0, chain-sorted d js1 m b1 q1 rest so.1)
+  chain-tested : (d : DataSort) (js : List Judgement) (p : Formula) (b : Block) (q : Formula)
+      → Chain d js p b q → AllSorted ps js → Tested ps (commands_of b)
+  chain-tested d js p b q (last_link p1 q1 c) so = joint-tested ps (commands_in c) [] so.0 refl
+  chain-tested d js p b q (more_links js1 p1 m q1 c b1 rest) so =
+      joint-tested ps (commands_in c) (commands_of b1) so.0
+      (chain-tested d js1 m b1 q1 rest so.1)
+
+  -- there is a command in it
+  chain-commands : (d : DataSort) (js : List Judgement) (p : Formula) (b : Block) (q : Formula)
+      → Chain d js p b q → has_command b ≡ true
+  chain-commands d js p b q (last_link p1 q1 c) = refl
+  chain-commands d js p b q (more_links js1 p1 m q1 c b1 rest) = refl
 
   -- what the conclusion of a row says has parts of the right sorts
   pub row-sorted : {name : List ℕ} {arguments : List Term} {js : List Judgement} {j : Judgement}
       → Row name arguments js j → AllSorted ps js → JudgementSorted ps j
-  row-sorted (skip_row p d) so = tt
-  row-sorted (assign_row q x t d e) so = assign-sorted ps x t e
-  row-sorted (seq_row js p q b d chain) so = chain-sorted d js p b q chain so
+  row-sorted (skip_row p d) so = refl
+  row-sorted (assign_row q x t d e) so = rw e refl
+  row-sorted (seq_row js p q b d chain) so =
+      tested-block ps b (chain-commands d js p b q chain) (chain-tested d js p b q chain so)
 
 module _ (ps : Procedures) (bodies : BodiesSorted ps) where
   -- SKIP
@@ -169,6 +177,6 @@ module _ (ps : Procedures) (bodies : BodiesSorted ps) where
   row-sound n (skip_row p d) so h = from_sound ps bodies n p skip p d (skip-sound n p d)
   row-sound n (assign_row q x t d e) so h =
       from_sound ps bodies n (formula_with (replacing (as_var x) t) q) (assign x t) q d
-      (assign-sound n q x t d (assign-sorted ps x t e))
+      (assign-sound n q x t d (assign-computes x t e))
   row-sound n (seq_row js p q b d chain) so h =
       from_sound ps bodies n p (block b) q d (seq-sound n js p b q d chain so h)

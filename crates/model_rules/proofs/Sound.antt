@@ -2,8 +2,7 @@
 use Rattle.std.proofs.Common.{◌≡◌, ℕ, List, [], ◌∷◌, ◌++◌, length, Bool, true, false, cond, ◌==◌, Some, subst, arith, bytes_eq}
 use Rattle.model_terms.specs.Terms.{Term}
 use Rattle.model_commands.specs.Theories.{Judgement, own_triple, Reason, auto, by_rule, Step, Procedure, Procedures, Theory, procedures_of, procedure_named}
-use Rattle.model_commands.specs.Sorting.{Sorted}
-use Rattle.model_commands.specs.Sorting.{BodiesSorted}
+use Rattle.model_commands.specs.SortTests.{is_sorted, BodiesSorted}
 use Rattle.model_machine.specs.LocalTriples.{MeetsItsSpecification}
 use Rattle.model_machine.proofs.Plain.{classical-plain}
 use Rattle.model_rules.specs.Rows.{Row}
@@ -74,7 +73,7 @@ of-sorted : (ps : Procedures) (js : List Judgement) → Of (JudgementSorted ps) 
 of-sorted ps [] h = tt
 of-sorted ps (j ∷ js) h = (h.0, of-sorted ps js h.1)
 
-body-sorted : (ps : Procedures) (f : Procedure) → IsProved f → Sorted ps f.body
+body-sorted : (ps : Procedures) (f : Procedure) → IsProved f → is_sorted ps f.body ≡ true
 body-sorted ps f proved = of-proved (JudgementSorted ps)
     (λ name arguments js j row h. row-sorted ps row (of-sorted ps js h)) f proved
 

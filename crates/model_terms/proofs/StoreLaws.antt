@@ -5,7 +5,8 @@ use Rattle.model_shapes.specs.Values.{Value, FitsValue}
 use Rattle.model_terms.specs.Variables.{prog, logic, bound}
 use Rattle.model_terms.specs.Terms.{Term, literal, variable, sum, difference, appended}
 use Rattle.model_terms.specs.VariableTests.{same_var-is, same_var-refl}
-use Rattle.model_terms.specs.Stores.{ProgVar, named, as_var, sort_of, default, Store, unset, holding, same_name, value_in, set, lookup, ProperStore, value_of, Computes}
+use Rattle.model_terms.specs.Stores.{ProgVar, named, as_var, sort_of, default, Store, unset, holding, same_name, value_in, set, lookup, ProperStore, value_of}
+use Rattle.model_terms.specs.Computing.{Computes}
 
 -- the test of program variables says that they are equal
 pub same_name-is : (x y : ProgVar) → same_name x y ≡ true → x ≡ y

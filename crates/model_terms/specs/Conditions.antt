@@ -1,11 +1,12 @@
--- Conditions of commands, their truth in a store, and the formula of a condition.
--- All are the language's own; formulas of conditions are those of the rules for choice and loops.
-use Rattle.std.specs.Prelude.{◌≡◌, int_le, Bool, true, false, not, ◌&&◌, ◌||◌}
-use Rattle.model_shapes.specs.Sorts.{ValueSort, int_sort, bool_sort}
+-- Conditions of commands, their truth in a store, their terms and their sorts. All are the
+-- language's own.
+use Rattle.std.specs.Prelude.{int_le, List, [], ◌∷◌, ◌++◌, Bool, true, false, not, ◌&&◌, ◌||◌}
+use Rattle.model_shapes.specs.Sorts.{int_sort, bool_sort}
 use Rattle.model_shapes.specs.Values.{Value, boolean}
-use Rattle.model_terms.specs.Terms.{Term}
-use Rattle.model_shapes.specs.Tests.{same_value}
-use Rattle.model_terms.specs.Stores.{ProgVar, sort_of, Store, value_in, value_of, int_in, Computes}
+use Rattle.model_shapes.specs.Tests.{same_value, same_value_sort}
+use Rattle.model_terms.specs.Terms.{Term, variable}
+use Rattle.model_terms.specs.TermSorts.{evaluates, evaluate_alike}
+use Rattle.model_terms.specs.Stores.{ProgVar, as_var, sort_of, Store, value_in, value_of, int_in}
 
 -- true, false, a bool variable, E = F, E <= F, (not B), (B and C), (B or C)
 pub data Cond : Type 0 where
@@ -31,13 +32,24 @@ truth_of store (cond_not c) = not (truth_of store c)
 truth_of store (cond_and c d) = truth_of store c && truth_of store d
 truth_of store (cond_or c d) = truth_of store c || truth_of store d
 
--- a condition of a command: well sorted and without logic variables
-abbrev pub Tests : Cond → Type 0
-Tests cond_true = Unit
-Tests cond_false = Unit
-Tests (cond_variable x) = sort_of x ≡ bool_sort
-Tests (cond_equal a b) = (s : ValueSort) × Computes s a × Computes s b
-Tests (cond_at_most a b) = Computes int_sort a × Computes int_sort b
-Tests (cond_not c) = Tests c
-Tests (cond_and c d) = Tests c × Tests d
-Tests (cond_or c d) = Tests c × Tests d
+-- the terms of a condition, from left to right
+abbrev pub terms_of_cond : Cond → List Term
+terms_of_cond cond_true = []
+terms_of_cond cond_false = []
+terms_of_cond (cond_variable x) = variable (as_var x) ∷ []
+terms_of_cond (cond_equal a b) = a ∷ b ∷ []
+terms_of_cond (cond_at_most a b) = a ∷ b ∷ []
+terms_of_cond (cond_not c) = terms_of_cond c
+terms_of_cond (cond_and c d) = terms_of_cond c ++ terms_of_cond d
+terms_of_cond (cond_or c d) = terms_of_cond c ++ terms_of_cond d
+
+-- a condition of a command: its parts have the right sorts, and no logic variables
+abbrev pub condition_sorted : Cond → Bool
+condition_sorted cond_true = true
+condition_sorted cond_false = true
+condition_sorted (cond_variable x) = same_value_sort (sort_of x) bool_sort
+condition_sorted (cond_equal a b) = evaluate_alike a b
+condition_sorted (cond_at_most a b) = evaluates int_sort a && evaluates int_sort b
+condition_sorted (cond_not c) = condition_sorted c
+condition_sorted (cond_and c d) = condition_sorted c && condition_sorted d
+condition_sorted (cond_or c d) = condition_sorted c && condition_sorted d

@@ -1,6 +1,6 @@
 -- Program variables, stores, and the values of terms in a store, after PODS 2008.
 -- Integers have no bounds here, and a variable that was never set has its sort's default.
-use Rattle.std.specs.Prelude.{◌≡◌, ◌++◌, [], ℤ, pos, ◌+ℤ◌, ◌-ℤ◌, Bool, false, cond}
+use Rattle.std.specs.Prelude.{◌++◌, [], ℤ, pos, ◌+ℤ◌, ◌-ℤ◌, Bool, false, cond}
 use Rattle.model_shapes.specs.Sorts.{ValueSort, node_sort, list_sort, int_sort, str_sort, bool_sort}
 use Rattle.model_shapes.specs.Values.{Name, Text, Value, null, nolist, int, str, boolean, FitsValue}
 use Rattle.model_terms.specs.VariableTests.{same_var}
@@ -74,13 +74,3 @@ value_of store (variable (bound i s)) = null
 value_of store (sum a b) = int (int_in (value_of store a) +ℤ int_in (value_of store b))
 value_of store (difference a b) = int (int_in (value_of store a) -ℤ int_in (value_of store b))
 value_of store (appended a b) = str (text_in (value_of store a) ++ text_in (value_of store b))
-
--- a term of a command: well sorted, of this sort, and without logic variables
-abbrev pub Computes : ValueSort → Term → Type 0
-Computes s (literal v) = FitsValue s v
-Computes s (variable (prog x u)) = u ≡ s
-Computes s (variable (logic x u)) = ⊥
-Computes s (variable (bound i u)) = ⊥
-Computes s (sum a b) = (s ≡ int_sort) × Computes int_sort a × Computes int_sort b
-Computes s (difference a b) = (s ≡ int_sort) × Computes int_sort a × Computes int_sort b
-Computes s (appended a b) = (s ≡ str_sort) × Computes str_sort a × Computes str_sort b

@@ -5,4 +5,4 @@ use Rattle.grove_data.proofs.finding.has_root.Given as goal
 
 abbrev pub invariant-loop-tree : goal.invariant-loop-tree
 invariant-loop-tree l =
-    has_root l.id (forest_of l.grove) ≡ has_root l.id (forest_of (drop l.tree-index l.tree-items))
+    has_root l.id (forest_of l.forest) ≡ has_root l.id (forest_of (drop l.tree-index l.tree-items))
