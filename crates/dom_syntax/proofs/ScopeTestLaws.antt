@@ -8,10 +8,13 @@ use Rattle.dom_terms.specs.Sorts.{value_sort_of, sort_of}
 use Rattle.dom_terms.specs.declared.sorts.ValueSort.{ValueSort}
 use Rattle.dom_terms.specs.declared.sorts.Sort.{Sort}
 use Rattle.dom_syntax.specs.declared.scopes.Scope.{Scope}
+use Rattle.model_commands.specs.Theories.{procedure_named}
+use Rattle.dom_syntax.specs.declared.scopes.Names.{Names}
+use Rattle.dom_syntax.specs.Callees.{callee_of}
 use Rattle.dom_syntax.specs.Tables.{found}
-use Rattle.dom_syntax.specs.Scopes.{IsScope, names_in, procedure_in}
+use Rattle.dom_syntax.specs.Scopes.{HasNames, IsScope, callees_in, names_in, procedure_in}
 use Rattle.dom_syntax.specs.ScopeTests.{sort_fits, logic_sort_fits}
-use Rattle.dom_syntax.proofs.ScopeLaws.{known-prog, known-logic, as-declared-prog, as-declared-logic}
+use Rattle.dom_syntax.proofs.ScopeLaws.{first-procedure, known-prog, known-logic, as-declared-prog, as-declared-logic}
 
 some-seen : {V W : Type 0} (seen : V → W) (o : Option V) → is_some o ≡ is_some (option_map seen o)
 some-seen seen None = refl
@@ -49,5 +52,11 @@ module _ (scope : Scope) (is : IsScope scope) (name : List ℕ) where
       ∙ sym (as-declared-logic name s (declared_by (procedure_in scope))
       scope.names.now.theory.now.logic)
 
+-- what a table of procedures has is the first of the name
+pub called : (names : Names) → HasNames names → (name : List ℕ)
+    → option_map callee_of (found names.procedures name) ≡ procedure_named name (callees_in names)
+called names has name = has.procedures.first name ∙ first-procedure (callees_in names) name
+
+pub ruleset callee_rules = (called)
 pub ruleset known_rules = (prog-known, logic-known)
 pub ruleset declared_rules = (prog-declared, logic-declared)

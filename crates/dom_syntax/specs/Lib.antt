@@ -5,3 +5,7 @@ pub mod VariableSets
 pub mod Callees
 pub mod Scopes
 pub mod ScopeTests
+pub mod Fresh
+pub mod Contents
+pub mod Heads
+pub mod Modified

@@ -1,6 +1,6 @@
 -- Needn't be believed: the promises speak of scopes by the definition of file faults. Which program
 -- variables a formula of a header may have, as a test of one variable.
-use Rattle.std.specs.Prelude.{Bool, true, false, List, ◌++◌, cond, Option, Some, None}
+use Rattle.std.specs.Prelude.{Bool, true, false, not, List, ◌++◌, cond, Option, Some, None}
 use Rattle.model_shapes.specs.Sorts.{ValueSort, Sort}
 use Rattle.model_shapes.specs.Tests.{same_value_sort, same_sort}
 use Rattle.model_terms.specs.Variables.{Var, prog}
@@ -13,6 +13,11 @@ use Rattle.dom_syntax.specs.Scopes.{procedure_in}
 abbrev pub may_stand : List ProgVar → Var → Bool
 may_stand allowed (prog name s) = is_among allowed (named name s)
 may_stand allowed x = true
+
+-- a variable that is none of these
+abbrev pub stands_outside : List ProgVar → Var → Bool
+stands_outside variables (prog name s) = not (is_among variables (named name s))
+stands_outside variables x = true
 
 -- the parameters of the procedure, and its results where they are allowed as well
 abbrev pub allowed_in : Scope → Bool → List ProgVar

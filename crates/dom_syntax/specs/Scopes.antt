@@ -31,10 +31,14 @@ logic_entry x = (x.name, sort_of x.sort)
 abbrev pub theory_in : Names → model.Theory
 theory_in names = theory_of names.theory.now
 
+-- the procedures that calls may enter
+abbrev pub callees_in : Names → model.Procedures
+callees_in names = model.procedures_of (theory_in names)
+
 -- the tables are those of the theory
 pub record HasNames (names : Names) : Type 0 where
   pub procedures : Declares callee_of names.procedures
-      (map procedure_entry (model.procedures_of (theory_in names)))
+      (map procedure_entry (callees_in names))
   pub logic : Declares sort_of names.logic (map logic_entry names.theory.now.logic)
 
 -- the local variables of the commands of a block

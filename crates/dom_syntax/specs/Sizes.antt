@@ -20,11 +20,14 @@ abbrev pub AreStepsSmall : List (StepOf Named) → Type 0
 AreStepsSmall [] = Unit
 AreStepsSmall (step ∷ steps) = IsJudgementSmall step.judgement × AreStepsSmall steps
 
+-- each formula of the procedure has
+abbrev pub IsProcedureSmall : ProcedureOf Named → Type 0
+IsProcedureSmall f = HasFewParts f.pre × HasFewParts f.post × AreStepsSmall f.proof
+
 -- each formula of the procedures has
 abbrev pub AreProceduresSmall : List (ProcedureOf Named) → Type 0
 AreProceduresSmall [] = Unit
-AreProceduresSmall (f ∷ fs) =
-    (HasFewParts f.pre × HasFewParts f.post × AreStepsSmall f.proof) × AreProceduresSmall fs
+AreProceduresSmall (f ∷ fs) = IsProcedureSmall f × AreProceduresSmall fs
 
 -- the theory is small enough
 abbrev pub IsTheorySmall : Theory → Type 0

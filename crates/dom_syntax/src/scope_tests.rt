@@ -1,8 +1,7 @@
-// Tests of variables against the names that may be used: known, declared with their sorts, some of
-// the parameters or results, and of the program.
+// Tests of variables against the names that may be used: known, declared with their sorts, and some
+// of the parameters or results.
 ghost use Rattle.std.specs.Prelude.{◌++◌, cond, true};
 ghost use Rattle.model_terms.specs.Variables.{Var};
-ghost use Rattle.model_commands.specs.SortTests.{is_program};
 ghost use Rattle.model_files.specs.FileFaults.{is_as_declared, is_known};
 ghost use Rattle.dom_syntax.specs.Scopes.{IsScope, names_in};
 ghost use Rattle.dom_syntax.specs.ScopeTests.{allowed_in, may_stand};
@@ -12,6 +11,7 @@ use crate::variable_tests::VariableTest;
 use dom_terms::{LogicVar, ProgVar, same_sort, same_value_sort};
 
 /// Whether the name of the variable is declared.
+#[derive(Drop)]
 pub(crate) struct Known<'a>(pub(crate) &'a Scope<'a>);
 
 impl<'a> VariableTest for Known<'a> {
@@ -31,6 +31,7 @@ impl<'a> VariableTest for Known<'a> {
 }
 
 /// Whether the variable has the sort with which its name is declared first, if it is declared.
+#[derive(Drop)]
 pub(crate) struct AsDeclared<'a>(pub(crate) &'a Scope<'a>);
 
 impl<'a> VariableTest for AsDeclared<'a> {
@@ -57,6 +58,7 @@ impl<'a> VariableTest for AsDeclared<'a> {
 
 /// Whether the variable, if it is one of the program, is a parameter or, where results are allowed
 /// as well, a result.
+#[derive(Drop)]
 pub(crate) struct OnlyAmong<'a> {
     pub(crate) scope: &'a Scope<'a>,
     pub(crate) takes_results: bool,
@@ -74,22 +76,5 @@ impl<'a> VariableTest for OnlyAmong<'a> {
 
     fn takes_logic(&self, _variable: &LogicVar) -> bool {
         true
-    }
-}
-
-/// Whether the variable is one of the program.
-pub(crate) struct OfProgram;
-
-impl VariableTest for OfProgram {
-    ghost ready = { λ _. Unit };
-
-    ghost test = { λ _ x. is_program x };
-
-    fn takes_prog(&self, _variable: &ProgVar) -> bool {
-        true
-    }
-
-    fn takes_logic(&self, _variable: &LogicVar) -> bool {
-        false
     }
 }

@@ -1,8 +1,10 @@
 // The names of a theory, and those that may be used in one of its procedures.
 ghost use Rattle.std.specs.Prelude.{◌≡◌, List, ◌++◌, map, IfOk, OnOk};
+ghost use Rattle.std.specs.Option.{option_map};
 ghost use Rattle.model_shapes.specs.Sorts as sorts;
 ghost use Rattle.model_commands.specs.CommandParts.{locals_of};
 ghost use Rattle.model_commands.specs.Theories as model;
+ghost use Rattle.model_commands.specs.Theories.{procedure_named};
 ghost use Rattle.model_files.specs.FileFaults.{declared_by};
 ghost use Rattle.dom_terms.specs.Sorts.{sort_of, value_sort_of};
 ghost use Rattle.dom_terms.specs.Terms.{prog_var_of};
@@ -10,12 +12,12 @@ ghost use Rattle.theory_syntax.specs.Commands.{block_of, command_of};
 ghost use Rattle.theory_syntax.specs.Theories.{procedure_of, theory_of};
 ghost use Rattle.dom_syntax.specs.Tables.{Declaration, Declares};
 ghost use Rattle.dom_syntax.specs.Callees.{callee_of, procedure_entry};
-ghost use Rattle.dom_syntax.specs.Scopes.{HasNames, IsScope, block_locals, logic_entry};
-ghost use Rattle.dom_syntax.specs.Scopes.{variable_entry};
+ghost use Rattle.dom_syntax.specs.Scopes.{HasNames, IsScope, block_locals, callees_in};
+ghost use Rattle.dom_syntax.specs.Scopes.{logic_entry, variable_entry};
 
 use crate::tables::{Declared, Table};
 use crate::variable_sets::VariableSet;
-use dom_terms::{LogicVar, OutOfMemory, ProgVar, Sort, ValueSort};
+use dom_terms::{LogicVar, OutOfMemory, ProgVar, Sort, Text, ValueSort};
 use std::alloc::Global;
 use theory_syntax::{Block, Command, Procedure, Theory};
 
@@ -101,6 +103,15 @@ impl<'a> Names<'a> {
             procedures: procedure_table(alloc, theory.procedures.as_slice())?,
             logic: logic_table(alloc, theory.logic.as_slice())?,
         })
+    }
+
+    /// The first procedure of the name.
+    #[tactic(auto, using(crate::proofs::ScopeTestLaws::callee_rules))]
+    pub(crate) fn callee(&self, name: &Text) -> Option<&'a Procedure>
+        requires { HasNames self.now }
+        ensures { option_map callee_of result ≡ procedure_named name.now (callees_in self.now) }
+    {
+        self.procedures.get(name.as_str())
     }
 }
 
