@@ -1,5 +1,5 @@
 -- How the first fault of a theory is found place by place.
-use Rattle.std.proofs.Common.{◌≡◌, ◌∙◌, sym, refl, ap, subst, ℕ, suc, ◌+◌, ◌<◌, ◌≤◌, List, [], ◌∷◌, ◌++◌, map, length, get_or, drop, drop-cons, add-one, Bool, true, false, not, ◌&&◌, ◌||◌, cond, bytes_eq, Result, Ok, Err, Option, Some, None, is_some, is_none, arith}
+use Rattle.std.proofs.Common.{◌≡◌, ◌∙◌, sym, refl, ap, subst, ℕ, zero, suc, ◌+◌, ◌<◌, ◌≤◌, List, [], ◌∷◌, ◌++◌, map, length, get_or, drop, drop-cons, add-one, Bool, true, false, not, ◌&&◌, ◌||◌, cond, bytes_eq, Result, Ok, Err, Option, Some, None, is_some, is_none, slice_get, arith}
 use Rattle.std.specs.List.{list_any}
 use Rattle.std.specs.Option.{option_map}
 use Rattle.model_terms.specs.TermLimits.{or_else}
@@ -166,3 +166,81 @@ one-earlier table new earlier h f name e more = (
 
 pub none-earlier : (table : Table Unit) → Declares (λ u. u) table [] → IsEarlier table []
 none-earlier table h = ([], h, λ q. refl)
+
+-- WALKS: what an early return gives
+pub refused : (r : Result Unit ProgramFault) (y e : ProgramFault) (o : Option FileFault)
+    → r ≡ Err y → y ≡ e → FaultReports e o → Reports r o
+refused r y e o a b h = subst (λ x. Reports x o) (sym (a ∙ ap Err b)) h
+
+module _ (theory : Theory) where
+  -- a step at fault, and one that is none
+  module _ (number : ℕ) (f : ProcedureOf Named) (place : ℕ) (xs : List Step) (i : ℕ) (x : Step)
+      (lt : i < length xs) (is : x ≡ get_or xs i x) (whole : Option FileFault)
+      (h : whole ≡ first_fault_at (steps_from theory number f place (map step_of (drop i xs)))) where
+    pub step-bad : (e : ProgramFault)
+        → FaultReports e (step_fault number place (step_kind theory f place (step_of x)))
+        → FaultReports e whole
+    step-bad e r =
+        subst (FaultReports e) (sym (h ∙ steps-here theory number f place xs i x lt is))
+        (fault-first e (step_fault number place (step_kind theory f place (step_of x)))
+        (first_fault_at (steps_from theory number f (place + 1) (map step_of (drop (i + 1) xs)))) r)
+
+    pub step-fine : step_fault number place (step_kind theory f place (step_of x)) ≡ None
+        → whole ≡ first_fault_at (steps_from theory number f (place + 1)
+        (map step_of (drop (i + 1) xs)))
+    step-fine none =
+        h ∙ steps-here theory number f place xs i x lt is
+        ∙ (λ j. or_else (none j) (first_fault_at (steps_from theory number f (place + 1)
+        (map step_of (drop (i + 1) xs)))))
+
+  -- a header at fault, and one that is none
+  module _ (earlier : List (ProcedureOf Named)) (number : ℕ) (f : ProcedureOf Named) where
+    pub head-bad : (e : ProgramFault) → FaultReports e (step_fault number 0 (head_kind theory earlier f))
+        → FaultReports e (first_fault_at (places_of theory earlier number f))
+    head-bad e r =
+        subst (FaultReports e)
+        (sym (place-first (record { procedure = number; step = 0; passes = header theory earlier f })
+        (steps_from theory number f 1 f.proof)))
+        (fault-first e (step_fault number 0 (head_kind theory earlier f))
+        (first_fault_at (steps_from theory number f 1 f.proof)) r)
+
+    pub head-fine : (r : Result Unit ProgramFault)
+        → step_fault number 0 (head_kind theory earlier f) ≡ None
+        → Reports r (first_fault_at (steps_from theory number f 1 f.proof))
+        → Reports r (first_fault_at (places_of theory earlier number f))
+    head-fine r none k =
+        subst (λ o. Reports r o)
+        (sym (place-first (record { procedure = number; step = 0; passes = header theory earlier f })
+        (steps_from theory number f 1 f.proof)
+        ∙ (λ j. or_else (none j) (first_fault_at (steps_from theory number f 1 f.proof))))) k
+
+  -- a procedure at fault, and one that is none
+  module _ (earlier : List (ProcedureOf Named)) (number : ℕ) (xs : List Procedure) (i : ℕ)
+      (x : Procedure) (lt : i < length xs) (is : x ≡ get_or xs i x) (whole : Option FileFault)
+      (h : whole ≡ first_fault_at (procedures_from theory earlier number
+      (map procedure_of (drop i xs)))) where
+    pub procedure-bad : (e : ProgramFault)
+        → FaultReports e (first_fault_at (places_of theory earlier number (procedure_of x)))
+        → FaultReports e whole
+    procedure-bad e r =
+        subst (FaultReports e) (sym (h ∙ procedures-here theory earlier number xs i x lt is))
+        (fault-first e (first_fault_at (places_of theory earlier number (procedure_of x)))
+        (first_fault_at (procedures_from theory (procedure_of x ∷ earlier) (number + 1)
+        (map procedure_of (drop (i + 1) xs)))) r)
+
+    pub procedure-fine :
+        first_fault_at (places_of theory earlier number (procedure_of x)) ≡ None
+        → whole ≡ first_fault_at (procedures_from theory (procedure_of x ∷ earlier) (number + 1)
+        (map procedure_of (drop (i + 1) xs)))
+    procedure-fine none =
+        h ∙ procedures-here theory earlier number xs i x lt is
+        ∙ (λ j. or_else (none j) (first_fault_at (procedures_from theory
+        (procedure_of x ∷ earlier) (number + 1) (map procedure_of (drop (i + 1) xs)))))
+
+-- the procedure at an index
+pub procedure-at : (xs : List Procedure) (k : ℕ) (x : Procedure) (f : ProcedureOf Named)
+    → k < length xs → x ≡ get_or xs k x → slice_get (map procedure_of xs) k ≡ Some f
+    → procedure_of x ≡ f
+procedure-at [] k x f lt is at = absurd (omega arith)
+procedure-at (y ∷ ys) zero x f lt is at = let e : Some (procedure_of y) ≡ Some f = at in cc
+procedure-at (y ∷ ys) (suc k) x f lt is at = procedure-at ys k x f (omega arith) is at
