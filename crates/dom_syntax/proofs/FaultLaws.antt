@@ -5,7 +5,7 @@ use Rattle.std.specs.Option.{option_map}
 use Rattle.model_terms.specs.TermLimits.{or_else}
 use Rattle.model_formulas.specs.Formulas.{Named}
 use Rattle.model_commands.specs.Theories.{ProcedureOf, StepOf, Theory}
-use Rattle.model_files.specs.FileFaults.{FileKind, FileFault, Place, first_kind, fault_or, first_fault_at, header, head_kind, step_kind, proof_step, steps_from, procedures_from, twice_kind, share_name, declared_by}
+use Rattle.model_files.specs.FileFaults.{FileKind, FileFault, Place, first_kind, fault_or, first_fault_at, header, head_kind, step_kind, proof_step, steps_from, procedures_from, twice_kind, share_name, declared_by, declarations, first_file_fault}
 use Rattle.model_terms.specs.Stores.{as_var}
 use Rattle.model_commands.specs.SortTests.{distinct_by}
 use Rattle.model_files.specs.FileLimits.{step_count}
@@ -244,3 +244,25 @@ pub procedure-at : (xs : List Procedure) (k : ℕ) (x : Procedure) (f : Procedur
 procedure-at [] k x f lt is at = absurd (omega arith)
 procedure-at (y ∷ ys) zero x f lt is at = let e : Some (procedure_of y) ≡ Some f = at in cc
 procedure-at (y ∷ ys) (suc k) x f lt is at = procedure-at ys k x f (omega arith) is at
+
+-- the version or a logic declaration at fault
+pub theory-bad : (theory : Theory) (e : ProgramFault)
+    → FaultReports e (step_fault 0 0 (first_kind (declarations theory)))
+    → FaultReports e (first_file_fault theory)
+theory-bad theory e r =
+    subst (FaultReports e)
+    (sym (place-first (record { procedure = 0; step = 0; passes = declarations theory })
+    (procedures_from theory [] 1 theory.procedures)))
+    (fault-first e (step_fault 0 0 (first_kind (declarations theory)))
+    (first_fault_at (procedures_from theory [] 1 theory.procedures)) r)
+
+-- none of them
+pub theory-fine : (theory : Theory) (r : Result Unit ProgramFault)
+    → step_fault 0 0 (first_kind (declarations theory)) ≡ None
+    → Reports r (first_fault_at (procedures_from theory [] 1 theory.procedures))
+    → Reports r (first_file_fault theory)
+theory-fine theory r none k =
+    subst (λ o. Reports r o)
+    (sym (place-first (record { procedure = 0; step = 0; passes = declarations theory })
+    (procedures_from theory [] 1 theory.procedures)
+    ∙ (λ j. or_else (none j) (first_fault_at (procedures_from theory [] 1 theory.procedures))))) k
