@@ -266,3 +266,10 @@ theory-fine theory r none k =
     (sym (place-first (record { procedure = 0; step = 0; passes = declarations theory })
     (procedures_from theory [] 1 theory.procedures)
     ∙ (λ j. or_else (none j) (first_fault_at (procedures_from theory [] 1 theory.procedures))))) k
+
+-- nothing is found where something isn't
+pub nothing-found : (o : Option Unit) (b : Bool) → is_some o ≡ not b → b ≡ is_none o
+nothing-found None true e = refl
+nothing-found None false e = absurd (cc)
+nothing-found (Some u) true e = absurd (cc)
+nothing-found (Some u) false e = refl

@@ -5,14 +5,15 @@ use Rattle.model_files.specs.FileFaults.{first_fault_at, procedures_from}
 use Rattle.theory_syntax.specs.Theories.{procedure_of}
 use Rattle.dom_syntax.specs.Scopes.{theory_in}
 use Rattle.dom_syntax.specs.Tables.{found}
-use Rattle.dom_syntax.proofs.FaultLaws.{refused, new-name, one-earlier, procedure-bad, procedure-fine, small-procedures, count-procedures}
+use Rattle.dom_syntax.proofs.FaultLaws.{nothing-found, refused, new-name, one-earlier, procedure-bad, procedure-fine, small-procedures, count-procedures}
 use Rattle.dom_syntax.proofs.programs.check_procedures.Goals as goal
 
 pub returns-in_err-check_procedure : goal.returns-in_err-check_procedure
 returns-in_err-check_procedure c =
     let p = err_from_is_err_and c.from_residual.result c.from_residual.ensures.1 in
     let inv = c.loop-procedure.invariant in
-    let new = sym (c.is_none-is_new.ensures ∙ ap is_none c.get.ensures
+    let new = sym (nothing-found c.get.result c.is_none-is_new.result c.is_none-is_new.ensures
+    ∙ ap is_none c.get.ensures
     ∙ (λ j. is_none (found c.loop-procedure.earlier (c.as_str.ensures j)))
     ∙ new-name c.loop-procedure.earlier inv.passed inv.before c.procedure-item.result.name) in
     let theory = theory_in c.args.names.now in
@@ -27,7 +28,8 @@ returns-in_err-check_procedure c =
 pub loop-procedure-preserved : goal.loop-procedure-preserved
 loop-procedure-preserved c =
     let inv = c.loop-procedure.invariant in
-    let new = sym (c.is_none-is_new.ensures ∙ ap is_none c.get.ensures
+    let new = sym (nothing-found c.get.result c.is_none-is_new.result c.is_none-is_new.ensures
+    ∙ ap is_none c.get.ensures
     ∙ (λ j. is_none (found c.loop-procedure.earlier (c.as_str.ensures j)))
     ∙ new-name c.loop-procedure.earlier inv.passed inv.before c.procedure-item.result.name) in
     let theory = theory_in c.args.names.now in
