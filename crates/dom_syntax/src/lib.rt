@@ -4,9 +4,29 @@
 //! Stands on the types of theories.
 #![tactic(auto)]
 
+mod command_tests;
+mod cond_formulas;
+mod contents;
 mod kinds;
+mod limits;
+mod modifying;
+mod own_variables;
+mod part_tests;
+mod places;
+mod programs;
+mod rule_names;
+mod scope_tests;
+mod scopes;
+mod sort_tests;
+mod tables;
+mod variable_sets;
+mod variable_tests;
 
+pub use cond_formulas::cond_formula;
 pub use kinds::FileKind;
+pub use limits::variables_within;
+pub use modifying::modified;
+pub use programs::{ProgramFault, check_one, check_program};
 pub use theory_syntax::{
     Block, Command, Judgement, Procedure, Procedures, Reason, Step, Steps, Theory, Triple,
     same_command,

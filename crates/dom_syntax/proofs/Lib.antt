@@ -1,0 +1,14 @@
+pub mod TableLaws
+pub mod Gathered
+pub mod VariableSetLaws
+pub mod ScopeLaws
+pub mod ScopeTestLaws
+pub mod SortTestLaws
+pub mod FreshLaws
+pub mod PartTestLaws
+pub mod ContentLaws
+pub mod PlaceLaws
+pub mod CondFormulaLaws
+pub mod LimitLaws
+pub mod FaultLaws
+pub mod ModifiedLaws

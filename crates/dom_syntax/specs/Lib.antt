@@ -1,0 +1,11 @@
+pub mod Faults
+pub mod Sizes
+pub mod Tables
+pub mod VariableSets
+pub mod Callees
+pub mod Scopes
+pub mod ScopeTests
+pub mod Fresh
+pub mod Contents
+pub mod Heads
+pub mod Modified

@@ -1,0 +1,295 @@
+// The places of a theory, and the first kind of fault at one.
+ghost use Rattle.std.specs.Prelude.{◌≡◌, ◌&&◌, ◌++◌, Bool, map, IfOk};
+ghost use Rattle.std.specs.Option.{option_map};
+ghost use Rattle.std.specs.List.{list_all};
+ghost use Rattle.model_shapes.specs.Sorts.{shape};
+ghost use Rattle.model_commands.specs.CommandParts.{arguments_of, variables_of};
+ghost use Rattle.model_files.specs.FileFaults as model;
+ghost use Rattle.dom_terms.specs.Sorts.{sort_of};
+ghost use Rattle.dom_terms.specs.Terms.{logic_var_of, term_of};
+ghost use Rattle.formula_syntax.specs.Formulas.{formula_of};
+ghost use Rattle.theory_syntax.specs.Judgements.{judgement_of, reason_of, step_of};
+ghost use Rattle.dom_syntax.specs.Contents.{commands_there, variables_in};
+ghost use Rattle.dom_syntax.specs.Faults.{kind_of};
+ghost use Rattle.dom_syntax.specs.Heads.{earlier_for};
+ghost use Rattle.dom_syntax.specs.Scopes.{HasNames, IsScope, procedure_in, theory_in};
+ghost use Rattle.dom_syntax.specs.Sizes.{HasFewParts, IsJudgementSmall};
+
+use crate::contents::Contents;
+use crate::kinds::FileKind;
+use crate::part_tests::{CalleeKnown, PartsFit, ResultsApart, Spares};
+use crate::rule_names::is_rule_name;
+use crate::scope_tests::{AsDeclared, Known, OnlyAmong};
+use crate::scopes::{Names, Scope};
+use crate::sort_tests::{is_sort, is_step_argument};
+use crate::variable_tests::all_in_formula;
+use dom_terms::{LogicVar, OutOfMemory, Sort, Term};
+use formula_syntax::{Formula, sorted_as};
+use std::alloc::Global;
+use theory_syntax::{Judgement, Reason, Step};
+
+// The kinds in the order in which they count at one place.
+const KINDS: [FileKind; 9] = [
+    FileKind::Version,
+    FileKind::Twice,
+    FileKind::Unknown,
+    FileKind::Sort,
+    FileKind::Constant,
+    FileKind::Results,
+    FileKind::Scope,
+    FileKind::Rule,
+    FileKind::Number,
+];
+
+/// A place of a theory, which is tested for each kind.
+pub(crate) trait Place {
+    // the tests may be asked
+    ghost ready: { Self → Type 0 };
+
+    // there is no fault of the kind
+    ghost tests: { Self → model.FileKind → Bool };
+
+    /// Whether there is no fault of the kind.
+    fn passes(&self, kind: FileKind) -> Result<bool, OutOfMemory>
+        requires { ready self.now }
+        ensures { IfOk result (λ b. b ≡ tests self.now (kind_of kind)) };
+}
+
+/// The first kind of which there is a fault at the place.
+pub(crate) fn first_kind<P: Place>(place: &P) -> Result<Option<FileKind>, OutOfMemory>
+    requires { P.ready place.now }
+    ensures { IfOk result
+        (λ kind. option_map kind_of kind ≡ model.first_kind (P.tests place.now)) }
+{
+    for kind in KINDS {
+        if !place.passes(kind)? {
+            return Ok(Some(kind));
+        }
+    }
+    Ok(None)
+}
+
+// Whether there is no fault of the kind among the variables and commands that stand in a procedure.
+fn passes_inside(
+    alloc: Global,
+    scope: &Scope,
+    contents: &Contents,
+    kind: FileKind,
+) -> Result<bool, OutOfMemory>
+    requires { IsScope scope.now }
+    ensures { IfOk result (λ b. b ≡ model.inside (theory_in scope.now.names.now)
+        (procedure_in scope.now) (variables_in contents.now) (commands_there contents.now)
+        (kind_of kind)) }
+{
+    match kind {
+        FileKind::Unknown => Ok(contents.all_variables(&Known(scope))?
+            && contents.all_commands(&CalleeKnown(scope.names))?),
+        FileKind::Sort => Ok(contents.all_variables(&AsDeclared(scope))?
+            && contents.all_commands(&PartsFit(scope.names))?),
+        FileKind::Constant => contents.all_commands(&Spares(scope)),
+        FileKind::Results => contents.all_commands(&ResultsApart { alloc }),
+        _ => Ok(true),
+    }
+}
+
+// Whether the formula may be judged at the sort.
+fn is_judged_at(formula: &Formula, sort: Sort) -> bool
+    requires { HasFewParts (formula_of formula.now) }
+    ensures { result ≡ model.is_judged_at (sort_of sort) (formula_of formula.now) }
+{
+    sorted_as(formula, sort).is_ok()
+}
+
+// Whether the declared sort of each logic variable is a sort.
+fn are_logic_sorts(variables: &[LogicVar]) -> bool
+    ensures { result ≡ list_all model.is_logic_sort (map logic_var_of variables.now) }
+{
+    for variable in variables {
+        if !is_sort(variable.sort) {
+            return false;
+        }
+    }
+    true
+}
+
+/// The version and the logic declarations.
+#[derive(Drop)]
+pub(crate) struct Declarations<'a>(pub(crate) &'a Names<'a>);
+
+impl<'a> Place for Declarations<'a> {
+    ghost ready = { λ place. HasNames place.0.now };
+
+    ghost tests = { λ place kind. model.declarations (theory_in place.0.now) kind };
+
+    #[tactic(auto, using(crate::proofs::PlaceLaws::place_rules))]
+    fn passes(&self, kind: FileKind) -> Result<bool, OutOfMemory> {
+        match kind {
+            FileKind::Version => Ok(self.0.theory.version == 1),
+            FileKind::Twice => Ok(!self.0.logic.repeats),
+            FileKind::Sort => Ok(are_logic_sorts(self.0.theory.logic.as_slice())),
+            _ => Ok(true),
+        }
+    }
+}
+
+/// The header and the body of a procedure, whose name is new or not.
+#[derive(Drop)]
+pub(crate) struct Header<'a> {
+    pub(crate) alloc: Global,
+    pub(crate) scope: &'a Scope<'a>,
+    pub(crate) is_new: bool,
+}
+
+// Whether both formulas of the header may be judged at its sort.
+fn is_head_judged(scope: &Scope) -> bool
+    requires pre { HasFewParts (procedure_in scope.now).pre }
+    requires post { HasFewParts (procedure_in scope.now).post }
+    ensures { result ≡ (model.is_judged_at (shape (procedure_in scope.now).sort)
+        (procedure_in scope.now).pre
+        && model.is_judged_at (shape (procedure_in scope.now).sort)
+        (procedure_in scope.now).post) }
+{
+    let sort = Sort::Shape(scope.procedure.sort);
+    is_judged_at(&scope.procedure.pre, sort) && is_judged_at(&scope.procedure.post, sort)
+}
+
+// Whether the program variables of both formulas are such as they may have.
+#[tactic(auto, using(crate::proofs::PlaceLaws::scope_rules))]
+fn is_head_in_scope(scope: &Scope) -> bool
+    requires { IsScope scope.now }
+    ensures { result ≡ (model.only_among (procedure_in scope.now).params
+        (variables_of (procedure_in scope.now).pre)
+        && model.only_among ((procedure_in scope.now).params ++ (procedure_in scope.now).results)
+        (variables_of (procedure_in scope.now).post)) }
+{
+    let before = OnlyAmong {
+        scope,
+        takes_results: false,
+    };
+    let after = OnlyAmong {
+        scope,
+        takes_results: true,
+    };
+    all_in_formula(&before, &scope.procedure.pre) && all_in_formula(&after, &scope.procedure.post)
+}
+
+impl<'a> Place for Header<'a> {
+    ghost ready = { λ head. IsScope head.scope.now
+        × HasFewParts (procedure_in head.scope.now).pre
+        × HasFewParts (procedure_in head.scope.now).post };
+
+    ghost tests = { λ head kind. model.header (theory_in head.scope.now.names.now)
+        (earlier_for head.is_new (procedure_in head.scope.now)) (procedure_in head.scope.now)
+        kind };
+
+    #[tactic(auto, using(crate::proofs::PlaceLaws::place_rules))]
+    fn passes(&self, kind: FileKind) -> Result<bool, OutOfMemory> {
+        match kind {
+            FileKind::Twice => Ok(self.is_new && !self.scope.variables.repeats),
+            FileKind::Sort => Ok(is_head_judged(self.scope) && self.passes_inside(kind)?),
+            FileKind::Scope => Ok(is_head_in_scope(self.scope)),
+            _ => self.passes_inside(kind),
+        }
+    }
+}
+
+impl<'a> Header<'a> {
+    // Whether there is no fault of the kind among its variables and commands.
+    fn passes_inside(&self, kind: FileKind) -> Result<bool, OutOfMemory>
+        requires { IsScope self.now.scope.now }
+        ensures { IfOk result (λ b. b ≡ model.inside_head (theory_in self.now.scope.now.names.now)
+            (procedure_in self.now.scope.now) (kind_of kind)) }
+    {
+        let contents = Contents::of_head(self.scope.procedure);
+        passes_inside(self.alloc, self.scope, &contents, kind)
+    }
+}
+
+// Whether the formulas of the judgement may be judged at its sort.
+fn is_judgement_sorted(judgement: &Judgement) -> bool
+    requires { IsJudgementSmall (judgement_of judgement.now) }
+    ensures { result ≡ model.judgement_sorted (judgement_of judgement.now) }
+{
+    match judgement {
+        Judgement::Entails(entailment) => {
+            is_judged_at(&entailment.left, entailment.sort)
+                && is_judged_at(&entailment.right, entailment.sort)
+        }
+        Judgement::Triple(triple) => {
+            let sort = Sort::Shape(triple.sort);
+            is_judged_at(&triple.pre, sort) && is_judged_at(&triple.post, sort)
+        }
+    }
+}
+
+// Whether each may be an argument of a step.
+fn are_step_arguments(arguments: &[Term]) -> bool
+    ensures { result ≡ list_all model.is_argument (map term_of arguments.now) }
+{
+    for argument in arguments {
+        if !is_step_argument(argument) {
+            return false;
+        }
+    }
+    true
+}
+
+// Whether the arguments of the reason may be such.
+fn are_arguments_sorted(reason: &Reason) -> bool
+    ensures { result ≡ list_all model.is_argument (arguments_of (reason_of reason.now)) }
+{
+    match reason {
+        Reason::Auto => true,
+        Reason::Rule { arguments, .. } => are_step_arguments(arguments.as_slice()),
+    }
+}
+
+// Whether the rule has a name, if there is one.
+fn is_rule_known(reason: &Reason) -> bool
+    ensures { result ≡ model.rule_known (reason_of reason.now) }
+{
+    match reason {
+        Reason::Auto => true,
+        Reason::Rule { name, .. } => is_rule_name(name),
+    }
+}
+
+/// A step, at this place of its proof.
+#[derive(Drop)]
+pub(crate) struct ProofStep<'a> {
+    pub(crate) alloc: Global,
+    pub(crate) scope: &'a Scope<'a>,
+    pub(crate) place: u32,
+    pub(crate) step: &'a Step,
+}
+
+impl<'a> ProofStep<'a> {
+    // Whether there is no fault of the kind among its variables and commands.
+    fn passes_inside(&self, kind: FileKind) -> Result<bool, OutOfMemory>
+        requires { IsScope self.now.scope.now }
+        ensures { IfOk result (λ b. b ≡ model.inside_step (theory_in self.now.scope.now.names.now)
+            (procedure_in self.now.scope.now) (step_of self.now.step.now) (kind_of kind)) }
+    {
+        let contents = Contents::of_step(self.step);
+        passes_inside(self.alloc, self.scope, &contents, kind)
+    }
+}
+
+impl<'a> Place for ProofStep<'a> {
+    ghost ready = { λ at. IsScope at.scope.now
+        × IsJudgementSmall (judgement_of at.step.now.judgement) };
+
+    ghost tests = { λ at kind. model.proof_step (theory_in at.scope.now.names.now)
+        (procedure_in at.scope.now) at.place (step_of at.step.now) kind };
+
+    fn passes(&self, kind: FileKind) -> Result<bool, OutOfMemory> {
+        match kind {
+            FileKind::Sort => Ok(is_judgement_sorted(&self.step.judgement)
+                && are_arguments_sorted(&self.step.reason)
+                && self.passes_inside(kind)?),
+            FileKind::Rule => Ok(is_rule_known(&self.step.reason)),
+            FileKind::Number => Ok(self.step.number == self.place),
+            _ => self.passes_inside(kind),
+        }
+    }
+}

@@ -1,0 +1,229 @@
+// The checks of a theory and of a step.
+ghost use Rattle.std.specs.Prelude.{◌≡◌, ◌+◌, ◌-◌, ◌<◌, ◌≤◌, [], ◌∷◌, List, length, map, not};
+ghost use Rattle.std.specs.Prelude.{Some, bytes_eq, slice_get};
+ghost use Rattle.std.specs.List.{list_any};
+ghost use Rattle.model_formulas.specs.Formulas.{Named};
+ghost use Rattle.model_commands.specs.Theories.{ProcedureOf};
+ghost use Rattle.model_files.specs.FileFaults as model;
+ghost use Rattle.theory_syntax.specs.Judgements.{judgement_of, step_of};
+ghost use Rattle.theory_syntax.specs.Theories.{procedure_of, theory_of};
+ghost use Rattle.dom_syntax.specs.Faults.{Reports, step_fault, kind_of};
+ghost use Rattle.dom_syntax.specs.Scopes.{HasNames, IsScope, procedure_in, theory_in};
+ghost use Rattle.dom_syntax.specs.Sizes.{AreStepsSmall, HasFewParts, IsJudgementSmall};
+ghost use Rattle.dom_syntax.specs.Sizes.{IsProcedureSmall, IsTheorySmall};
+ghost use Rattle.std.specs.Option.{option_map};
+ghost use Rattle.dom_syntax.specs.declared.programs.ProgramFault.TheVariants as f;
+
+use crate::kinds::FileKind;
+use crate::places::{Declarations, Header, ProofStep, first_kind};
+use crate::scopes::{Names, Scope};
+use crate::tables::Table;
+use dom_terms::OutOfMemory;
+use std::alloc::Global;
+use theory_syntax::{Procedure, Step, Theory};
+
+/// Why a theory or a step is refused.
+#[derive(Clone, Copy, Debug, PartialEq, Eq)]
+pub enum ProgramFault {
+    /// It isn't well formed. The procedure is counted from 1, and so is the step; step 0 is the
+    /// header with the body, and procedure 0 with step 0 the version with the logic declarations.
+    BadProgram {
+        procedure: u32,
+        step: u32,
+        kind: FileKind,
+    },
+    /// Memory was refused.
+    OutOfMemory,
+}
+
+impl From<OutOfMemory> for ProgramFault {
+    ghost from_gives = { λ _ fault. fault ≡ f.OutOfMemory };
+
+    fn from(_refused: OutOfMemory) -> ProgramFault {
+        ProgramFault::OutOfMemory
+    }
+}
+
+// What the kind of fault at a step of a procedure says, if there is one.
+fn verdict(procedure: u32, step: u32, kind: Option<FileKind>) -> Result<(), ProgramFault>
+    ensures { Reports result (step_fault procedure step (option_map kind_of kind)) }
+{
+    match kind {
+        Some(kind) => Err(ProgramFault::BadProgram {
+            procedure,
+            step,
+            kind,
+        }),
+        None => Ok(()),
+    }
+}
+
+// Whether the step is well formed at this place of the proof.
+fn check_step_at(
+    alloc: Global,
+    scope: &Scope,
+    procedure: u32,
+    place: u32,
+    step: &Step,
+) -> Result<(), ProgramFault>
+    requires scope { IsScope scope.now }
+    requires small { IsJudgementSmall (judgement_of step.now.judgement) }
+    ensures { Reports result (step_fault procedure place
+        (model.step_kind (theory_in scope.now.names.now) (procedure_in scope.now) place
+        (step_of step.now))) }
+{
+    let at = ProofStep {
+        alloc,
+        scope,
+        place,
+        step,
+    };
+    verdict(procedure, place, first_kind(&at)?)
+}
+
+// Whether each step of the procedure's proof is well formed.
+fn check_steps(alloc: Global, scope: &Scope, procedure: u32) -> Result<(), ProgramFault>
+    requires scope { IsScope scope.now }
+    requires small { AreStepsSmall (procedure_in scope.now).proof }
+    requires few { length (procedure_in scope.now).proof < 4294967295 }
+    ensures { Reports result (model.first_fault_at
+        (model.steps_from (theory_in scope.now.names.now) procedure (procedure_in scope.now) 1
+        (procedure_in scope.now).proof)) }
+{
+    let mut place = 0;
+    for step in scope.procedure.proof.as_slice() {
+        place += 1;
+        check_step_at(alloc, scope, procedure, place, step)?;
+    }
+    Ok(())
+}
+
+// Whether the header of the procedure, whose name is new or not, is well formed.
+fn check_header(
+    alloc: Global,
+    scope: &Scope,
+    procedure: u32,
+    is_new: bool,
+) -> Result<(), ProgramFault>
+    requires scope { IsScope scope.now }
+    requires pre { HasFewParts (procedure_in scope.now).pre }
+    requires post { HasFewParts (procedure_in scope.now).post }
+    ensures { (earlier : List (ProcedureOf Named))
+        → not (list_any (λ g. bytes_eq (procedure_in scope.now).name g.name) earlier) ≡ is_new
+        → Reports result (step_fault procedure 0
+        (model.head_kind (theory_in scope.now.names.now) earlier (procedure_in scope.now))) }
+{
+    let head = Header {
+        alloc,
+        scope,
+        is_new,
+    };
+    verdict(procedure, 0, first_kind(&head)?)
+}
+
+// Whether the procedure, whose name is new or not, and the steps of its proof are well formed.
+fn check_procedure(
+    alloc: Global,
+    names: &Names,
+    procedure: &Procedure,
+    number: u32,
+    is_new: bool,
+) -> Result<(), ProgramFault>
+    requires names { HasNames names.now }
+    requires small { IsProcedureSmall (procedure_of procedure.now) }
+    requires few { length (procedure_of procedure.now).proof < 4294967295 }
+    ensures { (earlier : List (ProcedureOf Named))
+        → not (list_any (λ g. bytes_eq (procedure_of procedure.now).name g.name) earlier) ≡ is_new
+        → Reports result (model.first_fault_at (record { procedure = number; step = 0;
+        passes = model.header (theory_in names.now) earlier (procedure_of procedure.now) }
+        ∷ model.steps_from (theory_in names.now) number (procedure_of procedure.now) 1
+        (procedure_of procedure.now).proof)) }
+{
+    let scope = Scope::new(alloc, names, procedure)?;
+    check_header(alloc, &scope, number, is_new)?;
+    check_steps(alloc, &scope, number)
+}
+
+// Whether the procedures of the theory are well formed.
+fn check_procedures(alloc: Global, names: &Names) -> Result<(), ProgramFault>
+    requires names { HasNames names.now }
+    requires small { IsTheorySmall (theory_in names.now) }
+    ensures { Reports result (model.first_fault_at
+        (model.procedures_from (theory_in names.now) [] 1 (theory_in names.now).procedures)) }
+{
+    let mut earlier: Table<()> = Table::new(alloc);
+    let mut number = 0;
+    for procedure in names.theory.procedures.as_slice() {
+        number += 1;
+        let is_new = earlier.get(procedure.name.as_str()).is_none();
+        check_procedure(alloc, names, procedure, number, is_new)?;
+        earlier.declare(procedure.name.as_str(), ())?;
+    }
+    Ok(())
+}
+
+// Whether the version and the logic declarations are well formed.
+fn check_declarations(names: &Names) -> Result<(), ProgramFault>
+    requires { HasNames names.now }
+    ensures { Reports result
+        (step_fault 0 0 (model.first_kind (model.declarations (theory_in names.now)))) }
+{
+    verdict(0, 0, first_kind(&Declarations(names))?)
+}
+
+/// Whether the theory is well formed. The error is the first place at fault, in the order of the
+/// file, with the first kind of which there is a fault there: BadProgram comes exactly there.
+/// OutOfMemory comes only where memory is refused.
+pub fn check_program(alloc: Global, theory: &Theory) -> Result<(), ProgramFault>
+    requires { IsTheorySmall (theory_of theory.now) }
+    ensures { Reports result (model.first_file_fault (theory_of theory.now)) }
+{
+    let names = Names::new(alloc, theory)?;
+    check_declarations(&names)?;
+    check_procedures(alloc, &names)
+}
+
+// Whether the step is well formed at this place of the proof of the procedure, the one with this
+// number.
+fn check_step_in(
+    alloc: Global,
+    names: &Names,
+    own: &Procedure,
+    number: u32,
+    place: u32,
+    step: &Step,
+) -> Result<(), ProgramFault>
+    requires names { HasNames names.now }
+    requires small { IsJudgementSmall (judgement_of step.now.judgement) }
+    ensures { Reports result (step_fault number place
+        (model.step_kind (theory_in names.now) (procedure_of own.now) place
+        (step_of step.now))) }
+{
+    let scope = Scope::new(alloc, names, own)?;
+    check_step_at(alloc, &scope, number, place, step)
+}
+
+/// Whether the step is well formed at this place, counted from 1, of the proof of the procedure,
+/// counted from 1. BadProgram comes exactly where it isn't, with the first kind of which there is a
+/// fault and with the numbers that are handed in. The theory need not be well formed, and its
+/// proofs play no part. OutOfMemory comes only where memory is refused.
+pub fn check_one(
+    alloc: Global,
+    theory: &Theory,
+    procedure: u32,
+    place: u32,
+    step: &Step,
+) -> Result<(), ProgramFault>
+    requires first { 1 ≤ procedure }
+    requires last { procedure ≤ length theory.now.procedures }
+    requires place { 1 ≤ place }
+    requires small { IsJudgementSmall (judgement_of step.now.judgement) }
+    ensures { (f : ProcedureOf Named)
+        → slice_get (theory_of theory.now).procedures (procedure - 1) ≡ Some f
+        → Reports result (step_fault procedure place
+        (model.step_kind (theory_of theory.now) f place (step_of step.now))) }
+{
+    let names = Names::new(alloc, theory)?;
+    let own = &theory.procedures.as_slice()[procedure as usize - 1];
+    check_step_in(alloc, &names, own, procedure, place, step)
+}
