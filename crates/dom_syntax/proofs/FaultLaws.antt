@@ -17,7 +17,7 @@ use Rattle.dom_syntax.specs.declared.programs.ProgramFault.{ProgramFault}
 use Rattle.dom_syntax.specs.declared.programs.ProgramFault.TheVariants.{BadProgram, OutOfMemory}
 use Rattle.dom_syntax.specs.declared.tables.Table.{Table}
 use Rattle.dom_syntax.specs.Faults.{Reports, FaultReports, step_fault}
-use Rattle.dom_syntax.specs.Sizes.{AreStepsSmall, AreProceduresSmall, IsJudgementSmall, IsProcedureSmall}
+use Rattle.model_files.specs.Sizes.{StepsAreSmall, ProceduresAreSmall, JudgementIsSmall, ProcedureIsSmall}
 use Rattle.dom_syntax.specs.Tables.{Declaration, Declares, first_of, found}
 use Rattle.dom_syntax.proofs.TableLaws.{first-append}
 
@@ -77,10 +77,10 @@ module _ (theory : Theory) where
         (step_kind theory f at (step_of x))
         (first_fault_at (steps_from theory number f (at + 1) (map step_of (drop (i + 1) xs))))
 
-    pub small-steps : AreStepsSmall (map step_of (drop i xs))
-        → IsJudgementSmall (judgement_of x.judgement)
-        × AreStepsSmall (map step_of (drop (i + 1) xs))
-    small-steps h = subst AreStepsSmall cut-steps h
+    pub small-steps : StepsAreSmall (map step_of (drop i xs))
+        → JudgementIsSmall (judgement_of x.judgement)
+        × StepsAreSmall (map step_of (drop (i + 1) xs))
+    small-steps h = subst StepsAreSmall cut-steps h
 
   -- PROCEDURES, at an index
   abbrev pub places_of : List (ProcedureOf Named) → ℕ → ProcedureOf Named → List Place
@@ -107,9 +107,9 @@ module _ (theory : Theory) where
         (procedures_from theory (procedure_of x ∷ earlier) (number + 1)
         (map procedure_of (drop (i + 1) xs)))
 
-    pub small-procedures : AreProceduresSmall (map procedure_of (drop i xs))
-        → IsProcedureSmall (procedure_of x) × AreProceduresSmall (map procedure_of (drop (i + 1) xs))
-    small-procedures h = subst AreProceduresSmall cut-procedures h
+    pub small-procedures : ProceduresAreSmall (map procedure_of (drop i xs))
+        → ProcedureIsSmall (procedure_of x) × ProceduresAreSmall (map procedure_of (drop (i + 1) xs))
+    small-procedures h = subst ProceduresAreSmall cut-procedures h
 
     pub count-procedures : step_count (map procedure_of (drop i xs))
         ≡ length (procedure_of x).proof + step_count (map procedure_of (drop (i + 1) xs))

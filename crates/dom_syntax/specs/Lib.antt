@@ -1,5 +1,4 @@
 pub mod Faults
-pub mod Sizes
 pub mod Tables
 pub mod VariableSets
 pub mod Callees

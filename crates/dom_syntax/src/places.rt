@@ -13,7 +13,7 @@ ghost use Rattle.dom_syntax.specs.Contents.{commands_there, variables_in};
 ghost use Rattle.dom_syntax.specs.Faults.{kind_of};
 ghost use Rattle.dom_syntax.specs.Heads.{earlier_for};
 ghost use Rattle.dom_syntax.specs.Scopes.{HasNames, IsScope, procedure_in, theory_in};
-ghost use Rattle.dom_syntax.specs.Sizes.{HasFewParts, IsJudgementSmall};
+ghost use Rattle.model_files.specs.Sizes.{IsSmall, JudgementIsSmall};
 
 use crate::contents::Contents;
 use crate::kinds::FileKind;
@@ -94,7 +94,7 @@ fn passes_inside(
 
 // Whether the formula may be judged at the sort.
 fn is_judged_at(formula: &Formula, sort: Sort) -> bool
-    requires { HasFewParts (formula_of formula.now) }
+    requires { IsSmall (formula_of formula.now) }
     ensures { result ≡ model.is_judged_at (sort_of sort) (formula_of formula.now) }
 {
     sorted_as(formula, sort).is_ok()
@@ -142,8 +142,8 @@ pub(crate) struct Header<'a> {
 
 // Whether both formulas of the header may be judged at its sort.
 fn is_head_judged(scope: &Scope) -> bool
-    requires pre { HasFewParts (procedure_in scope.now).pre }
-    requires post { HasFewParts (procedure_in scope.now).post }
+    requires pre { IsSmall (procedure_in scope.now).pre }
+    requires post { IsSmall (procedure_in scope.now).post }
     ensures { result ≡ (model.is_judged_at (shape (procedure_in scope.now).sort)
         (procedure_in scope.now).pre
         && model.is_judged_at (shape (procedure_in scope.now).sort)
@@ -175,8 +175,8 @@ fn is_head_in_scope(scope: &Scope) -> bool
 
 impl<'a> Place for Header<'a> {
     ghost ready = { λ head. IsScope head.scope.now
-        × HasFewParts (procedure_in head.scope.now).pre
-        × HasFewParts (procedure_in head.scope.now).post };
+        × IsSmall (procedure_in head.scope.now).pre
+        × IsSmall (procedure_in head.scope.now).post };
 
     ghost tests = { λ head kind. model.header (theory_in head.scope.now.names.now)
         (earlier_for head.is_new (procedure_in head.scope.now)) (procedure_in head.scope.now)
@@ -207,7 +207,7 @@ impl<'a> Header<'a> {
 
 // Whether the formulas of the judgement may be judged at its sort.
 fn is_judgement_sorted(judgement: &Judgement) -> bool
-    requires { IsJudgementSmall (judgement_of judgement.now) }
+    requires { JudgementIsSmall (judgement_of judgement.now) }
     ensures { result ≡ model.judgement_sorted (judgement_of judgement.now) }
 {
     match judgement {
@@ -277,7 +277,7 @@ impl<'a> ProofStep<'a> {
 
 impl<'a> Place for ProofStep<'a> {
     ghost ready = { λ at. IsScope at.scope.now
-        × IsJudgementSmall (judgement_of at.step.now.judgement) };
+        × JudgementIsSmall (judgement_of at.step.now.judgement) };
 
     ghost tests = { λ at kind. model.proof_step (theory_in at.scope.now.names.now)
         (procedure_in at.scope.now) at.place (step_of at.step.now) kind };

@@ -9,8 +9,8 @@ ghost use Rattle.theory_syntax.specs.Judgements.{judgement_of, step_of};
 ghost use Rattle.theory_syntax.specs.Theories.{procedure_of, theory_of};
 ghost use Rattle.dom_syntax.specs.Faults.{Reports, step_fault, kind_of};
 ghost use Rattle.dom_syntax.specs.Scopes.{HasNames, IsScope, procedure_in, theory_in};
-ghost use Rattle.dom_syntax.specs.Sizes.{AreStepsSmall, HasFewParts, IsJudgementSmall};
-ghost use Rattle.dom_syntax.specs.Sizes.{IsProcedureSmall, IsTheorySmall};
+ghost use Rattle.model_files.specs.Sizes.{StepsAreSmall, IsSmall, JudgementIsSmall};
+ghost use Rattle.model_files.specs.Sizes.{ProcedureIsSmall, TheoryIsSmall};
 ghost use Rattle.std.specs.Option.{option_map};
 ghost use Rattle.dom_syntax.specs.declared.programs.ProgramFault.TheVariants as f;
 
@@ -67,7 +67,7 @@ fn check_step_at(
     step: &Step,
 ) -> Result<(), ProgramFault>
     requires scope { IsScope scope.now }
-    requires small { IsJudgementSmall (judgement_of step.now.judgement) }
+    requires small { JudgementIsSmall (judgement_of step.now.judgement) }
     ensures { Reports result (step_fault procedure place
         (model.step_kind (theory_in scope.now.names.now) (procedure_in scope.now) place
         (step_of step.now))) }
@@ -84,7 +84,7 @@ fn check_step_at(
 // Whether each step of the procedure's proof is well formed.
 fn check_steps(alloc: Global, scope: &Scope, procedure: u32) -> Result<(), ProgramFault>
     requires scope { IsScope scope.now }
-    requires small { AreStepsSmall (procedure_in scope.now).proof }
+    requires small { StepsAreSmall (procedure_in scope.now).proof }
     requires few { length (procedure_in scope.now).proof < 4294967295 }
     ensures { Reports result (model.first_fault_at
         (model.steps_from (theory_in scope.now.names.now) procedure (procedure_in scope.now) 1
@@ -106,8 +106,8 @@ fn check_header(
     is_new: bool,
 ) -> Result<(), ProgramFault>
     requires scope { IsScope scope.now }
-    requires pre { HasFewParts (procedure_in scope.now).pre }
-    requires post { HasFewParts (procedure_in scope.now).post }
+    requires pre { IsSmall (procedure_in scope.now).pre }
+    requires post { IsSmall (procedure_in scope.now).post }
     ensures { (earlier : List (ProcedureOf Named))
         → not (list_any (λ g. bytes_eq (procedure_in scope.now).name g.name) earlier) ≡ is_new
         → Reports result (step_fault procedure 0
@@ -130,7 +130,7 @@ fn check_procedure(
     is_new: bool,
 ) -> Result<(), ProgramFault>
     requires names { HasNames names.now }
-    requires small { IsProcedureSmall (procedure_of procedure.now) }
+    requires small { ProcedureIsSmall (procedure_of procedure.now) }
     requires few { length (procedure_of procedure.now).proof < 4294967295 }
     ensures { (earlier : List (ProcedureOf Named))
         → not (list_any (λ g. bytes_eq (procedure_of procedure.now).name g.name) earlier) ≡ is_new
@@ -147,7 +147,7 @@ fn check_procedure(
 // Whether the procedures of the theory are well formed.
 fn check_procedures(alloc: Global, names: &Names) -> Result<(), ProgramFault>
     requires names { HasNames names.now }
-    requires small { IsTheorySmall (theory_in names.now) }
+    requires small { TheoryIsSmall (theory_in names.now) }
     ensures { Reports result (model.first_fault_at
         (model.procedures_from (theory_in names.now) [] 1 (theory_in names.now).procedures)) }
 {
@@ -175,7 +175,7 @@ fn check_declarations(names: &Names) -> Result<(), ProgramFault>
 /// file, with the first kind of which there is a fault there: BadProgram comes exactly there.
 /// OutOfMemory comes only where memory is refused.
 pub fn check_program(alloc: Global, theory: &Theory) -> Result<(), ProgramFault>
-    requires { IsTheorySmall (theory_of theory.now) }
+    requires { TheoryIsSmall (theory_of theory.now) }
     ensures { Reports result (model.first_file_fault (theory_of theory.now)) }
 {
     let names = Names::new(alloc, theory)?;
@@ -194,7 +194,7 @@ fn check_step_in(
     step: &Step,
 ) -> Result<(), ProgramFault>
     requires names { HasNames names.now }
-    requires small { IsJudgementSmall (judgement_of step.now.judgement) }
+    requires small { JudgementIsSmall (judgement_of step.now.judgement) }
     ensures { Reports result (step_fault number place
         (model.step_kind (theory_in names.now) (procedure_of own.now) place
         (step_of step.now))) }
@@ -217,7 +217,7 @@ pub fn check_one(
     requires first { 1 ≤ procedure }
     requires last { procedure ≤ length theory.now.procedures }
     requires place { 1 ≤ place }
-    requires small { IsJudgementSmall (judgement_of step.now.judgement) }
+    requires small { JudgementIsSmall (judgement_of step.now.judgement) }
     ensures { (f : ProcedureOf Named)
         → slice_get (theory_of theory.now).procedures (procedure - 1) ≡ Some f
         → Reports result (step_fault procedure place

@@ -5,7 +5,7 @@ use Rattle.model_files.specs.FileFaults.{first_fault_at, procedures_from}
 use Rattle.model_files.specs.FileLimits.{step_count}
 use Rattle.theory_syntax.specs.Theories.{procedure_of}
 use Rattle.dom_syntax.specs.Scopes.{theory_in}
-use Rattle.dom_syntax.specs.Sizes.{AreProceduresSmall}
+use Rattle.model_files.specs.Sizes.{ProceduresAreSmall}
 use Rattle.dom_syntax.proofs.FaultLaws.{IsEarlier}
 use Rattle.dom_syntax.proofs.programs.check_procedures.Given as goal
 
@@ -18,7 +18,7 @@ invariant-loop-procedure l = record {
   steps :
       step_count (map procedure_of (drop l.procedure-index l.procedure-items)) < 4294967295;
   small :
-      AreProceduresSmall (map procedure_of (drop l.procedure-index l.procedure-items));
+      ProceduresAreSmall (map procedure_of (drop l.procedure-index l.procedure-items));
   rest :
       first_fault_at (procedures_from (theory_in l.names) [] 1 (theory_in l.names).procedures)
       ≡ first_fault_at (procedures_from (theory_in l.names) passed (l.number + 1)
