@@ -8,6 +8,7 @@ mod faults;
 mod flow;
 mod moves;
 mod picks;
+mod pieces;
 mod plans;
 mod reads;
 mod results;

@@ -10,7 +10,6 @@ ghost use Rattle.model_machine.specs.Machine.{step, at_fault};
 ghost use Rattle.model_machine.specs.Fitting.{FitsConfig};
 ghost use Rattle.model_machine.specs.Outcomes.{outcome, has_fault, ends_at, first_command};
 ghost use Rattle.dom_terms.specs.Terms.{prog_var_of};
-ghost use Rattle.dom_terms.specs.Stores.{store_of};
 ghost use Rattle.grove_data.specs.Trees.{forest_of};
 ghost use Rattle.theory_syntax.specs.Theories.{theory_of};
 ghost use Rattle.dom_meaning.specs.Configs.{config_of, pick_of};

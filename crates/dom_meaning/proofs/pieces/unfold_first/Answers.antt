@@ -2,7 +2,7 @@ use Rattle.std.proofs.Common.{◌≡◌, ◌∙◌, ◌∷◌, [], ◌++◌, sym
 use Rattle.theory_syntax.specs.declared.commands.Command.TheVariants.{Skip}
 use Rattle.dom_meaning.specs.declared.configurations.Pending.TheVariants.{Run}
 use Rattle.dom_meaning.proofs.PieceLaws.{parted}
-use Rattle.dom_meaning.proofs.steps.unfold_first.Goals as goal
+use Rattle.dom_meaning.proofs.pieces.unfold_first.Goals as goal
 
 -- the block is back in its place
 pub returns-in_err-unfold_last-in-Some-clause-err :

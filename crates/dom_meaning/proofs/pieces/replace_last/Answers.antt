@@ -1,6 +1,6 @@
 use Rattle.std.proofs.Common.{◌-◌, ◌∙◌, length, set, ap}
 use Rattle.dom_meaning.proofs.PieceLaws.{last_is, set_last}
-use Rattle.dom_meaning.proofs.steps.replace_last.Goals as goal
+use Rattle.dom_meaning.proofs.pieces.replace_last.Goals as goal
 
 pub returns-clause-replaced : goal.returns-clause-replaced
 returns-clause-replaced c = λ last others e.
