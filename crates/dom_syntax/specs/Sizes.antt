@@ -1,6 +1,6 @@
 -- The sizes that every call may count on: no formula has 4,294,967,295 parts or more, and no theory
 -- has as many procedures and proof steps.
-use Rattle.std.specs.Prelude.{ℕ, ◌+◌, ◌<◌, length, List, [], ◌∷◌}
+use Rattle.std.specs.Prelude.{◌+◌, ◌<◌, length, List, [], ◌∷◌}
 use Rattle.model_formulas.specs.Formulas.{Named}
 use Rattle.model_formulas.specs.Parts.{parts}
 use Rattle.model_commands.specs.Theories.{JudgementOf, entails, triple, StepOf, ProcedureOf, Theory}

@@ -1,5 +1,5 @@
 -- A variable that is there or is one of a block around, and a new one.
-use Rattle.std.proofs.Common.{◌≡◌, ◌∙◌, sym, ◌++◌, ◌∷◌, [], List, true, subst}
+use Rattle.std.proofs.Common.{◌≡◌, ◌∙◌, sym, List, true, subst}
 use Rattle.model_terms.specs.Stores as stores
 use Rattle.model_terms.specs.Stores.{same_name}
 use Rattle.model_commands.specs.SortTests.{distinct_by}
