@@ -1,5 +1,5 @@
 -- Tests of all variables that stand in a place.
-use Rattle.std.proofs.Common.{◌≡◌, ◌∙◌, sym, refl, ap, List, [], ◌∷◌, ◌++◌, Bool, true, false, ◌&&◌, append-nil, Result, Ok, Err, IfOk}
+use Rattle.std.proofs.Common.{◌≡◌, ◌∙◌, sym, refl, List, [], ◌∷◌, ◌++◌, Bool, ◌&&◌, append-nil, Result, Ok, Err, IfOk}
 use Rattle.std.specs.List.{list_all, flat_map}
 use Rattle.std.proofs.lemmas.List.Folds.{list_all-append}
 use Rattle.model_terms.specs.Variables.{Var}
@@ -22,6 +22,7 @@ pub all-append : (p : Var → Bool) (xs ys : List Var)
 all-append = list_all-append
 
 pub ruleset contents_rules = (nothing-more)
+
 pub ruleset command_rules = (each-own, all-append)
 
 -- what an answer says in other words

@@ -1,10 +1,10 @@
 -- How the first fault of a theory is found place by place.
-use Rattle.std.proofs.Common.{◌≡◌, ◌∙◌, sym, refl, ap, subst, ℕ, zero, suc, ◌+◌, ◌<◌, ◌≤◌, List, [], ◌∷◌, ◌++◌, map, length, get_or, drop, drop-cons, add-one, Bool, true, false, not, ◌&&◌, ◌||◌, cond, bytes_eq, Result, Ok, Err, Option, Some, None, is_some, is_none, slice_get, arith}
+use Rattle.std.proofs.Common.{◌≡◌, ◌∙◌, sym, refl, ap, subst, ℕ, zero, suc, ◌+◌, ◌<◌, List, [], ◌∷◌, ◌++◌, map, length, get_or, drop, drop-cons, add-one, Bool, true, false, not, ◌&&◌, ◌||◌, cond, bytes_eq, Result, Ok, Err, Option, Some, None, is_some, is_none, slice_get, arith}
 use Rattle.std.specs.List.{list_any}
 use Rattle.std.specs.Option.{option_map}
 use Rattle.model_terms.specs.TermLimits.{or_else}
 use Rattle.model_formulas.specs.Formulas.{Named}
-use Rattle.model_commands.specs.Theories.{ProcedureOf, StepOf, Theory}
+use Rattle.model_commands.specs.Theories.{ProcedureOf, Theory}
 use Rattle.model_files.specs.FileFaults.{FileKind, FileFault, Place, first_kind, fault_or, first_fault_at, header, head_kind, step_kind, proof_step, steps_from, procedures_from, twice_kind, share_name, declared_by, declarations, first_file_fault}
 use Rattle.model_terms.specs.Stores.{as_var}
 use Rattle.model_commands.specs.SortTests.{distinct_by}

@@ -1,7 +1,7 @@
 -- What a loop has gathered from the items of a list that it has passed.
 use Rattle.std.proofs.Common.{◌≡◌, ◌∙◌, sym, refl, ap, ℕ, suc, ◌+◌, ◌<◌, ◌≤◌, List, [], ◌∷◌, ◌++◌, length, get_or, drop, drop-cons, add-one, subst, append_assoc, append-nil}
-
 use Rattle.std.proofs.lemmas.List.{drop_all}
+
 -- From whatever was held before, something is held now that gives, with what is to come, all.
 abbrev pub Leads : {D : Type 0} → (List D → Type 0) → (List D → Type 0) → List D → List D → Type 0
 Leads {D} Before Now all rest =

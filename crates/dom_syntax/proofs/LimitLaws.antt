@@ -1,5 +1,5 @@
 -- How many variables a procedure declares.
-use Rattle.std.proofs.Common.{◌≡◌, ◌∙◌, ap, ℕ, ◌+◌, List, [], ◌∷◌, ◌++◌, length, length-append}
+use Rattle.std.proofs.Common.{◌≡◌, ◌∙◌, ap, ◌+◌, List, ◌++◌, length, length-append}
 use Rattle.std.specs.List.{flat_map}
 use Rattle.std.proofs.lemmas.Grind.{flat_map-append}
 use Rattle.model_terms.specs.Stores.{ProgVar}
@@ -21,4 +21,5 @@ three-lengths xs ys zs =
     length-append xs (ys ++ zs) ∙ ap (λ n. length xs + n) (length-append ys zs)
 
 pub ruleset room_rules = (locals-of-two)
+
 pub ruleset declared_rules = (three-lengths)

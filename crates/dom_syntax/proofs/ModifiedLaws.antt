@@ -1,11 +1,12 @@
 -- How the variables that a command modifies are found step by step.
-use Rattle.std.proofs.Common.{◌≡◌, ◌≢◌, ◌⊎◌, ◌↔◌, ◌∙◌, sym, refl, ap, subst, inl, inr, ℕ, suc, ◌+◌, ◌<◌, ◌≤◌, List, [], ◌∷◌, ◌++◌, map, length, get_or, drop, drop-cons, add-one, Bool, true, false, not, ◌&&◌, ◌||◌}
-use Rattle.std.specs.List.{list_any}
-use Rattle.std.proofs.lemmas.List.Folds.{list_any-append}
+use Rattle.std.proofs.Common.{◌≡◌, ◌≢◌, ◌⊎◌, ◌∙◌, sym, refl, ap, subst, inl, inr, ℕ, ◌+◌, ◌<◌, ◌≤◌, List, [], ◌∷◌, ◌++◌, map, length, get_or, drop, drop-cons, add-one, Bool, true, false, not, ◌&&◌, ◌||◌}
+use Rattle.std.proofs.lemmas.List.{drop_all, map-append}
 use Rattle.model_terms.specs.Stores.{ProgVar, same_name}
 use Rattle.model_terms.proofs.StoreLaws.{same_name-is, same_name-refl, same_name-not}
 use Rattle.model_commands.specs.Commands.{Among}
 use Rattle.model_commands.specs.SortTests.{distinct_by, is_among}
+use Rattle.dom_terms.specs.declared.terms.ProgVar as program
+use Rattle.dom_terms.specs.Terms.{prog_var_of}
 use Rattle.dom_syntax.specs.Modified.{Adds}
 use Rattle.dom_syntax.proofs.FreshLaws.{fresh-distinct, fresh-more}
 
@@ -199,3 +200,50 @@ pub distinct-one : (xs : List ProgVar) (v : ProgVar) → distinct_by same_name x
 distinct-one xs v d n =
     sym (fresh-distinct (xs ++ v ∷ [])) ∙ fresh-more [] xs v
     ∙ (λ j. fresh-distinct xs j && not (is_among xs v)) ∙ (λ j. d j && not (n j))
+
+-- ITEMS: what a list has, item by item
+module _ {T : Type 0} (F : List T → ProgVar → Type 0) (N : T → ProgVar → Type 0)
+    (out : (y : T) (ys : List T) (x : ProgVar) → F (y ∷ ys) x → N y x ⊎ F ys x)
+    (back : (y : T) (ys : List T) (x : ProgVar) → N y x ⊎ F ys x → F (y ∷ ys) x)
+    (none : (x : ProgVar) → F [] x → ⊥) (Out : ProgVar → Type 0) where
+  -- over the item at an index
+  pub leaves-item : (first now then : List ProgVar) (All : ProgVar → Type 0) (xs : List T) (i : ℕ)
+      (item : T) → i < length xs → item ≡ get_or xs i item
+      → Leaves first now All (λ x. F (drop i xs) x × Out x)
+      → Adds now then (λ x. N item x × Out x)
+      → Leaves first then All (λ x. F (drop (i + 1) xs) x × Out x)
+  leaves-item first now then All xs i item lt is h a =
+      leaves-next first now then All (λ x. N item x × Out x) (λ x. F (drop (i + 1) xs) x × Out x)
+      (λ x. F (drop i xs) x × Out x) h (λ x p. apart x p.1 (out item (drop (i + 1) xs) x
+      (subst (λ l. F l x) cut p.0))) (λ x p. join x p) a
+    where
+      cut : drop i xs ≡ item ∷ drop (i + 1) xs
+      cut =
+          drop-cons xs i item lt ∙ (λ j. sym is j ∷ drop (sym (add-one i) j) xs)
+
+      apart : (x : ProgVar) → Out x → N item x ⊎ F (drop (i + 1) xs) x
+          → (N item x × Out x) ⊎ (F (drop (i + 1) xs) x × Out x)
+      apart x o (inl p) = inl (p, o)
+      apart x o (inr p) = inr (p, o)
+
+      join : (x : ProgVar) → (N item x × Out x) ⊎ (F (drop (i + 1) xs) x × Out x)
+          → F (drop i xs) x × Out x
+      join x (inl p) =
+          (subst (λ l. F l x) (sym cut) (back item (drop (i + 1) xs) x (inl p.0)), p.1)
+      join x (inr p) =
+          (subst (λ l. F l x) (sym cut) (back item (drop (i + 1) xs) x (inr p.0)), p.1)
+
+  -- past the last
+  pub leaves-end : (first now : List ProgVar) (All : ProgVar → Type 0) (xs : List T) (i : ℕ)
+      → length xs ≤ i → Leaves first now All (λ x. F (drop i xs) x × Out x) → Adds first now All
+  leaves-end first now All xs i le h =
+      leaves-last first now All (λ x. F (drop i xs) x × Out x) h
+      (λ x p. none x (subst (λ l. F l x) (drop_all i xs le) p.0))
+
+-- one variable pushed
+pub pushed : (xs ys : List program.ProgVar) (x v : program.ProgVar) → ys ≡ xs ++ x ∷ []
+    → prog_var_of x ≡ prog_var_of v
+    → map prog_var_of ys ≡ map prog_var_of xs ++ prog_var_of v ∷ []
+pushed xs ys x v e f =
+    ap (map prog_var_of) e ∙ map-append prog_var_of xs (x ∷ [])
+    ∙ (λ j. map prog_var_of xs ++ f j ∷ [])

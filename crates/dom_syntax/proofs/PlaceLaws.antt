@@ -1,5 +1,5 @@
 -- What the flags of the tables say of repeated names, and of the variables that a formula may have.
-use Rattle.std.proofs.Common.{◌≡◌, ◌∙◌, sym, refl, ap, List, [], ◌∷◌, ◌++◌, Bool, true, false, not, ◌&&◌, ◌||◌, map, bytes_eq}
+use Rattle.std.proofs.Common.{◌≡◌, ◌∙◌, sym, refl, ap, List, Bool, true, false, not, ◌&&◌, ◌||◌, map, bytes_eq}
 use Rattle.std.specs.List.{list_all, list_any}
 use Rattle.model_shapes.proofs.Tests.{bytes-refl}
 use Rattle.model_terms.specs.Variables.{Var}
@@ -51,4 +51,5 @@ pub only-among-of : (allowed : List ProgVar) (xs : List Var)
 only-among-of = only-among-all
 
 pub ruleset place_rules = (logic-distinct, head-distinct)
+
 pub ruleset scope_rules = (only-among-of)

@@ -1,10 +1,9 @@
 -- What the tables of a scope say of the names that may be used there.
-use Rattle.std.proofs.Common.{◌≡◌, ◌∙◌, sym, refl, ap, ℕ, List, [], ◌∷◌, ◌++◌, Bool, true, false, not, ◌&&◌, ◌||◌, cond, Option, Some, None, is_some, bytes_eq, map, append_assoc}
+use Rattle.std.proofs.Common.{◌≡◌, ◌∙◌, sym, refl, ap, ℕ, List, [], ◌∷◌, ◌++◌, Bool, true, false, not, ◌&&◌, ◌||◌, cond, Option, Some, is_some, bytes_eq, map, append_assoc}
 use Rattle.std.specs.List.{list_any, list_all}
-use Rattle.std.specs.Option.{option_map}
 use Rattle.std.proofs.lemmas.List.{map-append}
 use Rattle.std.proofs.lemmas.List.Folds.{list_any-append}
-use Rattle.model_shapes.specs.Sorts.{ValueSort, Sort, value}
+use Rattle.model_shapes.specs.Sorts.{ValueSort, Sort}
 use Rattle.model_shapes.specs.Tests.{same_value_sort, same_sort}
 use Rattle.model_terms.specs.Variables.{Var, prog, logic, bound}
 use Rattle.model_terms.specs.Stores.{ProgVar, named, as_var, same_name}
@@ -17,7 +16,7 @@ use Rattle.dom_terms.specs.declared.terms.LogicVar.{LogicVar}
 use Rattle.dom_syntax.specs.Callees.{procedure_entry}
 use Rattle.dom_syntax.specs.Scopes.{variable_entry, logic_entry}
 use Rattle.dom_syntax.specs.ScopeTests.{may_stand, sort_fits, logic_sort_fits}
-use Rattle.dom_syntax.specs.Tables.{Declaration, first_of, share}
+use Rattle.dom_syntax.specs.Tables.{first_of, share}
 
 -- three lists of variables, one behind another
 pub entries-joined : (ps rs ls : List ProgVar)

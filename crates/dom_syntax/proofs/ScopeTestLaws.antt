@@ -1,5 +1,5 @@
 -- What the tables of a scope answer is what the tests of a variable ask.
-use Rattle.std.proofs.Common.{◌≡◌, ◌∙◌, sym, refl, ap, ℕ, List, Option, Some, None, is_some, map}
+use Rattle.std.proofs.Common.{◌≡◌, ◌∙◌, sym, refl, ap, ℕ, List, Option, Some, None, is_some}
 use Rattle.std.specs.Option.{option_map}
 use Rattle.model_terms.specs.Variables.{prog, logic}
 use Rattle.model_shapes.specs.Sorts as sorts
@@ -58,5 +58,7 @@ pub called : (names : Names) → HasNames names → (name : List ℕ)
 called names has name = has.procedures.first name ∙ first-procedure (callees_in names) name
 
 pub ruleset callee_rules = (called)
+
 pub ruleset known_rules = (prog-known, logic-known)
+
 pub ruleset declared_rules = (prog-declared, logic-declared)

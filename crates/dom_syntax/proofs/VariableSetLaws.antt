@@ -1,10 +1,9 @@
 -- The names of the variables of each sort, and whether a variable is among them.
-use Rattle.std.proofs.Common.{◌≡◌, ◌∙◌, sym, refl, ap, ℕ, List, [], ◌∷◌, ◌++◌, Bool, true, false, not, ◌&&◌, ◌||◌, cond, Option, Some, None, is_some, bytes_eq, subst, append-nil}
-use Rattle.std.specs.List.{list_any}
+use Rattle.std.proofs.Common.{◌≡◌, ◌∙◌, sym, refl, ap, ℕ, List, [], ◌∷◌, ◌++◌, Bool, true, false, ◌&&◌, ◌||◌, cond, Option, Some, None, is_some, bytes_eq, subst, append-nil}
 use Rattle.std.specs.Option.{option_map}
 use Rattle.model_shapes.specs.Sorts.{ValueSort}
 use Rattle.model_shapes.specs.Tests.{same_value_sort}
-use Rattle.model_terms.specs.Stores.{ProgVar, named, same_name}
+use Rattle.model_terms.specs.Stores.{ProgVar, named}
 use Rattle.model_commands.specs.SortTests.{is_among}
 use Rattle.dom_syntax.specs.declared.tables.Table.{Table}
 use Rattle.dom_syntax.specs.Tables.{Declaration, Declares, first_of, found}

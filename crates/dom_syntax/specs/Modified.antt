@@ -1,6 +1,6 @@
 -- Needn't be believed: the promise speaks of the variables that a command modifies. What a walk
 -- down a command has found so far.
-use Rattle.std.specs.Prelude.{◌≡◌, ◌⊎◌, ◌↔◌, Bool, true, false, List, [], ◌∷◌, map}
+use Rattle.std.specs.Prelude.{◌≡◌, ◌⊎◌, true, false, List, [], ◌∷◌, map}
 use Rattle.model_terms.specs.Stores.{ProgVar, same_name}
 use Rattle.model_commands.specs.Commands.{Among}
 use Rattle.model_commands.specs.SortTests.{distinct_by, is_among}

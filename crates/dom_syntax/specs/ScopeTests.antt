@@ -1,6 +1,6 @@
 -- Needn't be believed: the promises speak of scopes by the definition of file faults. Which program
 -- variables a formula of a header may have, as a test of one variable.
-use Rattle.std.specs.Prelude.{Bool, true, false, not, List, ◌++◌, cond, Option, Some, None}
+use Rattle.std.specs.Prelude.{Bool, true, false, not, List, ◌++◌, Option, Some, None}
 use Rattle.model_shapes.specs.Sorts.{ValueSort, Sort}
 use Rattle.model_shapes.specs.Tests.{same_value_sort, same_sort}
 use Rattle.model_terms.specs.Variables.{Var, prog}

@@ -1,6 +1,6 @@
 -- Needn't be believed: the promises speak of theories and procedures themselves. The names of a
 -- theory and of a procedure, in tables.
-use Rattle.std.specs.Prelude.{◌≡◌, ℕ, List, [], ◌∷◌, ◌++◌, map}
+use Rattle.std.specs.Prelude.{List, map}
 use Rattle.std.specs.List.{flat_map}
 use Rattle.model_shapes.specs.Sorts as sorts
 use Rattle.model_terms.specs.Variables.{Var}

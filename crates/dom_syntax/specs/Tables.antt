@@ -24,6 +24,7 @@ abbrev pub found : {V : Type 0} → Table V → List ℕ → Option V
 found table name = get_by (λ k. bytes_eq name k.now) table.first
 
 -- the table is that of the declarations
-pub record Declares {V W : Type 0} (seen : V → W) (table : Table V) (ds : List (Declaration W)) : Type 0 where
+pub record Declares {V W : Type 0} (seen : V → W) (table : Table V) (ds : List (Declaration W))
+    : Type 0 where
   pub first : (name : List ℕ) → option_map seen (found table name) ≡ first_of ds name
   pub repeats : table.repeats ≡ not (distinct_by share ds)

@@ -11,7 +11,8 @@ use Rattle.dom_syntax.specs.Tables.{Declaration, Declares}
 -- the names of the variables of the sort
 abbrev pub names_of : ValueSort → List ProgVar → List (Declaration Unit)
 names_of s [] = []
-names_of s (named name u ∷ xs) = cond (same_value_sort s u) ((name, tt) ∷ names_of s xs) (names_of s xs)
+names_of s (named name u ∷ xs) =
+    cond (same_value_sort s u) ((name, tt) ∷ names_of s xs) (names_of s xs)
 
 -- the names that the set has at the sort
 abbrev pub table_of : VariableSet → ValueSort → Table Unit

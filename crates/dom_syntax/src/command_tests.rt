@@ -24,10 +24,7 @@ pub(crate) trait CommandTest {
 
 /// Whether the command and each command in its blocks passes.
 #[cycle(all_commands)]
-pub(crate) fn all_commands<T: CommandTest>(
-    test: &T,
-    command: &Command,
-) -> Result<bool, OutOfMemory>
+pub(crate) fn all_commands<T: CommandTest>(test: &T, command: &Command) -> Result<bool, OutOfMemory>
     requires { T.ready test.now }
     ensures { IfOk result
         (λ b. b ≡ list_all (T.test test.now) (commands_in (command_of command.now))) }

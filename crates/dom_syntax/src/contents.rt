@@ -39,10 +39,7 @@ fn reason_arguments(reason: &Reason) -> &[Term]
 
 // Whether each variable in the command passes, if there is one.
 #[tactic(auto, using(crate::proofs::ContentLaws::command_rules))]
-fn all_in_command<T: VariableTest>(
-    test: &T,
-    command: Option<&Command>,
-) -> Result<bool, OutOfMemory>
+fn all_in_command<T: VariableTest>(test: &T, command: Option<&Command>) -> Result<bool, OutOfMemory>
     requires { T.ready test.now }
     ensures { IfOk result (λ b. b ≡ list_all (T.test test.now) (variables_of_any command.entry)) }
 {

@@ -57,7 +57,8 @@ fn is_query(variable: &ProgVar, sort: ValueSort, term: &Term, of: ValueSort) -> 
 
 // Whether the results and the arguments are those of a call of the procedure, if it is there.
 fn does_call_fit(callee: Option<&Procedure>, results: &[ProgVar], arguments: &[Term]) -> bool
-    ensures { result ≡ tests.call_fits (option_map callee_of callee.entry) (map prog_var_of results.now)
+    ensures { result ≡ tests.call_fits (option_map callee_of callee.entry)
+        (map prog_var_of results.now)
         (map term_of arguments.now) }
 {
     match callee {

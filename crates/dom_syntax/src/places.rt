@@ -82,10 +82,14 @@ fn passes_inside(
         (kind_of kind)) }
 {
     match kind {
-        FileKind::Unknown => Ok(contents.all_variables(&Known(scope))?
-            && contents.all_commands(&CalleeKnown(scope.names))?),
-        FileKind::Sort => Ok(contents.all_variables(&AsDeclared(scope))?
-            && contents.all_commands(&PartsFit(scope.names))?),
+        FileKind::Unknown => Ok(
+            contents.all_variables(&Known(scope))?
+                && contents.all_commands(&CalleeKnown(scope.names))?,
+        ),
+        FileKind::Sort => Ok(
+            contents.all_variables(&AsDeclared(scope))?
+                && contents.all_commands(&PartsFit(scope.names))?,
+        ),
         FileKind::Constant => contents.all_commands(&Spares(scope)),
         FileKind::Results => contents.all_commands(&ResultsApart { alloc }),
         _ => Ok(true),
@@ -284,9 +288,11 @@ impl<'a> Place for ProofStep<'a> {
 
     fn passes(&self, kind: FileKind) -> Result<bool, OutOfMemory> {
         match kind {
-            FileKind::Sort => Ok(is_judgement_sorted(&self.step.judgement)
-                && are_arguments_sorted(&self.step.reason)
-                && self.passes_inside(kind)?),
+            FileKind::Sort => Ok(
+                is_judgement_sorted(&self.step.judgement)
+                    && are_arguments_sorted(&self.step.reason)
+                    && self.passes_inside(kind)?,
+            ),
             FileKind::Rule => Ok(is_rule_known(&self.step.reason)),
             FileKind::Number => Ok(self.step.number == self.place),
             _ => self.passes_inside(kind),

@@ -134,8 +134,11 @@ fn check_procedure(
     requires few { length (procedure_of procedure.now).proof < 4294967295 }
     ensures { (earlier : List (ProcedureOf Named))
         → not (list_any (λ g. bytes_eq (procedure_of procedure.now).name g.name) earlier) ≡ is_new
-        → Reports result (model.first_fault_at (record { procedure = number; step = 0;
-        passes = model.header (theory_in names.now) earlier (procedure_of procedure.now) }
+        → Reports result (model.first_fault_at (record {
+          procedure = number;
+          step = 0;
+          passes = model.header (theory_in names.now) earlier (procedure_of procedure.now);
+        }
         ∷ model.steps_from (theory_in names.now) number (procedure_of procedure.now) 1
         (procedure_of procedure.now).proof)) }
 {

@@ -70,8 +70,7 @@ impl<'a> VariableTest for OnlyAmong<'a> {
     ghost test = { λ only x. may_stand (allowed_in only.scope.now only.takes_results) x };
 
     fn takes_prog(&self, variable: &ProgVar) -> bool {
-        self.scope.params.has(variable)
-            || (self.takes_results && self.scope.results.has(variable))
+        self.scope.params.has(variable) || (self.takes_results && self.scope.results.has(variable))
     }
 
     fn takes_logic(&self, _variable: &LogicVar) -> bool {

@@ -80,10 +80,7 @@ fn procedure_table<'a>(
 }
 
 // The logic variables by their names.
-fn logic_table<'a>(
-    alloc: Global,
-    variables: &'a [LogicVar],
-) -> Result<Table<'a, Sort>, OutOfMemory>
+fn logic_table<'a>(alloc: Global, variables: &'a [LogicVar]) -> Result<Table<'a, Sort>, OutOfMemory>
     ensures { IfOk result (λ table. Declares sort_of table (map logic_entry variables.now)) }
 {
     let mut table = Table::new(alloc);

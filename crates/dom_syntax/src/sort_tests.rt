@@ -10,8 +10,9 @@ ghost use Rattle.dom_terms.specs.Sorts.{sort_of, value_sort_of};
 ghost use Rattle.dom_terms.specs.Terms.{prog_var_of, term_of};
 ghost use Rattle.theory_syntax.specs.Commands.{block_of};
 
-use dom_terms::{Cond, DataSort, ProgVar, Sort, Term, ValueSort};
-use dom_terms::{evaluates, has_sort, same_value_sort};
+use dom_terms::{
+    Cond, DataSort, ProgVar, Sort, Term, ValueSort, evaluates, has_sort, same_value_sort,
+};
 use theory_syntax::Block;
 
 /// Whether a sort of contexts can be: no tree and no forest has a hole for a grove.
@@ -88,7 +89,8 @@ pub(crate) fn do_arguments_feed(params: &[ProgVar], arguments: &[Term]) -> bool
 
 /// Whether the variables take the results.
 pub(crate) fn do_variables_receive(results: &[ProgVar], variables: &[ProgVar]) -> bool
-    ensures { result ≡ tests.receives (map prog_var_of results.now) (map prog_var_of variables.now) }
+    ensures { result ≡ tests.receives (map prog_var_of results.now)
+        (map prog_var_of variables.now) }
 {
     let mut others = variables;
     for result in results {

@@ -1,5 +1,5 @@
 -- Over one variable after another, of which none is among those before it.
-use Rattle.std.proofs.Common.{◌≡◌, ◌∙◌, sym, refl, subst, [], ◌∷◌, ◌++◌, map, arith}
+use Rattle.std.proofs.Common.{◌∙◌, sym, refl, subst, [], ◌∷◌, ◌++◌, map, arith}
 use Rattle.model_terms.specs.Stores.{same_name}
 use Rattle.model_commands.specs.SortTests.{distinct_by}
 use Rattle.dom_terms.specs.Terms.{prog_var_of}

@@ -1,5 +1,5 @@
 -- The names are those of the theory, and the procedure is the one that is meant.
-use Rattle.std.proofs.Common.{Option, ◌-◌, ◌∙◌, subst, sym, map, slice_get, ap, length, arith}
+use Rattle.std.proofs.Common.{Option, ◌-◌, ◌∙◌, subst, map, slice_get, ap, length, arith}
 use Rattle.model_files.specs.FileFaults.{FileFault, step_kind}
 use Rattle.theory_syntax.specs.Judgements.{step_of}
 use Rattle.theory_syntax.specs.Theories.{procedure_of, theory_of}

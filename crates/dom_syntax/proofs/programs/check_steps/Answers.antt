@@ -1,5 +1,5 @@
 -- A step at fault, and one that is none.
-use Rattle.std.proofs.Common.{ap, ◌+◌, map, drop}
+use Rattle.std.proofs.Common.{ap, ◌+◌}
 use Rattle.std.proofs.lemmas.Result.{err_from_is_err_and}
 use Rattle.model_files.specs.FileFaults.{first_fault_at, steps_from}
 use Rattle.dom_syntax.specs.Scopes.{procedure_in, theory_in}

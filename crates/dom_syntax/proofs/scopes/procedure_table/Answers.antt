@@ -10,7 +10,8 @@ use Rattle.dom_syntax.proofs.scopes.procedure_table.Goals as goal
 pub returns : goal.returns
 returns c =
     leads-end
-    (λ (fs : List Procedure). map procedure_entry (map nameless_procedure (map procedure_of fs))) refl
+    (λ (fs : List Procedure). map procedure_entry (map nameless_procedure (map procedure_of fs)))
+    refl
     (Declares callee_of c.new-table.result) (Declares callee_of c.loop-procedure.table)
     (map procedure_entry (map nameless_procedure (map procedure_of c.args.procedures.now)))
     c.args.procedures.now c.loop-procedure.procedure-index (omega arith)

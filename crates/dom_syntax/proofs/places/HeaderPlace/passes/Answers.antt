@@ -1,5 +1,5 @@
 -- A name that is new, with names of variables that differ.
-use Rattle.std.proofs.Common.{◌≡◌, ◌∙◌, sym, ◌&&◌, not}
+use Rattle.std.proofs.Common.{◌∙◌, sym, ◌&&◌, not}
 use Rattle.model_files.specs.FileFaults as model
 use Rattle.dom_syntax.specs.Faults.{kind_of}
 use Rattle.dom_syntax.specs.Heads.{earlier_for}

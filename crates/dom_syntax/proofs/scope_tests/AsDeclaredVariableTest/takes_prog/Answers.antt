@@ -1,4 +1,4 @@
-use Rattle.std.proofs.Common.{◌∙◌, refl, Some, None}
+use Rattle.std.proofs.Common.{◌∙◌, Some, None}
 use Rattle.dom_terms.specs.Sorts.{value_sort_of}
 use Rattle.dom_syntax.proofs.ScopeTestLaws.{prog-declared}
 use Rattle.dom_syntax.proofs.scope_tests.AsDeclaredVariableTest.takes_prog.Goals as goal

@@ -1,5 +1,4 @@
 use Rattle.std.proofs.Common.{◌∙◌, ap, is_some}
-use Rattle.std.proofs.Common.{subst}
 use Rattle.dom_terms.specs.Sorts.{value_sort_of}
 use Rattle.dom_syntax.specs.Tables.{found}
 use Rattle.dom_syntax.specs.VariableSets.{table_of}
