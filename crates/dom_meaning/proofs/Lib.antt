@@ -1,4 +1,3 @@
-pub mod PickLaws
 pub mod PieceLaws
 pub mod TermLaws
 pub mod Reading

@@ -52,7 +52,6 @@ pub(crate) fn created(
     pick: (u32, u32),
 ) -> Result<Plan, StepFault>
     requires name { evaluates sorts.str_sort (term_of name.now) ≡ true }
-    requires well_formed { WellFormed (forest_of grove.now) }
     ensures plan { IfOk result (λ plan. (piece : Piece)
         → move_of plan piece (store_of store.now) (forest_of grove.now)
         ≡ creating (pick_of pick) (prog_var_of variable.now)

@@ -1,10 +1,11 @@
--- A node that is found by its number is one that is in use.
-use Rattle.std.proofs.Common.{◌≡◌, ℕ, zero, suc, ◌<◌, ◌+◌, Bool, true, false, ◌||◌, cond, Option, Some, None, Bor, refl, sym, ap, ◌∙◌, arith}
+-- A number is in use exactly where the search for it finds a node.
+use Rattle.std.proofs.Common.{◌≡◌, ℕ, zero, suc, ◌<◌, ◌+◌, Bool, true, false, ◌||◌, cond, List, Option, Some, None, Bor, refl, sym, ap, ◌∙◌, arith}
 use Rattle.std.specs.Prelude.{is_some, option_copied}
 use Rattle.std.specs.Option.{option_or, option_map}
 use Rattle.std.proofs.Math.Decide.{ℕ_discrete}
-use Rattle.model_shapes.specs.Trees.{Trees, none, node, hole, beside, node_uses, one_if}
-use Rattle.model_groves.specs.Groves.{is_yes, nodes_where, numbered, positive}
+use Rattle.model_shapes.specs.Trees.{Trees, none, node, hole, beside, node_uses, list_uses, one_if}
+use Rattle.model_groves.specs.Groves.{is_yes, nodes_where, numbered, listed, positive}
+use Rattle.model_groves.proofs.Groves.{bit}
 use Rattle.grove_data.specs.Finding.{first_tree}
 use Rattle.grove_data.specs.Trees.{tree_of}
 use Rattle.grove_data.specs.declared.trees.Tree.{Tree}
@@ -24,37 +25,62 @@ some-or : (a b : Option Trees) → is_some (option_or a b) ≡ (is_some a || is_
 some-or None b = refl
 some-or (Some t) b = refl
 
--- a node of the number is found exactly where the number is in use
-found_where_used : (n : ℕ) (g : Trees)
-    → is_some (first_tree (nodes_where (numbered n) g)) ≡ positive (node_uses n g)
-found_where_used n none = refl
-found_where_used n (hole r) = found_where_used n r
-found_where_used n (node s i k l r) =
-    by_test (ℕ_discrete n i) (found_where_used n k) (found_where_used n r)
+-- a count of the nodes that pass the test
+module _ (test : ℕ → Trees → ℕ → Bool) (uses : Trees → ℕ) (at_none : uses none ≡ 0)
+    (at_node : (s : List ℕ) (i : ℕ) (k : Trees) (l : ℕ) (r : Trees)
+    → uses (node s i k l r) ≡ bit (test i k l) + (uses k + uses r))
+    (at_hole : (r : Trees) → uses (hole r) ≡ uses r)
   where
-    by_test : (d : Dec (n ≡ i))
-        → is_some (first_tree (nodes_where (numbered n) k)) ≡ positive (node_uses n k)
-        → is_some (first_tree (nodes_where (numbered n) r)) ≡ positive (node_uses n r)
-        → is_some (first_tree (cond (is_yes d) (node s i k l (nodes_where (numbered n) r))
-        (beside (nodes_where (numbered n) k) (nodes_where (numbered n) r))))
-        ≡ positive (one_if d + (node_uses n k + node_uses n r))
-    by_test (yes e) x y = in-use (1 + (node_uses n k + node_uses n r)) (omega arith)
-    by_test (no m) x y =
-        ap is_some
-        (first_tree-beside (nodes_where (numbered n) k) (nodes_where (numbered n) r))
-        ∙ some-or (first_tree (nodes_where (numbered n) k))
-        (first_tree (nodes_where (numbered n) r))
-        ∙ (λ j. x j || y j)
-        ∙ positive-sum (node_uses n k) (node_uses n r)
-        ∙ ap positive (let e : node_uses n k + node_uses n r
-        ≡ 0 + (node_uses n k + node_uses n r) = omega arith in e)
+    -- one is found exactly where the count isn't 0
+    found-where-used : (g : Trees) → is_some (first_tree (nodes_where test g)) ≡ positive (uses g)
+    found-where-used none = ap positive (sym at_none)
+    found-where-used (hole r) = found-where-used r ∙ ap positive (sym (at_hole r))
+    found-where-used (node s i k l r) =
+        by_test (test i k l) (found-where-used k) (found-where-used r)
+        ∙ ap positive (sym (at_node s i k l r))
+      where
+        by_test : (b : Bool) → is_some (first_tree (nodes_where test k)) ≡ positive (uses k)
+            → is_some (first_tree (nodes_where test r)) ≡ positive (uses r)
+            → is_some (first_tree (cond b (node s i k l (nodes_where test r))
+            (beside (nodes_where test k) (nodes_where test r))))
+            ≡ positive (bit b + (uses k + uses r))
+        by_test true x y = in-use (1 + (uses k + uses r)) (omega arith)
+        by_test false x y =
+            ap is_some (first_tree-beside (nodes_where test k) (nodes_where test r))
+            ∙ some-or (first_tree (nodes_where test k)) (first_tree (nodes_where test r))
+            ∙ (λ j. x j || y j)
+            ∙ positive-sum (uses k) (uses r)
+            ∙ ap positive (let e : uses k + uses r ≡ 0 + (uses k + uses r) = omega arith in e)
 
--- the answer of a search for the number says whether it is in use
-pub told_by_search : (found : Option (Bor Tree)) (n : ℕ) (t : Tree)
-    → option_map tree_of (option_copied found) ≡ first_tree (nodes_where (numbered n) (tree_of t))
-    → is_some found ≡ positive (node_uses n (tree_of t))
-told_by_search found n t e = same found ∙ ap is_some e ∙ found_where_used n (tree_of t)
-  where
-    same : (f : Option (Bor Tree)) → is_some f ≡ is_some (option_map tree_of (option_copied f))
-    same None = refl
-    same (Some t) = refl
+    -- and the search tells
+    told : (found : Option (Bor Tree)) (g : Trees)
+        → option_map tree_of (option_copied found) ≡ first_tree (nodes_where test g)
+        → is_some found ≡ positive (uses g)
+    told found g e = same found ∙ ap is_some e ∙ found-where-used g
+      where
+        same : (f : Option (Bor Tree)) → is_some f ≡ is_some (option_map tree_of (option_copied f))
+        same None = refl
+        same (Some t) = refl
+
+-- an answer as a count
+bit-is : {A : Type 0} (d : Dec A) → one_if d ≡ bit (is_yes d)
+bit-is (yes a) = refl
+bit-is (no n) = refl
+
+-- of the number of a node
+pub told_of_node : (found : Option (Bor Tree)) (n : ℕ) (g : Trees)
+    → option_map tree_of (option_copied found) ≡ first_tree (nodes_where (numbered n) g)
+    → is_some found ≡ positive (node_uses n g)
+told_of_node found n =
+    told (numbered n) (node_uses n) refl
+    (λ s i k l r. ap (λ z. z + (node_uses n k + node_uses n r)) (bit-is (ℕ_discrete n i)))
+    (λ r. refl) found
+
+-- of the number of a list
+pub told_of_list : (found : Option (Bor Tree)) (n : ℕ) (g : Trees)
+    → option_map tree_of (option_copied found) ≡ first_tree (nodes_where (listed n) g)
+    → is_some found ≡ positive (list_uses n g)
+told_of_list found n =
+    told (listed n) (list_uses n) refl
+    (λ s i k l r. ap (λ z. z + (list_uses n k + list_uses n r)) (bit-is (ℕ_discrete n l)))
+    (λ r. refl) found

@@ -4,7 +4,7 @@ ghost use Rattle.std.specs.Prelude.{MatchOption, option_copied};
 ghost use Rattle.std.specs.Option.{option_map};
 ghost use Rattle.model_shapes.specs.Values.{node_number, list_number};
 ghost use Rattle.model_shapes.specs.Trees as shapes;
-ghost use Rattle.model_shapes.specs.Trees.{node_uses, WellFormed};
+ghost use Rattle.model_shapes.specs.Trees.{node_uses, list_uses, WellFormed};
 ghost use Rattle.model_groves.specs.Groves as groves;
 ghost use Rattle.model_groves.specs.Groves.{nodes_where, parental, first_number};
 ghost use Rattle.model_groves.specs.Groves.{node_at, list_at, positive};
@@ -67,11 +67,27 @@ pub fn parent_of(grove: &Grove, id: u32) -> Option<Option<u32>>
 }
 
 /// Whether the node with the number is this one or stands below it.
-#[tactic(auto, using(crate::proofs::Uses::told_by_search))]
+#[tactic(auto, using(crate::proofs::Uses::told_of_node))]
 pub fn is_within(tree: &Tree, id: u32) -> bool
     ensures { result ≡ positive (node_uses id (tree_of tree.now)) }
 {
     first_in(tree, Wanted::Node(id)).is_some()
+}
+
+/// Whether a node of the forest has the number.
+#[tactic(auto, using(crate::proofs::Uses::told_of_node))]
+pub fn has_node(forest: &Forest, id: u32) -> bool
+    ensures { result ≡ positive (node_uses id (forest_of forest.now)) }
+{
+    first_among(forest, Wanted::Node(id)).is_some()
+}
+
+/// Whether a children list of the forest has the number.
+#[tactic(auto, using(crate::proofs::Uses::told_of_list))]
+pub fn has_list(forest: &Forest, list: u32) -> bool
+    ensures { result ≡ positive (list_uses list (forest_of forest.now)) }
+{
+    first_among(forest, Wanted::List(list)).is_some()
 }
 
 /// Whether a root of the forest has the number.

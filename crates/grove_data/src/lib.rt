@@ -13,7 +13,7 @@ mod unique;
 
 pub use changing::{moved_below, moved_to_roots};
 pub use counting::{greatest_ids, has_at_most};
-pub use finding::{find, find_list, has_root, is_within, parent_of};
+pub use finding::{find, find_list, has_list, has_node, has_root, is_within, parent_of};
 pub use roots::{same_sorted, sort_roots};
 pub use trees::{Forest, Grove, IdKind, Tree};
 pub use unique::{UniqueFault, check_unique};
