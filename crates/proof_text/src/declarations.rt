@@ -3,17 +3,18 @@ ghost use Rattle.std.specs.Prelude.{◌≡◌, map};
 ghost use Rattle.std.specs.Option.{option_map};
 ghost use Rattle.dom_terms.specs.Sorts.{sort_of};
 ghost use Rattle.dom_terms.specs.Terms.{prog_var_of};
-ghost use Rattle.token_readers.specs.Reading.{leaf, sep_list};
+ghost use Rattle.token_readers.specs.Reading.{leaf};
 ghost use Rattle.token_readers.specs.Giving.{Gives};
 ghost use Rattle.token_readers.specs.Leaves.{seen, lexemes_in};
-ghost use Rattle.proof_text.specs.Lists.{comma, bracketed_at};
+ghost use Rattle.proof_text.specs.Lists.{bracketed_at};
 ghost use Rattle.proof_text.specs.Theories.{shape_sort_called, leaf_shape_sort, sort_called, leaf_sort, declaration_at};
 
+use crate::bracketed::bracketed;
 use crate::sorts::value_sort;
 use dom_terms::{DataSort, ProgVar, Sort, ValueSort, Vars};
 use std::alloc::Global;
 use text_tokens::Token;
-use token_readers::{ReadFault, after, expect, name};
+use token_readers::{ReadFault, Reader, expect, name};
 
 fn shape_sort_called(name: &str) -> Option<Sort>
     ensures { option_map sort_of result ≡ shape_sort_called name.now }
@@ -104,35 +105,35 @@ fn declaration(alloc: Global, tokens: &[Token]) -> Result<(ProgVar, &[Token]), R
     Ok((ProgVar { name, sort }, rest))
 }
 
-// One or more declarations with commas between them.
-fn listed(alloc: Global, tokens: &[Token]) -> Result<(Vars, &[Token]), ReadFault>
-    ensures { Gives (λ x. (map prog_var_of x.0, lexemes_in x.1.now)) result
-        (sep_list comma declaration_at u32.MAX (lexemes_in tokens.now)) }
-{
-    let mut found = Vars::new(alloc);
-    let mut rest = tokens;
-    for _ in 0..u32::MAX {
-        let (item, behind) = declaration(alloc, rest)?;
-        found.push(item)?;
-        match after(behind, ",") {
-            Some(next) => rest = next,
-            None => return Ok((found, behind)),
-        }
+// Reads declarations.
+#[derive(Clone, Copy)]
+struct DeclarationReader;
+
+impl Reader<ProgVar> for DeclarationReader {
+    ghost use Rattle.model_terms.specs.Stores as model;
+
+    ghost Seen = { model.ProgVar };
+
+    ghost seen = { prog_var_of };
+
+    ghost reading = { λ _. declaration_at };
+
+    fn read<'a>(
+        &self,
+        alloc: Global,
+        tokens: &'a [Token],
+    ) -> Result<(ProgVar, &'a [Token]), ReadFault>
+        ensures { Gives (λ x. (prog_var_of x.0, lexemes_in x.1.now)) result
+            (declaration_at (lexemes_in tokens.now)) }
+    {
+        declaration(alloc, tokens)
     }
-    Err(ReadFault::Memory)
 }
 
 /// The declarations in brackets.
-#[tactic(auto, unfolding(crate::specs::Lists::bracketed_at))]
 pub fn declarations(alloc: Global, tokens: &[Token]) -> Result<(Vars, &[Token]), ReadFault>
     ensures { Gives (λ x. (map prog_var_of x.0, lexemes_in x.1.now)) result
         (bracketed_at declaration_at u32.MAX (lexemes_in tokens.now)) }
 {
-    let rest = expect(tokens, "(")?;
-    if let Some(behind) = after(rest, ")") {
-        return Ok((Vars::new(alloc), behind));
-    }
-    let (found, rest) = listed(alloc, rest)?;
-    let rest = expect(rest, ")")?;
-    Ok((found, rest))
+    bracketed(alloc, &DeclarationReader, tokens)
 }

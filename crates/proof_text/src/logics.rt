@@ -11,28 +11,18 @@ ghost use Rattle.proof_text.specs.Formulas.{leaf_logic};
 ghost use Rattle.proof_text.specs.Theories.{logic_tail, joined_lines, logic_lines_at};
 
 use crate::declarations::any_sort;
-use crate::names::logic_name;
+use crate::names::LogicNameReader;
 use dom_terms::{Copied, List, LogicVar, LogicVars, OutOfMemory, Sort, Text};
 use std::alloc::Global;
 use text_tokens::Token;
-use token_readers::{ReadFault, after, expect};
+use token_readers::{ReadFault, after, expect, separated};
 
 // One or more logic names with commas between them.
 fn names(alloc: Global, tokens: &[Token]) -> Result<(List<Text>, &[Token]), ReadFault>
     ensures { Gives (λ x. (x.0, lexemes_in x.1.now)) result
         (sep_list comma (leaf leaf_logic) u32.MAX (lexemes_in tokens.now)) }
 {
-    let mut found = List::new(alloc);
-    let mut rest = tokens;
-    for _ in 0..u32::MAX {
-        let (item, behind) = logic_name(alloc, rest)?;
-        found.push(item)?;
-        match after(behind, ",") {
-            Some(next) => rest = next,
-            None => return Ok((found, behind)),
-        }
-    }
-    Err(ReadFault::Memory)
+    separated(alloc, &LogicNameReader, ",", tokens)
 }
 
 // The variables of these names, all of one sort.

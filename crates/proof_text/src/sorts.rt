@@ -11,7 +11,7 @@ ghost use Rattle.proof_text.specs.Lists.{value_sort_called, leaf_value_sort, dat
 use dom_terms::{Copied, DataSort, ProgVar, ValueSort};
 use std::alloc::Global;
 use text_tokens::Token;
-use token_readers::ReadFault;
+use token_readers::{ReadFault, Reader};
 
 fn value_sort_called(name: &str) -> Option<ValueSort>
     ensures { option_map value_sort_of result ≡ value_sort_called name.now }
@@ -98,5 +98,30 @@ pub fn variable(alloc: Global, tokens: &[Token]) -> Result<(ProgVar, &[Token]), 
             Ok((ProgVar { name, sort }, rest))
         }
         None => Err(ReadFault::Text(tokens.len())),
+    }
+}
+
+/// Reads variables as they are used.
+#[derive(Clone, Copy)]
+pub struct VariableReader;
+
+impl Reader<ProgVar> for VariableReader {
+    ghost use Rattle.model_terms.specs.Stores as model;
+
+    ghost Seen = { model.ProgVar };
+
+    ghost seen = { prog_var_of };
+
+    ghost reading = { λ _. leaf leaf_variable };
+
+    fn read<'a>(
+        &self,
+        alloc: Global,
+        tokens: &'a [Token],
+    ) -> Result<(ProgVar, &'a [Token]), ReadFault>
+        ensures { Gives (λ x. (prog_var_of x.0, lexemes_in x.1.now)) result
+            (leaf leaf_variable (lexemes_in tokens.now)) }
+    {
+        variable(alloc, tokens)
     }
 }

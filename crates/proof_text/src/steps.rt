@@ -2,52 +2,48 @@
 ghost use Rattle.std.specs.Prelude.{◌≡◌, map};
 ghost use Rattle.dom_terms.specs.Terms.{term_of};
 ghost use Rattle.theory_syntax.specs.Judgements.{reason_of, step_of};
-ghost use Rattle.token_readers.specs.Reading.{leaf, sep_list, many};
+ghost use Rattle.token_readers.specs.Reading.{leaf, many};
 ghost use Rattle.token_readers.specs.Giving.{Gives};
 ghost use Rattle.token_readers.specs.Leaves.{lexemes_in, leaf_number, leaf_step};
-ghost use Rattle.proof_text.specs.Lists.{comma, bracketed_at};
+ghost use Rattle.proof_text.specs.Lists.{bracketed_at};
 ghost use Rattle.proof_text.specs.Theories.{arguments_at, reason_at, step_tail};
 
-use crate::bracketed::listed_terms;
+use crate::bracketed::{bracketed, listed_terms};
 use crate::judgements::judgement;
 use crate::terms::Place;
 use dom_terms::{Numbers, Terms};
 use std::alloc::Global;
 use text_tokens::Token;
 use theory_syntax::{Reason, Step, Steps};
-use token_readers::{ReadFault, after, expect, number, step_line, word};
+use token_readers::{ReadFault, Reader, after, expect, number, step_line, word};
 
-// One or more numbers with commas between them.
-fn numbers(alloc: Global, tokens: &[Token]) -> Result<(Numbers, &[Token]), ReadFault>
-    ensures { Gives (λ x. (x.0, lexemes_in x.1.now)) result
-        (sep_list comma (leaf leaf_number) u32.MAX (lexemes_in tokens.now)) }
-{
-    let mut found = Numbers::new(alloc);
-    let mut rest = tokens;
-    for _ in 0..u32::MAX {
-        let (item, behind) = number(rest)?;
-        found.push(item)?;
-        match after(behind, ",") {
-            Some(next) => rest = next,
-            None => return Ok((found, behind)),
-        }
+// Reads numbers of steps.
+#[derive(Clone, Copy)]
+struct NumberReader;
+
+impl Reader<u32> for NumberReader {
+    ghost use Rattle.std.specs.Prelude.{ℕ};
+
+    ghost Seen = { ℕ };
+
+    ghost seen = { λ number. number };
+
+    ghost reading = { λ _. leaf leaf_number };
+
+    fn read<'a>(&self, _alloc: Global, tokens: &'a [Token]) -> Result<(u32, &'a [Token]), ReadFault>
+        ensures { Gives (λ x. (x.0, lexemes_in x.1.now)) result
+            (leaf leaf_number (lexemes_in tokens.now)) }
+    {
+        number(tokens)
     }
-    Err(ReadFault::Memory)
 }
 
 // The numbers of the steps that a step cites, in brackets.
-#[tactic(auto, unfolding(crate::specs::Lists::bracketed_at))]
 fn premises(alloc: Global, tokens: &[Token]) -> Result<(Numbers, &[Token]), ReadFault>
     ensures { Gives (λ x. (x.0, lexemes_in x.1.now)) result
         (bracketed_at (leaf leaf_number) u32.MAX (lexemes_in tokens.now)) }
 {
-    let rest = expect(tokens, "(")?;
-    if let Some(behind) = after(rest, ")") {
-        return Ok((Numbers::new(alloc), behind));
-    }
-    let (found, rest) = numbers(alloc, rest)?;
-    let rest = expect(rest, ")")?;
-    Ok((found, rest))
+    bracketed(alloc, &NumberReader, tokens)
 }
 
 // The arguments of a rule, behind the word `with`.

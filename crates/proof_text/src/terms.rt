@@ -14,7 +14,7 @@ ghost use Rattle.proof_text.specs.Places.{place_of};
 use dom_terms::{Copied, LogicVar, ProgVar, Sort, Term, ValueSort};
 use std::alloc::Global;
 use text_tokens::Token;
-use token_readers::{ReadFault, after, expect};
+use token_readers::{ReadFault, Reader, after, expect};
 
 /// Where a term stands.
 #[derive(Clone, Copy, Debug, PartialEq, Eq)]
@@ -206,4 +206,30 @@ pub fn term<'a>(
         return operation(alloc, place, depth - 1, rest);
     }
     word(alloc, place, tokens)
+}
+
+/// Reads terms at the place, nested at most so deep.
+#[derive(Clone, Copy)]
+pub struct TermReader {
+    /// Where they stand.
+    pub place: Place,
+    /// How deep they may nest.
+    pub depth: u32,
+}
+
+impl Reader<Term> for TermReader {
+    ghost use Rattle.model_terms.specs.Terms as model;
+
+    ghost Seen = { model.Term };
+
+    ghost seen = { term_of };
+
+    ghost reading = { λ reader. term_at (place_of reader.place) reader.depth };
+
+    fn read<'a>(&self, alloc: Global, tokens: &'a [Token]) -> Result<(Term, &'a [Token]), ReadFault>
+        ensures { Gives (λ x. (term_of x.0, lexemes_in x.1.now)) result
+            (term_at (place_of self.now.place) self.now.depth (lexemes_in tokens.now)) }
+    {
+        term(alloc, self.place, self.depth, tokens)
+    }
 }

@@ -6,8 +6,10 @@
 
 mod fault;
 mod leaves;
+mod listed;
 mod terminals;
 
 pub use fault::{ReadFault, TextFault};
 pub use leaves::{name, number, step_line, word};
+pub use listed::{Gathers, Reader, separated};
 pub use terminals::{after, expect, is_this};

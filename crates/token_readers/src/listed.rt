@@ -1,0 +1,101 @@
+// Lists of items with a mark between each two.
+ghost use Rattle.std.specs.Prelude.{◌≡◌, [], ◌∷◌, ◌++◌, map, OnOk};
+ghost use Rattle.token_readers.specs.Reading.{sep_list};
+ghost use Rattle.token_readers.specs.Giving.{Gives};
+ghost use Rattle.token_readers.specs.Leaves.{lexemes_in};
+
+use crate::fault::ReadFault;
+use crate::terminals::after;
+use dom_terms::{Few, List, OutOfMemory};
+use std::alloc::Global;
+use text_tokens::Token;
+
+/// Something that reads an item at the front of a list of tokens.
+pub trait Reader<T> {
+    ghost use Rattle.token_readers.specs.Reading.{Read};
+
+    // the type of the plain data
+    ghost Seen: { Type 0 };
+
+    // the plain data that an item stands for
+    ghost seen: { T → Seen };
+
+    // how it is read from lexemes
+    ghost reading: { Self → Read Seen };
+
+    /// The item and what stands behind it.
+    fn read<'a>(&self, alloc: Global, tokens: &'a [Token]) -> Result<(T, &'a [Token]), ReadFault>
+        ensures { Gives (λ x. (seen x.0, lexemes_in x.1.now)) result
+            (reading self.now (lexemes_in tokens.now)) };
+}
+
+/// A list that takes items at its end.
+pub trait Gathers<T>: Sized + Drop {
+    ghost use Rattle.std.specs.Prelude as plain;
+
+    // the items of the list
+    ghost items: { Self → plain.List T };
+
+    /// The empty list.
+    fn empty(alloc: Global) -> Self
+        ensures { items result ≡ [] };
+
+    /// Puts an item at the end.
+    fn put(&mut self, item: T) -> Result<(), OutOfMemory>
+        ensures { OnOk result (items self.new ≡ items self.old ++ item ∷ []) };
+}
+
+impl<T: Drop> Gathers<T> for List<T> {
+    ghost items = { λ list. list };
+
+    fn empty(alloc: Global) -> List<T>
+        ensures { result ≡ [] }
+    {
+        List::new(alloc)
+    }
+
+    fn put(&mut self, item: T) -> Result<(), OutOfMemory>
+        ensures { OnOk result (self.new ≡ self.old ++ item ∷ []) }
+    {
+        self.push(item)
+    }
+}
+
+impl<T: Default + Drop, const N: usize> Gathers<T> for Few<T, N> {
+    ghost items = { λ list. list };
+
+    fn empty(alloc: Global) -> Few<T, N>
+        ensures { result ≡ [] }
+    {
+        Few::new(alloc)
+    }
+
+    fn put(&mut self, item: T) -> Result<(), OutOfMemory>
+        ensures { OnOk result (self.new ≡ self.old ++ item ∷ []) }
+    {
+        self.push(item)
+    }
+}
+
+/// One item or more, with the mark between each two.
+pub fn separated<'a, T: Drop, R: Reader<T>, L: Gathers<T>>(
+    alloc: Global,
+    reader: &R,
+    mark: &str,
+    tokens: &'a [Token],
+) -> Result<(L, &'a [Token]), ReadFault>
+    ensures { Gives (λ x. (map R.seen (L.items x.0), lexemes_in x.1.now)) result
+        (sep_list mark.now (R.reading reader.now) u32.MAX (lexemes_in tokens.now)) }
+{
+    let mut found = L::empty(alloc);
+    let mut rest = tokens;
+    for _ in 0..u32::MAX {
+        let (item, behind) = reader.read(alloc, rest)?;
+        found.put(item)?;
+        match after(behind, mark) {
+            Some(next) => rest = next,
+            None => return Ok((found, behind)),
+        }
+    }
+    Err(ReadFault::Memory)
+}
