@@ -7,7 +7,7 @@ ghost use Rattle.text_tokens.specs.Reading.{token_between, EndsIn, GoesOn, AreRe
 ghost use Rattle.text_tokens.specs.Tokens.{kind_of, token_of};
 
 use crate::lines::{decode, line_length};
-use crate::literals::{spelled, unescaped};
+use crate::literals::{spell, unescape};
 use crate::pieces::{Piece, piece_at};
 use crate::positions::{Position, advanced, first_position};
 use crate::tokens::{Token, TokenKind, Tokens};
@@ -35,17 +35,18 @@ fn between_quotes(own: &[char]) -> &[char]
     }
 }
 
-/// The text of a token of the kind that has these characters.
-fn token_text(alloc: Global, kind: TokenKind, own: &[char]) -> Result<Text, OutOfMemory>
-    ensures { IfOk result (λ text. text ≡ token_text (kind_of kind) own.now) }
+/// Puts the text of a token of the kind that has these characters at the end of the text.
+fn put_text(kind: TokenKind, own: &[char], text: &mut Text) -> Result<(), OutOfMemory>
+    ensures { OnOk result (text.new ≡ text.old ++ token_text (kind_of kind) own.now) }
 {
     match kind {
-        TokenKind::Literal => unescaped(alloc, between_quotes(own)),
-        _ => spelled(alloc, own),
+        TokenKind::Literal => unescape(between_quotes(own), text),
+        _ => spell(own, text),
     }
 }
 
-/// Puts the token of the kind that has these characters at the end of the list.
+/// Puts the token of the kind that has these characters at the end of the list. The text is written
+/// in its place there, since it is slow to move right after its characters were written.
 fn push_token(
     alloc: Global,
     kind: TokenKind,
@@ -58,14 +59,17 @@ fn push_token(
         (map token_of tokens.new
         ≡ map token_of tokens.old ++ token_between (kind_of kind) own.now from to ∷ []) }
 {
-    let text = token_text(alloc, kind, own)?;
     tokens.push(Token {
         kind,
-        text,
+        text: Text::new(alloc),
         start: from.place,
         end: to.place,
         line: from.line,
-    })
+    })?;
+    match tokens.last_mut() {
+        Some(token) => put_text(kind, own, &mut token.text),
+        None => Ok(()),
+    }
 }
 
 /// Reads the piece at the front of what is left of a line, and puts its token, if it is one, at the
