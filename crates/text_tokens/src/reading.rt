@@ -1,5 +1,5 @@
 // The list of the tokens of bytes.
-ghost use Rattle.std.specs.Prelude.{◌≡◌, ◌+◌, ◌-◌, ◌<◌, ◌≤◌, [], ◌∷◌, ◌++◌, length, take, drop, map, encode_utf8_all, IfOk, IfNone, IfSome, OnOk};
+ghost use Rattle.std.specs.Prelude.{◌≡◌, ◌+◌, ◌-◌, ◌<◌, ◌≤◌, [], ◌∷◌, ◌++◌, true, length, take, drop, map, encode_utf8_all, IfOk, IfNone, IfSome, OnOk};
 ghost use Rattle.std.specs.Str.Lossy.{utf8_valid_len};
 ghost use Rattle.model_text.specs.Tokens.{token_text, tokens_of};
 ghost use Rattle.text_tokens.specs.Positions.{IsPlace};
@@ -73,15 +73,18 @@ fn push_token(
 }
 
 /// Reads the piece at the front of what is left of a line, and puts its token, if it is one, at the
-/// end of the list. Gives the position after the piece, and none where the list ends.
+/// end of the list. Gives the position after the piece, and none where the list ends. Single says
+/// that each character has a single byte.
 fn read_piece(
     alloc: Global,
     bytes: &[u8],
     line: &[char],
+    single: bool,
     from: Position,
     tokens: &mut Tokens,
 ) -> Result<Option<Position>, OutOfMemory>
     requires is { IsPlace bytes.now from }
+    requires single { single ≡ true → length (encode_utf8_all line.now) ≡ length line.now }
     requires within { from.place + length (encode_utf8_all line.now) ≤ length bytes.now }
     requires some { 0 < length line.now }
     requires bounded { length bytes.now < 4294967295 }
@@ -93,7 +96,7 @@ fn read_piece(
 {
     let piece = piece_at(line);
     let own = &line[..piece.len()];
-    let to = advanced(bytes, own, from);
+    let to = advanced(bytes, own, single, from);
     match piece {
         Piece::Gap(_) => Ok(Some(to)),
         Piece::Token(kind, _) => {
@@ -108,15 +111,17 @@ fn read_piece(
 }
 
 /// Reads a line and puts its tokens at the end of the list. Gives the position after the line, and
-/// none where the list ends.
+/// none where the list ends. Single says that each character has a single byte.
 fn read_line(
     alloc: Global,
     bytes: &[u8],
     line: &[char],
+    single: bool,
     from: Position,
     tokens: &mut Tokens,
 ) -> Result<Option<Position>, OutOfMemory>
     requires is { IsPlace bytes.now from }
+    requires single { single ≡ true → length (encode_utf8_all line.now) ≡ length line.now }
     requires within { from.place + length (encode_utf8_all line.now) ≤ length bytes.now }
     requires bounded { length bytes.now < 4294967295 }
     ensures ends { IfOk result (λ next. IfNone next
@@ -127,7 +132,7 @@ fn read_line(
     let mut position = from;
     let mut left = line;
     while !left.is_empty() {
-        let Some(next) = read_piece(alloc, bytes, left, position, tokens)? else {
+        let Some(next) = read_piece(alloc, bytes, left, single, position, tokens)? else {
             return Ok(None);
         };
         left = &left[next.number - position.number..];
@@ -157,7 +162,9 @@ fn read_lines(
     while !left.is_empty() {
         let (own, later) = left.split_at(line_length(left));
         decode(own, &mut line)?;
-        let Some(next) = read_line(alloc, bytes, &line, position, tokens)? else {
+        let characters = line.as_slice();
+        let single = own.len() == characters.len();
+        let Some(next) = read_line(alloc, bytes, characters, single, position, tokens)? else {
             return Ok(None);
         };
         left = later;
