@@ -326,6 +326,26 @@ ends_bad bytes line before after from e some within put = λ text on.
     (omega (arith, length-le-encodes line)))
     ∙ sym put
 
+-- SINGLE BYTES
+-- where each character has a single byte, so has each before a place and each behind it
+pub single_parts : (line : List ℕ) (n : ℕ) → length (encode_utf8_all line) ≡ length line
+    → (length (encode_utf8_all (take n line)) ≡ length (take n line))
+    × (length (encode_utf8_all (drop n line)) ≡ length (drop n line))
+single_parts line n single =
+    let bytes : length (encode_utf8_all (take n line)) + length (encode_utf8_all (drop n line))
+    ≡ length line =
+    sym (length-append (encode_utf8_all (take n line)) (encode_utf8_all (drop n line)))
+    ∙ ap length (sym (encodes-append (take n line) (drop n line))
+    ∙ ap encode_utf8_all (take-append-drop n line))
+    ∙ single in
+    let characters : length (take n line) + length (drop n line) ≡ length line =
+    sym (length-append (take n line) (drop n line)) ∙ ap length (take-append-drop n line) in
+    let front : length (take n line) ≤ length (encode_utf8_all (take n line)) =
+    length-le-encodes (take n line) in
+    let rest : length (drop n line) ≤ length (encode_utf8_all (drop n line)) =
+    length-le-encodes (drop n line) in
+    (omega arith, omega arith)
+
 -- LINE AFTER LINE
 -- after some characters of the line, some more
 goes_on_more : (bytes line : List ℕ) (before mid after : List Token) (from by to : Position)
@@ -405,6 +425,14 @@ left_ends bytes line left before mid from by so = let n : ℕ = length line - le
       length-append (encode_utf8_all (take n line)) (encode_utf8_all left),
     )
 
+-- each of those left has a single byte where each of the line has
+pub single_left : (bytes line left : List ℕ) (before mid : List Token) (from by : Position)
+    → IsReadTo bytes line before from mid left by → length (encode_utf8_all line) ≡ length line
+    → length (encode_utf8_all left) ≡ length left
+single_left bytes line left before mid from by so single =
+    ap (λ l. length (encode_utf8_all l)) so.rest
+    ∙ (single_parts line (length line - length left) single).1 ∙ sym (ap length so.rest)
+
 -- where the list ends in those left, it ends in the line
 pub ends_left : (bytes line left : List ℕ) (before mid after : List Token) (from by : Position)
     → IsReadTo bytes line before from mid left by → EndsIn bytes left mid by after
@@ -444,6 +472,13 @@ line_bytes left own later line cut =
     let bytes : encode_utf8_all line ≡ own = ap encode_utf8_all cut.decoded
     ∙ encodes-chars own cut.own_utf8 in
     omega (arith, ap length bytes, ap length cut.whole, length-append own later)
+
+-- each has a single byte where there are as many bytes
+pub single_line : (left own later line : List ℕ) → IsCut left own later line
+    → (length own == length line) ≡ true → length (encode_utf8_all line) ≡ length line
+single_line left own later line cut test =
+    ap length (ap encode_utf8_all cut.decoded ∙ encodes-chars own cut.own_utf8)
+    ∙ eqb-true (length own) (length line) test
 
 no_characters : chars [] ≡ []
 unfolding chars

@@ -1,9 +1,8 @@
 // The text literal at the front of a text, and the text that it stands for.
-ghost use Rattle.std.specs.Prelude.{◌≡◌, ◌+◌, ◌≤◌, false, length, encode_utf8_all, IfOk};
+ghost use Rattle.std.specs.Prelude.{◌≡◌, ◌+◌, ◌≤◌, ◌++◌, false, length, encode_utf8_all, OnOk};
 ghost use Rattle.model_text.specs.Tokens.{is_escape, literal_end, literal_length, unescaped};
 
 use dom_terms::{OutOfMemory, Text};
-use std::alloc::Global;
 
 /// Whether the character may stand after a backslash.
 fn is_escape(character: char) -> bool
@@ -47,11 +46,11 @@ pub fn literal_length(text: &[char]) -> usize
     }
 }
 
-/// The text that the characters between the quotes of a literal stand for.
-pub fn unescaped(alloc: Global, inside: &[char]) -> Result<Text, OutOfMemory>
-    ensures { IfOk result (λ text. text ≡ encode_utf8_all (unescaped false inside.now)) }
+/// Puts what the characters between the quotes of a literal stand for at the end of the text.
+pub fn unescape(inside: &[char], text: &mut Text) -> Result<(), OutOfMemory>
+    ensures { OnOk result
+        (text.new ≡ text.old ++ encode_utf8_all (unescaped false inside.now)) }
 {
-    let mut text = Text::new(alloc);
     let mut escaped = false;
     for character in inside {
         if *character == '\\' && !escaped {
@@ -66,16 +65,15 @@ pub fn unescaped(alloc: Global, inside: &[char]) -> Result<Text, OutOfMemory>
         text.push(meant)?;
         escaped = false;
     }
-    Ok(text)
+    Ok(())
 }
 
-/// The text of the characters.
-pub fn spelled(alloc: Global, characters: &[char]) -> Result<Text, OutOfMemory>
-    ensures { IfOk result (λ text. text ≡ encode_utf8_all characters.now) }
+/// Puts the characters at the end of the text.
+pub fn spell(characters: &[char], text: &mut Text) -> Result<(), OutOfMemory>
+    ensures { OnOk result (text.new ≡ text.old ++ encode_utf8_all characters.now) }
 {
-    let mut text = Text::new(alloc);
     for character in characters {
         text.push(*character)?;
     }
-    Ok(text)
+    Ok(())
 }

@@ -1,5 +1,5 @@
 // Places in the bytes, and the lines on which they stand.
-ghost use Rattle.std.specs.Prelude.{◌≡◌, ℕ, List, ◌+◌, ◌<◌, ◌≤◌, ◌==◌, ◌^◌, length, count_by, encode_utf8_all};
+ghost use Rattle.std.specs.Prelude.{◌≡◌, ℕ, List, ◌+◌, ◌<◌, ◌≤◌, ◌==◌, ◌^◌, true, length, count_by, encode_utf8_all};
 ghost use Rattle.model_text.specs.Tokens.{newline};
 ghost use Rattle.text_tokens.specs.Positions.{IsPlace, IsPosition};
 
@@ -34,6 +34,19 @@ fn byte_length(characters: &[char]) -> usize
     length
 }
 
+/// The same, with no count where each character has a single byte.
+fn width(characters: &[char], single: bool) -> usize
+    requires single { single ≡ true
+        → length (encode_utf8_all characters.now) ≡ length characters.now }
+    requires bounded { length (encode_utf8_all characters.now) < 2 ^ 64 }
+    ensures { result ≡ length (encode_utf8_all characters.now) }
+{
+    if single {
+        return characters.len();
+    }
+    byte_length(characters)
+}
+
 /// The position before the first character.
 pub fn first_position() -> Position
     ensures is { (bytes text : List ℕ) → IsPosition bytes text result }
@@ -47,16 +60,18 @@ pub fn first_position() -> Position
     }
 }
 
-/// The position after these characters, which stand at a position.
-pub fn advanced(bytes: &[u8], own: &[char], position: Position) -> Position
+/// The position after these characters, which stand at a position. Single says that each has a
+/// single byte.
+pub fn advanced(bytes: &[u8], own: &[char], single: bool, position: Position) -> Position
     requires is { IsPlace bytes.now position }
+    requires single { single ≡ true → length (encode_utf8_all own.now) ≡ length own.now }
     requires within { position.place + length (encode_utf8_all own.now) ≤ length bytes.now }
     requires bounded { length bytes.now < 4294967295 }
     ensures is { IsPlace bytes.now result }
     ensures number { result.number ≡ position.number + length own.now }
     ensures place { result.place ≡ position.place + length (encode_utf8_all own.now) }
 {
-    let place = position.place + byte_length(own);
+    let place = position.place + width(own, single);
     let lines = newlines(&bytes[position.place..place]);
     Position {
         number: position.number + own.len(),

@@ -1,5 +1,5 @@
 // The list of the tokens of bytes.
-ghost use Rattle.std.specs.Prelude.{◌≡◌, ◌+◌, ◌-◌, ◌<◌, ◌≤◌, [], ◌∷◌, ◌++◌, length, take, drop, map, encode_utf8_all, IfOk, IfNone, IfSome, OnOk};
+ghost use Rattle.std.specs.Prelude.{◌≡◌, ◌+◌, ◌-◌, ◌<◌, ◌≤◌, [], ◌∷◌, ◌++◌, true, length, take, drop, map, encode_utf8_all, IfOk, IfNone, IfSome, OnOk};
 ghost use Rattle.std.specs.Str.Lossy.{utf8_valid_len};
 ghost use Rattle.model_text.specs.Tokens.{token_text, tokens_of};
 ghost use Rattle.text_tokens.specs.Positions.{IsPlace};
@@ -7,7 +7,7 @@ ghost use Rattle.text_tokens.specs.Reading.{token_between, EndsIn, GoesOn, AreRe
 ghost use Rattle.text_tokens.specs.Tokens.{kind_of, token_of};
 
 use crate::lines::{decode, line_length};
-use crate::literals::{spelled, unescaped};
+use crate::literals::{spell, unescape};
 use crate::pieces::{Piece, piece_at};
 use crate::positions::{Position, advanced, first_position};
 use crate::tokens::{Token, TokenKind, Tokens};
@@ -35,17 +35,18 @@ fn between_quotes(own: &[char]) -> &[char]
     }
 }
 
-/// The text of a token of the kind that has these characters.
-fn token_text(alloc: Global, kind: TokenKind, own: &[char]) -> Result<Text, OutOfMemory>
-    ensures { IfOk result (λ text. text ≡ token_text (kind_of kind) own.now) }
+/// Puts the text of a token of the kind that has these characters at the end of the text.
+fn put_text(kind: TokenKind, own: &[char], text: &mut Text) -> Result<(), OutOfMemory>
+    ensures { OnOk result (text.new ≡ text.old ++ token_text (kind_of kind) own.now) }
 {
     match kind {
-        TokenKind::Literal => unescaped(alloc, between_quotes(own)),
-        _ => spelled(alloc, own),
+        TokenKind::Literal => unescape(between_quotes(own), text),
+        _ => spell(own, text),
     }
 }
 
-/// Puts the token of the kind that has these characters at the end of the list.
+/// Puts the token of the kind that has these characters at the end of the list. The text is written
+/// in its place there, since it is slow to move right after its characters were written.
 fn push_token(
     alloc: Global,
     kind: TokenKind,
@@ -58,26 +59,32 @@ fn push_token(
         (map token_of tokens.new
         ≡ map token_of tokens.old ++ token_between (kind_of kind) own.now from to ∷ []) }
 {
-    let text = token_text(alloc, kind, own)?;
     tokens.push(Token {
         kind,
-        text,
+        text: Text::new(alloc),
         start: from.place,
         end: to.place,
         line: from.line,
-    })
+    })?;
+    match tokens.last_mut() {
+        Some(token) => put_text(kind, own, &mut token.text),
+        None => Ok(()),
+    }
 }
 
 /// Reads the piece at the front of what is left of a line, and puts its token, if it is one, at the
-/// end of the list. Gives the position after the piece, and none where the list ends.
+/// end of the list. Gives the position after the piece, and none where the list ends. Single says
+/// that each character has a single byte.
 fn read_piece(
     alloc: Global,
     bytes: &[u8],
     line: &[char],
+    single: bool,
     from: Position,
     tokens: &mut Tokens,
 ) -> Result<Option<Position>, OutOfMemory>
     requires is { IsPlace bytes.now from }
+    requires single { single ≡ true → length (encode_utf8_all line.now) ≡ length line.now }
     requires within { from.place + length (encode_utf8_all line.now) ≤ length bytes.now }
     requires some { 0 < length line.now }
     requires bounded { length bytes.now < 4294967295 }
@@ -89,7 +96,7 @@ fn read_piece(
 {
     let piece = piece_at(line);
     let own = &line[..piece.len()];
-    let to = advanced(bytes, own, from);
+    let to = advanced(bytes, own, single, from);
     match piece {
         Piece::Gap(_) => Ok(Some(to)),
         Piece::Token(kind, _) => {
@@ -104,15 +111,17 @@ fn read_piece(
 }
 
 /// Reads a line and puts its tokens at the end of the list. Gives the position after the line, and
-/// none where the list ends.
+/// none where the list ends. Single says that each character has a single byte.
 fn read_line(
     alloc: Global,
     bytes: &[u8],
     line: &[char],
+    single: bool,
     from: Position,
     tokens: &mut Tokens,
 ) -> Result<Option<Position>, OutOfMemory>
     requires is { IsPlace bytes.now from }
+    requires single { single ≡ true → length (encode_utf8_all line.now) ≡ length line.now }
     requires within { from.place + length (encode_utf8_all line.now) ≤ length bytes.now }
     requires bounded { length bytes.now < 4294967295 }
     ensures ends { IfOk result (λ next. IfNone next
@@ -123,7 +132,7 @@ fn read_line(
     let mut position = from;
     let mut left = line;
     while !left.is_empty() {
-        let Some(next) = read_piece(alloc, bytes, left, position, tokens)? else {
+        let Some(next) = read_piece(alloc, bytes, left, single, position, tokens)? else {
             return Ok(None);
         };
         left = &left[next.number - position.number..];
@@ -153,7 +162,9 @@ fn read_lines(
     while !left.is_empty() {
         let (own, later) = left.split_at(line_length(left));
         decode(own, &mut line)?;
-        let Some(next) = read_line(alloc, bytes, &line, position, tokens)? else {
+        let characters = line.as_slice();
+        let single = own.len() == characters.len();
+        let Some(next) = read_line(alloc, bytes, characters, single, position, tokens)? else {
             return Ok(None);
         };
         left = later;

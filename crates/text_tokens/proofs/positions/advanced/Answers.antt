@@ -6,5 +6,5 @@ use Rattle.text_tokens.proofs.positions.advanced.Goals as goal
 pub returns-clause-is : goal.returns-clause-is
 returns-clause-is c = record {
   counted = omega (arith, length-le-encodes c.args.own.now);
-  line_is = omega (arith, line_step c.args.bytes.now c.args.position.place c.byte_length.result);
+  line_is = omega (arith, line_step c.args.bytes.now c.args.position.place c.width.result);
 }

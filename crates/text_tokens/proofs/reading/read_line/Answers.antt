@@ -2,7 +2,7 @@ use Rattle.std.proofs.Common.{◌-◌, map, arith, subst, IfSome, IfNone}
 use Rattle.text_tokens.specs.declared.positions.Position.{Position}
 use Rattle.text_tokens.specs.Reading.{GoesOn, EndsIn}
 use Rattle.text_tokens.specs.Tokens.{token_of}
-use Rattle.text_tokens.proofs.ReadingLemmas.{read_further, left_ends, ends_left}
+use Rattle.text_tokens.proofs.ReadingLemmas.{read_further, left_ends, single_left, ends_left}
 use Rattle.text_tokens.proofs.reading.read_line.Goals as goal
 
 pub read_piece-requires-clause-within : goal.read_piece-requires-clause-within
@@ -12,6 +12,11 @@ read_piece-requires-clause-within c =
       left_ends c.args.bytes.now c.args.line.now c.loop-left.left.now _ _ c.args.from
           c.loop-left.position c.loop-left.invariant,
     )
+
+pub read_piece-requires-clause-single : goal.read_piece-requires-clause-single
+read_piece-requires-clause-single c = λ single.
+    single_left c.args.bytes.now c.args.line.now c.loop-left.left.now _ _ c.args.from
+    c.loop-left.position c.loop-left.invariant (c.requires.single single)
 
 pub returns-in_default-clause-ends : goal.returns-in_default-clause-ends
 returns-in_default-clause-ends c =

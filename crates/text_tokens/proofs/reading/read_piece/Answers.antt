@@ -2,7 +2,7 @@ use Rattle.std.proofs.Common.{ap, ◌∙◌, arith, length-take}
 use Rattle.model_text.specs.Tokens.{piece_length}
 use Rattle.text_tokens.specs.Pieces.{piece_of}
 use Rattle.text_tokens.specs.Tokens.{kind_of}
-use Rattle.text_tokens.proofs.ReadingLemmas.{front_le, piece_fits, gap_fits, token_fits, further, read_gap, read_token, ends_bad}
+use Rattle.text_tokens.proofs.ReadingLemmas.{front_le, single_parts, piece_fits, gap_fits, token_fits, further, read_gap, read_token, ends_bad}
 use Rattle.text_tokens.proofs.reading.read_piece.Goals as goal
 
 pub slice_bounds-own-end : goal.slice_bounds-own-end
@@ -15,6 +15,10 @@ slice_bounds-own-end c =
 
 pub advanced-to-requires-clause-within : goal.advanced-to-requires-clause-within
 advanced-to-requires-clause-within c = omega (arith, front_le c.args.line.now c.len.result)
+
+pub advanced-to-requires-clause-single : goal.advanced-to-requires-clause-single
+advanced-to-requires-clause-single c = λ single.
+    (single_parts c.args.line.now c.len.result (c.requires.single single)).0
 
 pub returns-in-Gap-clause-goes_on : goal.returns-in-Gap-clause-goes_on
 returns-in-Gap-clause-goes_on c =
