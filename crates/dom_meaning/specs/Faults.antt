@@ -3,7 +3,7 @@
 use Rattle.std.specs.Prelude.{◌≡◌, Result, Ok, Err, Option, Some, None}
 use Rattle.model_machine.specs.Machine as machine
 use Rattle.model_limits.specs.Limits as limits
-use Rattle.dom_terms.specs.declared.limits.LimitKind.{LimitKind}
+pub use Rattle.dom_terms.specs.Limits.{limit_kind_of}
 use Rattle.dom_terms.specs.declared.limits.LimitKind.TheVariants as l
 use Rattle.dom_terms.specs.declared.verdicts.EvalFault.{EvalFault}
 use Rattle.dom_terms.specs.declared.verdicts.EvalFault.TheVariants as e
@@ -18,18 +18,6 @@ fault_kind_of k.NoNode = machine.no_node
 fault_kind_of k.NoList = machine.no_list
 fault_kind_of k.Cycle = machine.cycle
 fault_kind_of k.NotChild = machine.not_child
-
--- the counted quantity
-abbrev pub limit_kind_of : LimitKind → limits.LimitKind
-limit_kind_of l.File = limits.file_limit
-limit_kind_of l.Nesting = limits.nesting_limit
-limit_kind_of l.Text = limits.text_limit
-limit_kind_of l.Variables = limits.variables_limit
-limit_kind_of l.Steps = limits.steps_limit
-limit_kind_of l.Nodes = limits.nodes_limit
-limit_kind_of l.Identifier = limits.identifier_limit
-limit_kind_of l.Number = limits.number_limit
-limit_kind_of l.Depth = limits.depth_limit
 
 -- the fault of a term as that of a step
 abbrev pub step_fault_of : EvalFault → StepFault

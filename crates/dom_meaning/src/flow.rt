@@ -30,16 +30,13 @@ ghost use Rattle.dom_meaning.specs.Plans.{move_of, nameless_of};
 use crate::configurations::{Pending, Pieces};
 use crate::faults::StepFault;
 use crate::plans::{Change, Plan};
-use crate::results::{default_of, value_of};
+use dom_terms::limits::DEPTH;
 use dom_terms::{
     Cond, Copied, EvalFault, LimitKind, List, OutOfMemory, ProgVar, Store, Term, Terms, Text,
-    Value, Vars, eval, holds, same_text,
+    Value, Vars, default_of, eval, holds, same_text, value_or_default,
 };
 use std::alloc::Global;
 use theory_syntax::{Block, Command, Procedure, Theory};
-
-// The most calls that may not have returned.
-const DEPTH: usize = 10_000;
 
 /// The variable is set to the value of the term.
 pub(crate) fn assigned(
@@ -89,7 +86,7 @@ pub(crate) fn opened(
         (stores.set (prog_var_of variable.now) (stores.default (value_sort_of variable.now.sort))
         (store_of store.now)) grove) }
 {
-    let old = value_of(alloc, variable, store)?;
+    let old = value_or_default(alloc, variable, store)?;
     let mut pieces = List::new(alloc);
     pieces.push(Pending::Restore(variable.copy(alloc)?, old))?;
     pieces.push(Pending::Run(Command::Block(block.copy(alloc)?)))?;
@@ -305,6 +302,6 @@ fn with_results(
         unreachable!();
     };
     let mut store = with_results(alloc, results, variables, callee, caller)?;
-    store.set(variable.copy(alloc)?, value_of(alloc, result, callee)?)?;
+    store.set(variable.copy(alloc)?, value_or_default(alloc, result, callee)?)?;
     Ok(store)
 }

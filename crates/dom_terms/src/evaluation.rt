@@ -93,15 +93,15 @@ fn number_within(number: Option<i64>) -> Result<Value, EvalFault>
     }
 }
 
-// The value of a variable, or its sort's default where the store doesn't have it.
-pub(crate) fn value_or_default(
+/// The value of a variable, or its sort's default where the store doesn't have it.
+pub fn value_or_default(
     alloc: Global,
     variable: &ProgVar,
     store: &Store,
 ) -> Result<Value, OutOfMemory>
     ensures value { IfOk result (λ value.
         value_seen value ≡ value_in (store_of store.now) (prog_var_of variable.now)) }
-    ensures sort { IfOk result (λ value.
+    ensures fits { IfOk result (λ value.
         FitsValue (value_sort_of variable.now.sort) (value_seen value)) }
 {
     match store.get(variable) {
@@ -110,9 +110,10 @@ pub(crate) fn value_or_default(
     }
 }
 
-// The value of a variable that was never set.
-fn default_of(alloc: Global, sort: ValueSort) -> Value
-    ensures { value_seen result ≡ default (value_sort_of sort) }
+/// The value of a variable of the sort that was never set. It takes no memory.
+pub fn default_of(alloc: Global, sort: ValueSort) -> Value
+    ensures value { value_seen result ≡ default (value_sort_of sort) }
+    ensures fits { FitsValue (value_sort_of sort) (value_seen result) }
 {
     match sort {
         ValueSort::Node => Value::NullNode,

@@ -25,7 +25,7 @@ mod verdicts;
 
 pub use conditions::Cond;
 pub use copied::Copied;
-pub use evaluation::eval;
+pub use evaluation::{default_of, eval, value_or_default};
 pub use few::Few;
 pub use limits::LimitKind;
 pub use list::List;

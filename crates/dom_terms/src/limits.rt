@@ -24,6 +24,9 @@ pub const IDENTIFIER: u32 = 4_294_967_295;
 /// The greatest integer; the least is one below its negative.
 pub const INTEGER: u64 = 9_223_372_036_854_775_807;
 
+/// The most calls of a run that have not returned.
+pub const DEPTH: usize = 10_000;
+
 /// The most fuel of a run.
 pub const FUEL: u32 = 1_000_000;
 

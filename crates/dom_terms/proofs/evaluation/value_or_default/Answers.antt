@@ -18,8 +18,8 @@ returns-in-Some-clause-value c =
     (λ v e. e ∙ found-value x store (value_seen c.in-Some.value.now) c.in-Some.ensures.value)
     c.copy.ensures
 
-pub returns-in-Some-clause-sort : goal.returns-in-Some-clause-sort
-returns-in-Some-clause-sort c =
+pub returns-in-Some-clause-fits : goal.returns-in-Some-clause-fits
+returns-in-Some-clause-fits c =
     let x = prog_var_of c.args.variable.now in
     let store = store_of c.args.store.now in
     let fits = FitsValue (value_sort_of c.args.variable.now.sort) in
@@ -32,6 +32,6 @@ returns-in-Some-clause-sort c =
 
 pub returns-in-None-clause-value : goal.returns-in-None-clause-value
 returns-in-None-clause-value c =
-    c.default_of.ensures
+    c.default_of.ensures.value
     ∙ absent-default (prog_var_of c.args.variable.now) (store_of c.args.store.now)
     c.in-None.ensures.value
