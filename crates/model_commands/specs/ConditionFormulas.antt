@@ -1,5 +1,5 @@
--- Needn't be believed yet: no promise speaks of it. The formula of a condition, as the rules for
--- choice and loops take it.
+-- The formula of a condition, as the rules for choice and loops take it, and as `cond_formula`
+-- answers it.
 use Rattle.std.specs.Prelude.{true}
 use Rattle.model_shapes.specs.Values.{boolean}
 use Rattle.model_terms.specs.Terms.{literal, variable}
