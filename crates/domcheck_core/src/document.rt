@@ -26,7 +26,7 @@ pub fn read_document(alloc: Global, bytes: &[u8]) -> Result<Option<RawGrove>, Ou
     }
     match read_grove(alloc, &tokens) {
         Ok(grove) => Ok(Some(grove)),
-        Err(TextFault::BadText) => Ok(None),
+        Err(TextFault::BadText { .. }) => Ok(None),
         Err(TextFault::OutOfMemory) => Err(OutOfMemory),
     }
 }

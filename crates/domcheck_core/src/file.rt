@@ -34,7 +34,7 @@ pub fn read_file(alloc: Global, bytes: &[u8]) -> Result<Option<Theory>, OutOfMem
                 Ok(None)
             }
         }
-        Err(TextFault::BadText) => Ok(None),
+        Err(TextFault::BadText { .. }) => Ok(None),
         Err(TextFault::OutOfMemory) => Err(OutOfMemory),
     }
 }

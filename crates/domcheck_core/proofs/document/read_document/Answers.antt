@@ -20,7 +20,7 @@ returns-in-Ok c =
 
 pub returns-in-Err-BadText : goal.returns-in-Err-BadText
 returns-in-Err-BadText c = λ g spells.
-    (rw c.in-Err-BadText.field-0-is at c.in-Err-BadText.ensures.bad_text) refl g
+    (rw c.in-Err-BadText.field-0-is at c.in-Err-BadText.ensures.bad_text) g
     (subst (λ (z : List Lexeme). SpellsGrove g z)
     (sym (same_lexemes c.args.bytes.now _ c.in_ok-tokens.ensures)) spells.spelled)
 

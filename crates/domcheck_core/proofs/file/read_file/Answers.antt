@@ -1,7 +1,7 @@
 use Rattle.std.proofs.Common.{◌≡◌, sym, subst, refl, List, true, false, Bool, arith}
 use Rattle.std.proofs.lemmas.Bool.{and_parts}
 use Rattle.model_text.specs.Lexemes.{Lexeme}
-use Rattle.model_grammar.specs.Grammar.{SpellsTheory}
+use Rattle.model_grammar.specs.Theories.{SpellsTheory}
 use Rattle.model_grammar.specs.Files.{IsOfForm}
 use Rattle.theory_syntax.specs.Theories.{theory_of}
 use Rattle.proof_text.proofs.Exact.{one_theory}
@@ -35,7 +35,7 @@ returns-in-Ok c = λ t spells.
 
 pub returns-in-Err-BadText : goal.returns-in-Err-BadText
 returns-in-Err-BadText c = λ t spells.
-    (rw c.in-Err-BadText.field-0-is at c.in-Err-BadText.ensures.bad_text) refl t
+    (rw c.in-Err-BadText.field-0-is at c.in-Err-BadText.ensures.bad_text) t
     (subst (λ (z : List Lexeme). SpellsTheory t z)
     (sym (same_lexemes c.args.bytes.now _ c.in_ok-tokens.ensures)) spells.spelled)
 
