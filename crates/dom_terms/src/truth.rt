@@ -54,15 +54,8 @@ fn is_true(alloc: Global, cond: &Cond, store: &Store) -> Result<bool, EvalFault>
             Ok(left <= right)
         }
         Cond::Not(inner) => Ok(!is_true(alloc, inner, store)?),
-        Cond::And(left, right) => {
-            let left = is_true(alloc, left, store)?;
-            let right = is_true(alloc, right, store)?;
-            Ok(left && right)
-        }
-        Cond::Or(left, right) => {
-            let left = is_true(alloc, left, store)?;
-            let right = is_true(alloc, right, store)?;
-            Ok(left || right)
-        }
+        // both parts are evaluated, whatever the first is
+        Cond::And(left, right) => Ok(is_true(alloc, left, store)? & is_true(alloc, right, store)?),
+        Cond::Or(left, right) => Ok(is_true(alloc, left, store)? | is_true(alloc, right, store)?),
     }
 }
