@@ -15,7 +15,7 @@ use crate::names::LogicNameReader;
 use dom_terms::{Copied, List, LogicVar, LogicVars, OutOfMemory, Sort, Text};
 use std::alloc::Global;
 use text_tokens::Token;
-use token_readers::{ReadFault, after, expect, separated};
+use token_readers::{ReadFault, Reader, expect, repeated, separated};
 
 // One or more logic names with commas between them.
 fn names(alloc: Global, tokens: &[Token]) -> Result<(List<Text>, &[Token]), ReadFault>
@@ -51,24 +51,39 @@ fn line(alloc: Global, tokens: &[Token]) -> Result<(LogicVars, &[Token]), ReadFa
     Ok((all, rest))
 }
 
+// Reads what stands behind the word `logic`.
+#[derive(Clone, Copy)]
+struct LineReader;
+
+impl Reader<LogicVars> for LineReader {
+    ghost use Rattle.std.specs.Prelude as plain;
+    ghost use Rattle.model_terms.specs.Variables as model;
+
+    ghost Seen = { plain.List model.Var };
+
+    ghost seen = { map logic_var_of };
+
+    ghost reading = { λ _. logic_tail 4294967295 };
+
+    fn read<'a>(
+        &self,
+        alloc: Global,
+        tokens: &'a [Token],
+    ) -> Result<(LogicVars, &'a [Token]), ReadFault>
+        ensures { Gives (λ x. (map logic_var_of x.0, lexemes_in x.1.now)) result
+            (logic_tail 4294967295 (lexemes_in tokens.now)) }
+    {
+        line(alloc, tokens)
+    }
+}
+
 /// The lines, as long as one begins.
+#[tactic(auto, unfolding(crate::specs::Theories::logic_lines_at))]
 pub fn lines(alloc: Global, tokens: &[Token]) -> Result<(List<LogicVars>, &[Token]), ReadFault>
     ensures { Gives (λ x. (map (map logic_var_of) x.0, lexemes_in x.1.now)) result
         (logic_lines_at u32.MAX (lexemes_in tokens.now)) }
 {
-    let mut found = List::new(alloc);
-    let mut rest = tokens;
-    for _ in 0..u32::MAX {
-        match after(rest, "logic") {
-            Some(behind) => {
-                let (item, next) = line(alloc, behind)?;
-                found.push(item)?;
-                rest = next;
-            }
-            None => return Ok((found, rest)),
-        }
-    }
-    Err(ReadFault::Memory)
+    repeated(alloc, &LineReader, "logic", List::new(alloc), tokens)
 }
 
 // Puts copies of the variables at the end.

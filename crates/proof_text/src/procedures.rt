@@ -5,7 +5,7 @@ ghost use Rattle.dom_terms.specs.Terms.{prog_var_of};
 ghost use Rattle.theory_syntax.specs.Theories.{procedure_of};
 ghost use Rattle.token_readers.specs.Giving.{Gives};
 ghost use Rattle.token_readers.specs.Leaves.{lexemes_in};
-ghost use Rattle.token_readers.proofs.Lists.{with_front};
+ghost use Rattle.token_readers.specs.Reading.{with_front};
 ghost use Rattle.proof_text.specs.Theories.{contents_at, procedure_tail, more_procedures_at, procedures_at};
 
 use crate::commands::command;
@@ -17,7 +17,7 @@ use dom_terms::{DataSort, Text, Vars};
 use std::alloc::Global;
 use text_tokens::Token;
 use theory_syntax::{Procedure, Procedures};
-use token_readers::{ReadFault, after, expect, name};
+use token_readers::{ReadFault, Reader, expect, name, repeated};
 
 // What stands before the requires of a procedure.
 #[derive(Drop)]
@@ -94,7 +94,35 @@ fn procedure(
     contents(alloc, header, depth, rest)
 }
 
-// The procedures behind those found, as long as one begins.
+// Reads what stands behind the word `proc`, nested at most so deep.
+#[derive(Clone, Copy)]
+struct ProcedureReader {
+    depth: u32,
+}
+
+impl Reader<Procedure> for ProcedureReader {
+    ghost use Rattle.model_formulas.specs.Formulas.{Named};
+    ghost use Rattle.model_commands.specs.Theories as model;
+
+    ghost Seen = { model.ProcedureOf Named };
+
+    ghost seen = { procedure_of };
+
+    ghost reading = { λ reader. procedure_tail reader.depth 4294967295 };
+
+    fn read<'a>(
+        &self,
+        alloc: Global,
+        tokens: &'a [Token],
+    ) -> Result<(Procedure, &'a [Token]), ReadFault>
+        ensures { Gives (λ x. (procedure_of x.0, lexemes_in x.1.now)) result
+            (procedure_tail self.now.depth 4294967295 (lexemes_in tokens.now)) }
+    {
+        procedure(alloc, self.depth, tokens)
+    }
+}
+
+// The procedures behind the first, as long as one begins.
 fn more_procedures<'a>(
     alloc: Global,
     first: Procedure,
@@ -102,23 +130,12 @@ fn more_procedures<'a>(
     tokens: &'a [Token],
 ) -> Result<(Procedures, &'a [Token]), ReadFault>
     ensures { Gives (λ x. (map procedure_of x.0, lexemes_in x.1.now)) result
-        (with_front (procedure_of first ∷ []) (more_procedures_at depth u32.MAX
-        (lexemes_in tokens.now))) }
+        (with_front (procedure_of first ∷ [])
+        (more_procedures_at depth u32.MAX (lexemes_in tokens.now))) }
 {
     let mut found = Procedures::new(alloc);
     found.push(first)?;
-    let mut rest = tokens;
-    for _ in 0..u32::MAX {
-        match after(rest, "proc") {
-            Some(behind) => {
-                let (item, next) = procedure(alloc, depth, behind)?;
-                found.push(item)?;
-                rest = next;
-            }
-            None => return Ok((found, rest)),
-        }
-    }
-    Err(ReadFault::Memory)
+    repeated(alloc, &ProcedureReader { depth }, "proc", found, tokens)
 }
 
 /// One procedure or more.

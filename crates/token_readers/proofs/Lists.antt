@@ -1,10 +1,10 @@
 -- Lists with a mark between the items: the reader is right, and a loop reads them.
-use Rattle.std.proofs.Common.{◌≡◌, ℕ, zero, suc, pred, ◌+◌, ◌-◌, ◌<◌, ◌≤◌, Bool, true, false, List, [], ◌∷◌, ◌++◌, Option, Some, None, option_map, Ok, Err, refl, sym, ap, subst, ◌∙◌, append_assoc, append-nil, arith}
+use Rattle.std.proofs.Common.{◌≡◌, ℕ, zero, suc, pred, ◌+◌, ◌-◌, ◌<◌, ◌≤◌, Bool, true, false, cond, List, [], ◌∷◌, ◌++◌, Option, Some, None, option_map, Ok, Err, refl, sym, ap, subst, ◌∙◌, append_assoc, append-nil, arith}
 use Rattle.std.specs.Prelude as std
 use Rattle.model_text.specs.Lexemes.{Lexeme, terminal}
 use Rattle.token_readers.specs.Reading.{after, is_terminal}
 use Rattle.token_readers.proofs.TerminalTests.{text_refl}
-use Rattle.token_readers.specs.Reading.{At, Answer, Read, ◌>>=◌, ret, when, sep_list, many, begins, first, begun, is_none, not_begun, not_next}
+use Rattle.token_readers.specs.Reading.{At, Answer, Read, ◌>>=◌, ret, when, sep_list, many, the_terminal, begins, first, begun, is_none, not_begun, not_next, with_front}
 use Rattle.token_readers.specs.declared.fault.ReadFault.{ReadFault}
 use Rattle.token_readers.specs.declared.fault.ReadFault.TheVariants as faults
 use Rattle.token_readers.specs.Giving.{Fails}
@@ -142,10 +142,6 @@ module _ {X A : Type 0} (f : Lexeme → Option X) (item : X → Read A) (L : A �
 
 -- ---- a loop
 
--- what was read before, and what is still read
-abbrev pub with_front : {A : Type 0} → List A → Answer (List A) → Answer (List A)
-with_front front r = r >>= λ x. Ok (front ++ x.0, x.1)
-
 abbrev done : {A : Type 0} → List A × List Lexeme → Answer (List A)
 done x = Ok x
 
@@ -230,3 +226,17 @@ module _ {X A : Type 0} (f : Lexeme → Option X) (item : X → Read A) where
       let one : with_front front (many f item (most - i) ts)
       ≡ Ok (front, ts) = rw (k, b) (ap (λ (z : List A). done (z, ts)) (append-nil front)) in
       sym so_far ∙ one
+
+-- a terminal that comes first, as a first lexeme that stands for something
+abbrev pub behind : List Lexeme → Bool × List Lexeme
+behind rest = (true, rest)
+
+pub first_after : (text : List ℕ) (ts : List Lexeme) (o : Option (List Lexeme)) → o ≡ after text ts
+    → first (the_terminal text) ts ≡ option_map behind o
+first_after text [] o e = rw e refl
+first_after text (t ∷ ts) o e = rw e (by_test (is_terminal text t))
+  where
+    by_test : (b : Bool) → option_map (λ x. (x, ts)) (cond b (Some true) None)
+        ≡ option_map behind (cond b (Some ts) None)
+    by_test true = refl
+    by_test false = refl

@@ -1,7 +1,7 @@
 -- Readers of a list of lexemes: each gives a value and the rest, or where the reading stopped.
 -- These are what the program's readers are compared with; what they read is said by the grammar
 -- alone.
-use Rattle.std.specs.Prelude.{ℕ, zero, suc, Bool, true, false, not, cond, List, [], ◌∷◌, length, Option, Some, None, Result, Ok, Err, bytes_eq, option_map}
+use Rattle.std.specs.Prelude.{ℕ, zero, suc, Bool, true, false, not, cond, List, [], ◌∷◌, ◌++◌, length, Option, Some, None, Result, Ok, Err, bytes_eq, option_map}
 use Rattle.model_text.specs.Lexemes.{Lexeme, terminal}
 
 -- At k: the lexemes spell nothing, and k are left. Deep: a bound on nesting or length was passed,
@@ -112,3 +112,7 @@ is_none (Some a) = false
 abbrev pub not_begun : {X : Type 0} → (Lexeme → Option X) → List Lexeme → Bool
 not_begun f [] = true
 not_begun f (t ∷ ts) = is_none (f t)
+
+-- what was read before, and what is still read
+abbrev pub with_front : {A : Type 0} → List A → Answer (List A) → Answer (List A)
+with_front front r = r >>= λ x. Ok (front ++ x.0, x.1)

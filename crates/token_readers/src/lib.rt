@@ -11,5 +11,5 @@ mod terminals;
 
 pub use fault::{ReadFault, TextFault};
 pub use leaves::{name, number, step_line, word};
-pub use listed::{Gathers, Reader, separated};
+pub use listed::{Gathers, Reader, repeated, separated};
 pub use terminals::{after, expect, is_this};

@@ -1,6 +1,6 @@
 // Lists of items with a mark between each two.
 ghost use Rattle.std.specs.Prelude.{◌≡◌, [], ◌∷◌, ◌++◌, map, OnOk};
-ghost use Rattle.token_readers.specs.Reading.{sep_list};
+ghost use Rattle.token_readers.specs.Reading.{sep_list, many, the_terminal, with_front};
 ghost use Rattle.token_readers.specs.Giving.{Gives};
 ghost use Rattle.token_readers.specs.Leaves.{lexemes_in};
 
@@ -95,6 +95,33 @@ pub fn separated<'a, T: Drop, R: Reader<T>, L: Gathers<T>>(
         match after(behind, mark) {
             Some(next) => rest = next,
             None => return Ok((found, behind)),
+        }
+    }
+    Err(ReadFault::Memory)
+}
+
+/// Those found before, and items as long as the word comes, each behind it.
+pub fn repeated<'a, T: Drop, R: Reader<T>, L: Gathers<T>>(
+    alloc: Global,
+    reader: &R,
+    word: &str,
+    before: L,
+    tokens: &'a [Token],
+) -> Result<(L, &'a [Token]), ReadFault>
+    ensures { Gives (λ x. (map R.seen (L.items x.0), lexemes_in x.1.now)) result
+        (with_front (map R.seen (L.items before)) (many (the_terminal word.now)
+        (λ _. R.reading reader.now) u32.MAX (lexemes_in tokens.now))) }
+{
+    let mut found = before;
+    let mut rest = tokens;
+    for _ in 0..u32::MAX {
+        match after(rest, word) {
+            Some(behind) => {
+                let (item, next) = reader.read(alloc, behind)?;
+                found.put(item)?;
+                rest = next;
+            }
+            None => return Ok((found, rest)),
         }
     }
     Err(ReadFault::Memory)

@@ -1,28 +1,33 @@
 use Rattle.std.proofs.Common.{◌≡◌, sym, subst, refl, List, true, false, Bool, arith}
-use Rattle.std.proofs.lemmas.Bool.{and_parts}
 use Rattle.model_text.specs.Lexemes.{Lexeme}
-use Rattle.model_grammar.specs.Grammar.{SpellsTheory}
+use Rattle.model_grammar.specs.Theories.{SpellsTheory}
 use Rattle.model_grammar.specs.Files.{IsOfForm}
+use Rattle.model_grammar.proofs.Sizes.{theory_small}
 use Rattle.theory_syntax.specs.Theories.{theory_of}
 use Rattle.proof_text.proofs.Exact.{one_theory}
+use Rattle.domcheck_core.proofs.Counts.{few_lexemes}
 use Rattle.domcheck_core.proofs.Spelling.{same_lexemes}
-use Rattle.domcheck_core.proofs.Tested.{neither, tested}
+use Rattle.domcheck_core.proofs.Tested.{none_passes, one_passes}
 use Rattle.domcheck_core.proofs.file.read_file.Goals as goal
 
 not_both : (b : Bool) → b ≡ false → b ≡ true → ⊥
 not_both b e f = cc
 
+pub in_ok-is_of_form-requires : goal.in_ok-is_of_form-requires
+in_ok-is_of_form-requires c =
+    theory_small (subst (λ (z : List Lexeme). SpellsTheory (theory_of c.in-Ok.theory) z)
+    (same_lexemes c.args.bytes.now _ c.in_ok-tokens.ensures) c.in-Ok.ensures.found)
+    (few_lexemes c.args.bytes.now (omega arith))
+
 pub returns-then-branch : goal.returns-then-branch
-returns-then-branch c =
-    let within = and_parts _ _ (tested 100 c.args.bytes.now _ _ _ true c.as_slice.ensures
-    c.in_ok-tokens.ensures c.are_within.ensures c.if-not-are_within.false) in record {
-      small = omega arith;
-      nesting = within.0;
-      texts = within.1;
-      spelled = subst (λ (z : List Lexeme). SpellsTheory (theory_of c.in-Ok.theory) z)
-          (same_lexemes c.args.bytes.now _ c.in_ok-tokens.ensures) c.in-Ok.ensures.found;
-      of_form = c.in_ok-is_of_form-in-Ok.ensures.0 c.if-branch.true;
-    }
+returns-then-branch c = record {
+  small = omega arith;
+  tokens = none_passes 100 c.args.bytes.now _ c.token_limit.result c.token_limit.ensures
+      c.in_ok-tokens.ensures c.if-token_limit-is_some.false;
+  spelled = subst (λ (z : List Lexeme). SpellsTheory (theory_of c.in-Ok.theory) z)
+      (same_lexemes c.args.bytes.now _ c.in_ok-tokens.ensures) c.in-Ok.ensures.found;
+  of_form = c.in_ok-is_of_form-in-Ok.ensures.0 c.if-branch.true;
+}
 
 pub returns-in-Ok : goal.returns-in-Ok
 returns-in-Ok c = λ t spells.
@@ -35,12 +40,11 @@ returns-in-Ok c = λ t spells.
 
 pub returns-in-Err-BadText : goal.returns-in-Err-BadText
 returns-in-Err-BadText c = λ t spells.
-    (rw c.in-Err-BadText.field-0-is at c.in-Err-BadText.ensures.bad_text) refl t
+    (rw c.in-Err-BadText.field-0-is at c.in-Err-BadText.ensures.bad_text) t
     (subst (λ (z : List Lexeme). SpellsTheory t z)
     (sym (same_lexemes c.args.bytes.now _ c.in_ok-tokens.ensures)) spells.spelled)
 
-pub returns-then-not-are_within : goal.returns-then-not-are_within
-returns-then-not-are_within c = λ t spells.
-    neither _ _ spells.nesting spells.texts
-    (tested 100 c.args.bytes.now _ _ _ false c.as_slice.ensures c.in_ok-tokens.ensures
-    c.are_within.ensures c.if-not-are_within.true)
+pub returns-then-token_limit-is_some : goal.returns-then-token_limit-is_some
+returns-then-token_limit-is_some c = λ t spells.
+    one_passes 100 c.args.bytes.now _ c.token_limit.result c.token_limit.ensures
+    c.in_ok-tokens.ensures c.if-token_limit-is_some.true spells.tokens

@@ -1,7 +1,7 @@
 use Rattle.std.proofs.Common.{◌≡◌, ◌+◌, ◌-◌, ◌*◌, map}
 use Rattle.token_readers.specs.Reading.{sep_list}
 use Rattle.token_readers.specs.Leaves.{lexemes_in}
-use Rattle.token_readers.proofs.Lists.{with_front}
+use Rattle.token_readers.specs.Reading.{with_front}
 use Rattle.logic_text.specs.RawGroves.{raw_tree_of}
 use Rattle.logic_text.specs.Readers.{marked_at, tree_at}
 use Rattle.logic_text.proofs.reading.+tree.Given as goal

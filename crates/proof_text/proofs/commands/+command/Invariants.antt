@@ -3,7 +3,7 @@ use Rattle.theory_syntax.specs.Commands.{command_of}
 use Rattle.token_readers.specs.Reading.{sep_list}
 use Rattle.token_readers.specs.Leaves.{lexemes_in}
 use Rattle.proof_text.specs.Commands.{semicolon, command_at}
-use Rattle.token_readers.proofs.Lists.{with_front}
+use Rattle.token_readers.specs.Reading.{with_front}
 use Rattle.proof_text.proofs.commands.+command.Given as goal
 
 -- the nesting that is left, and at one depth the order of the calls

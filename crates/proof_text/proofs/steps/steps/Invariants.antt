@@ -2,7 +2,7 @@ use Rattle.std.proofs.Common.{◌≡◌, ◌-◌, map}
 use Rattle.theory_syntax.specs.Judgements.{step_of}
 use Rattle.token_readers.specs.Reading.{many}
 use Rattle.token_readers.specs.Leaves.{lexemes_in, leaf_step}
-use Rattle.token_readers.proofs.Lists.{with_front}
+use Rattle.token_readers.specs.Reading.{with_front}
 use Rattle.proof_text.specs.Theories.{step_tail}
 use Rattle.proof_text.proofs.steps.steps.Given as goal
 

@@ -1,7 +1,6 @@
 use Rattle.std.proofs.Common.{◌≡◌, ◌-◌, map}
-use Rattle.token_readers.specs.Reading.{sep_list}
+use Rattle.token_readers.specs.Reading.{sep_list, with_front}
 use Rattle.token_readers.specs.Leaves.{lexemes_in}
-use Rattle.token_readers.proofs.Lists.{with_front}
 use Rattle.token_readers.proofs.listed.separated.Given as goal
 
 abbrev pub invariant-loop : goal.invariant-loop

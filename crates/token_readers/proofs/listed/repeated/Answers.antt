@@ -1,0 +1,37 @@
+use Rattle.std.proofs.Common.{◌≡◌, ◌++◌, ◌∷◌, [], map, Some, None, true}
+use Rattle.std.proofs.lemmas.Result.{err_from_is_err_and}
+use Rattle.std.proofs.lemmas.List.{map_push}
+use Rattle.token_readers.specs.Reading.{the_terminal}
+use Rattle.token_readers.specs.Leaves.{lexemes_in}
+use Rattle.token_readers.proofs.Lists.{many_goes_on, many_breaks, many_done, first_after}
+use Rattle.token_readers.proofs.listed.repeated.Goals as goal
+
+pub returns-in_err-item-in-Some : goal.returns-in_err-item-in-Some
+returns-in_err-item-in-Some g c =
+    let p = err_from_is_err_and c.from_residual.result c.from_residual.ensures.1 in
+    rw (p.1, p.2) (many_breaks (the_terminal c.args.word.now)
+    (λ x. g.R.Reader.reading c.args.reader.now) c.in_err-item-in-Some.field-0.0
+    (map g.R.Reader.seen (g.L.Gathers.items c.loop.found)) 4294967295 c.loop.counter _ true _ _
+    c.loop-test.true (first_after c.args.word.now (lexemes_in c.loop.rest.now)
+    (Some (lexemes_in c.in-Some.behind.now)) c.in-Some.ensures) c.in_err-item-in-Some.ensures
+    c.loop.invariant)
+
+pub returns-in-None : goal.returns-in-None
+returns-in-None g c =
+    many_done (the_terminal c.args.word.now) (λ x. g.R.Reader.reading c.args.reader.now)
+    (map g.R.Reader.seen (g.L.Gathers.items c.loop.found)) 4294967295 c.loop.counter _ _
+    c.loop-test.true (first_after c.args.word.now (lexemes_in c.loop.rest.now) None
+    c.in-None.ensures) c.loop.invariant
+
+pub loop-preserved : goal.loop-preserved
+loop-preserved g c =
+    let e : map g.R.Reader.seen (g.L.Gathers.items c.put.new.self)
+    ≡ map g.R.Reader.seen (g.L.Gathers.items c.loop.found)
+    ++ g.R.Reader.seen c.in_ok-item-in-Some.item ∷ [] =
+    rw c.in_ok-put-in-Some.ensures
+    (map_push _ (g.L.Gathers.items c.loop.found) c.in_ok-item-in-Some.item) in
+    rw e (many_goes_on (the_terminal c.args.word.now) (λ x. g.R.Reader.reading c.args.reader.now)
+    (map g.R.Reader.seen (g.L.Gathers.items c.loop.found)) 4294967295 c.loop.counter _ true _ _ _ _
+    c.loop-test.true (first_after c.args.word.now (lexemes_in c.loop.rest.now)
+    (Some (lexemes_in c.in-Some.behind.now)) c.in-Some.ensures) c.in_ok-item-in-Some.ensures
+    c.loop.invariant)
