@@ -4,4 +4,5 @@ pub mod NumberLemmas
 pub mod PositionLemmas
 pub mod ReadingLemmas
 pub mod SymbolLemmas
+pub mod WordLemmas
 pub mod BracketLemmas

@@ -32,7 +32,7 @@ ends_line-drop (suc n) (c ∷ []) e = ap ends_line (drop-nil n)
 ends_line-drop (suc n) (c ∷ d ∷ line) e = ends_line-drop n (d ∷ line) e
 
 -- a newline after what stands before it
-pub ends_line-newline : (front : List ℕ) → ends_line (front ++ newline ∷ []) ≡ true
+ends_line-newline : (front : List ℕ) → ends_line (front ++ newline ∷ []) ≡ true
 ends_line-newline [] = refl
 ends_line-newline (c ∷ []) = refl
 ends_line-newline (c ∷ d ∷ front) = ends_line-newline (d ∷ front)
@@ -110,7 +110,8 @@ starts_same : (front rest symbol : List ℕ) → keeps_line symbol ≡ true
     → starts_with nat_eq (front ++ newline ∷ rest) symbol
     ≡ starts_with nat_eq (front ++ newline ∷ []) symbol
 starts_same front rest [] e = refl
-starts_same [] rest (x ∷ symbol) e = by_test (x == newline) refl (both_true (not (x == newline)) _ e).0
+starts_same [] rest (x ∷ symbol) e =
+    by_test (x == newline) refl (both_true (not (x == newline)) _ e).0
   where
     by_test : (b : Bool) → (x == newline) ≡ b → not b ≡ true
         → starts_with nat_eq (newline ∷ rest) (x ∷ symbol)

@@ -1,7 +1,6 @@
 -- Places and lines after some characters more.
-use Rattle.std.proofs.Common.{◌≡◌, ℕ, ◌+◌, ◌-◌, ◌≤◌, ◌==◌, List, ◌++◌, length, take, drop, count_by, encode_utf8_all, sym, ◌∙◌, ap, arith, length-append}
+use Rattle.std.proofs.Common.{◌≡◌, ℕ, ◌+◌, ◌-◌, ◌==◌, List, length, take, drop, count_by, encode_utf8_all, ◌∙◌, ap, arith, length-append}
 use Rattle.std.proofs.Math.Seq.{take-add}
-use Rattle.std.proofs.lemmas.List.{take-append-drop}
 use Rattle.std.proofs.lemmas.List.Sums.{sum_by-append}
 use Rattle.std.proofs.lemmas.Str.{encodes-append}
 use Rattle.model_text.specs.Tokens.{newline, place_of, line_of}
@@ -15,17 +14,6 @@ pub place_step : (text : List ℕ) (n k : ℕ)
 place_step text n k =
     rw (back, take-add n k text, encodes-append (take n text) (take k (drop n text)))
     (length-append (encode_utf8_all (take n text)) (encode_utf8_all (take k (drop n text))))
-
-pub place_le : (text : List ℕ) (n : ℕ) → place_of text n ≤ length (encode_utf8_all text)
-place_le text n = let whole : encode_utf8_all text ≡ encode_utf8_all (take n text)
-    ++ encode_utf8_all (drop n text) =
-    ap encode_utf8_all (sym (take-append-drop n text))
-    ∙ encodes-append (take n text) (drop n text) in
-    omega (
-      arith,
-      ap length whole
-          ∙ length-append (encode_utf8_all (take n text)) (encode_utf8_all (drop n text)),
-    )
 
 pub line_step : (bytes : List ℕ) (p q : ℕ)
     → line_of bytes (p + q) ≡ line_of bytes p + count_by (λ b. b == newline)

@@ -72,7 +72,7 @@ left_none bytes text n b e test =
 
 -- A LINE
 -- the position after some characters more
-pub later_position : (bytes text own rest : List ℕ) (from to : Position)
+later_position : (bytes text own rest : List ℕ) (from to : Position)
     → IsPosition bytes text from → drop from.number text ≡ own ++ rest → IsPlace bytes to
     → to.number ≡ from.number + length own
     → to.place ≡ from.place + length (encode_utf8_all own) → IsPosition bytes text to
@@ -290,7 +290,7 @@ bad_same bytes text from is =
     }
 
 -- where no token begins before the end of the bytes, the tokens left are a bad one
-pub left_bad : (bytes text : List ℕ) (from : Position) → IsPosition bytes text from
+left_bad : (bytes text : List ℕ) (from : Position) → IsPosition bytes text from
     → no_piece ≡ piece_at (drop from.number text) → from.place < length bytes
     → tokens_left bytes text from.number ≡ token_between bad_token [] from from ∷ []
 left_bad bytes text from is e before_end =
@@ -308,7 +308,7 @@ left_bad bytes text from is e before_end =
     other false test = test
 
 -- and at the end of the bytes there are none
-pub left_at_end : (bytes text : List ℕ) (from : Position) → IsPosition bytes text from
+left_at_end : (bytes text : List ℕ) (from : Position) → IsPosition bytes text from
     → no_piece ≡ piece_at (drop from.number text) → from.place ≡ length bytes
     → tokens_left bytes text from.number ≡ []
 left_at_end bytes text from is e end = left_none bytes text from.number true e
@@ -573,12 +573,7 @@ ends_read bytes left own later line before mid after from so cut ends =
     so.same ∙ ends (characters bytes)
     (line_cut bytes left own later line before mid from so cut)
 
--- after the last line nothing is left
-pub all_read : (bytes left : List ℕ) (before after : List Token) (to : Position)
-    → length left ≡ 0 → AreRead bytes before after left to → AreRead bytes before after [] to
-all_read bytes [] before after to none so = so
-all_read bytes (c ∷ left) before after to none so = absurd (omega (arith, none))
-
+-- after the last line no piece is left
 no_piece_left : (bytes : List ℕ) (before after : List Token) (to : Position)
     → AreRead bytes before after [] to → no_piece ≡ piece_at (drop to.number (characters bytes))
 unfolding piece_at

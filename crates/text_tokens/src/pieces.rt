@@ -64,11 +64,25 @@ fn longer_token(kind: TokenKind, length: usize, other: Piece) -> Piece
     }
 }
 
-/// The longest token at the front of a text that begins with no digit.
+/// The longest token at the front of a text that begins with no digit. A letter but `o` begins
+/// nothing but a word, and another character that begins a symbol nothing else.
 fn longest_token(text: &[char]) -> Piece
     ensures { piece_of result ≡ longest_token text.now }
 {
-    let symbol = longer_token(TokenKind::Symbol, symbol_length(text), Piece::Nothing);
+    if let [first, ..] = text
+        && first.is_ascii_alphabetic()
+        && *first != 'o'
+    {
+        return longer_token(TokenKind::Word, word_length(text), Piece::Nothing);
+    }
+    let length = symbol_length(text);
+    let symbol = longer_token(TokenKind::Symbol, length, Piece::Nothing);
+    if let [first, ..] = text
+        && length > 0
+        && *first != 'o'
+    {
+        return symbol;
+    }
     let literal = longer_token(TokenKind::Literal, literal_length(text), symbol);
     let logic = longer_token(TokenKind::LogicName, logic_length(text), literal);
     longer_token(TokenKind::Word, word_length(text), logic)

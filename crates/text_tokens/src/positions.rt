@@ -14,12 +14,15 @@ pub struct Position {
     pub line: u32,
 }
 
-/// How many newline bytes there are.
+/// How many newline bytes there are. Most pieces have a single byte.
 fn newlines(bytes: &[u8]) -> u32
     requires { length bytes.now < 2 ^ 32 }
     ensures { result ≡ count_by (λ b. b == newline) bytes.now }
 {
-    bytes.iter().filter(|b| **b == b'\n').count() as u32
+    match bytes {
+        [only] => u32::from(*only == b'\n'),
+        _ => bytes.iter().filter(|b| **b == b'\n').count() as u32,
+    }
 }
 
 /// How many bytes the characters have.
