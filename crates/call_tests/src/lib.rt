@@ -19,3 +19,5 @@ mod outside;
 mod requests;
 #[cfg(test)]
 mod terms;
+#[cfg(test)]
+mod theories;

@@ -1,0 +1,82 @@
+// Calls on theories, commands and conditions that the program doesn't make.
+use dom_syntax::{
+    FileKind, Judgement, ProgramFault, Reason, Step, check_one, cond_formula, modified,
+};
+use dom_terms::{Cond, DataSort, ProgVar, Sort, Store, Term, Text, ValueSort, holds};
+use formula_syntax::{Entailment, Formula};
+use proof_text::read_theory;
+use std::alloc::Global;
+use std::test::Fail;
+use text_tokens::token_list;
+use theory_syntax::Theory;
+
+const FILE: &str = "domlogic 1
+proc f(a: int) returns (x: int) sort g requires true ensures true
+body local y : int { y := 1 ; while (not 9 <= x) { x := {x + y} } }
+proof end";
+
+// The theory of the file.
+fn theory(alloc: Global) -> Result<Theory, Fail> {
+    let tokens = token_list(alloc, FILE.as_bytes())?;
+    Ok(read_theory(alloc, &tokens)?)
+}
+
+#[test]
+fn a_block_modifies_no_local_of_its_own(rt: HostRuntime) -> Result<(), Fail> {
+    let alloc = rt.alloc();
+    let theory = theory(alloc)?;
+    let procedure = theory.procedures.get(0).ok_or("no procedure")?;
+    let found = modified(alloc, &procedure.body)?;
+    assert_eq!(rt; found.len(), 1);
+    let first = found.get(0).ok_or("no variable")?;
+    assert_eq!(rt; first.name.as_str(), "x");
+    Ok(())
+}
+
+// A step without a rule.
+fn gap(number: u32) -> Step {
+    let (left, right) = (Formula::True, Formula::EmptyGrove);
+    let sort = Sort::Shape(DataSort::Grove);
+    Step {
+        number,
+        line: 0,
+        reason: Reason::Auto,
+        judgement: Judgement::Entails(Entailment { left, right, sort }),
+    }
+}
+
+#[test]
+fn a_step_is_tested_by_itself(rt: HostRuntime) -> Result<(), Fail> {
+    let alloc = rt.alloc();
+    let theory = theory(alloc)?;
+    assert!(rt; theory.procedures.len() == 1);
+    assert!(rt; check_one(alloc, &theory, 1, 7, &gap(7)).is_ok());
+    let kind = FileKind::Number;
+    let fault = ProgramFault::BadProgram {
+        procedure: 1,
+        step: 7,
+        kind,
+    };
+    assert_eq!(rt; check_one(alloc, &theory, 1, 7, &gap(8)), Err(fault));
+    Ok(())
+}
+
+#[test]
+fn a_bool_variable_is_its_equation_with_yes(rt: HostRuntime) -> Result<(), Fail> {
+    let alloc = rt.alloc();
+    let name = Text::from_str(alloc, "b")?;
+    let sort = ValueSort::Bool;
+    let formula = cond_formula(alloc, &Cond::Holds(ProgVar { name, sort }))?;
+    assert!(rt; matches!(formula, Formula::Eq(Term::Prog(_), Term::Bool(true))));
+    Ok(())
+}
+
+#[test]
+fn both_parts_of_a_condition_are_evaluated(rt: HostRuntime) -> Result<(), Fail> {
+    let alloc = rt.alloc();
+    let store = Store::new(alloc);
+    let least = Cond::Le(Term::Int(2), Term::Int(1));
+    let either = Cond::Or(Box::new(alloc, Cond::True)?, Box::new(alloc, least)?);
+    assert!(rt; matches!(holds(alloc, &either, &store), Ok(true)));
+    Ok(())
+}
