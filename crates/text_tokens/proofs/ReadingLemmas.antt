@@ -33,6 +33,14 @@ valid : (bs : List ℕ) → IsUtf8 (take (utf8_valid_len bs) bs)
 unfolding utf8_valid_len
 valid bs = valid_up_to bs (length bs)
 
+-- the characters of the bytes have no more bytes
+pub characters-le : (bytes : List ℕ) → length (encode_utf8_all (characters bytes)) ≤ length bytes
+unfolding characters
+characters-le bytes = let spelled : encode_utf8_all (chars (take (utf8_valid_len bytes) bytes))
+    ≡ take (utf8_valid_len bytes) bytes =
+    encodes-chars (take (utf8_valid_len bytes) bytes) (valid bytes) in
+    omega (arith, ap length spelled, length-take (utf8_valid_len bytes) bytes)
+
 -- THE TOKENS LEFT
 -- one step less is enough after a piece
 fewer : (bytes text : List ℕ) (n k : ℕ) → 0 < k → n + k ≤ length text

@@ -1,4 +1,4 @@
--- Lines of a text; nothing here is to be believed.
+-- Needn't be believed: the lines of a text.
 use Rattle.std.specs.Prelude.{◌≡◌, ◌==◌, ◌⊎◌, ℕ, Bool, true, List, [], ◌∷◌, ◌++◌, length, take, drop}
 use Rattle.std.specs.Str.{chars}
 use Rattle.model_text.specs.Tokens.{newline}

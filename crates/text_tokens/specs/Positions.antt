@@ -1,4 +1,4 @@
--- Positions in a text; nothing here is to be believed.
+-- Needn't be believed: positions in a text.
 use Rattle.std.specs.Prelude.{◌≡◌, ℕ, ◌≤◌, List, length}
 use Rattle.model_text.specs.Tokens.{place_of, line_of}
 use Rattle.text_tokens.specs.declared.positions.Position.{Position}

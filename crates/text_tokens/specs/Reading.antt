@@ -1,4 +1,4 @@
--- What reading a part of a line does; nothing here is to be believed.
+-- Needn't be believed: what reading a part of a line does.
 use Rattle.std.specs.Prelude.{◌≡◌, ℕ, suc, ◌+◌, ◌-◌, ◌≤◌, List, ◌++◌, length, take, drop, encode_utf8_all}
 use Rattle.std.specs.Str.{IsUtf8, chars}
 use Rattle.std.specs.Str.Lossy.{utf8_valid_len}
