@@ -6,7 +6,9 @@ ghost use Rattle.model_documents.specs.Roots.{Rising};
 ghost use Rattle.grove_data.specs.Trees.{tree_of, forest_of};
 
 use dom_terms::{List, OutOfMemory, Text};
-use grove_data::{Forest, Grove, Tree, find_list, parent_of, same_sorted};
+use grove_data::{
+    Forest, Grove, Tree, find, find_list, moved_below, moved_to_roots, parent_of, same_sorted,
+};
 use std::alloc::Global;
 use std::test::Fail;
 
@@ -63,5 +65,18 @@ fn sorted_groves_are_compared(rt: HostRuntime) -> Result<(), Fail> {
     let grove = document(alloc)?;
     assert_eq!(rt; same_sorted(&grove, &document(alloc)?), true);
     assert_eq!(rt; same_sorted(&grove, &List::new(alloc)), false);
+    Ok(())
+}
+
+#[test]
+fn a_tree_is_moved_in_a_copy(rt: HostRuntime) -> Result<(), Fail> {
+    let alloc = rt.alloc();
+    let grove = document(alloc)?;
+    let child = find(&grove, 3).ok_or("no node")?;
+    let below = moved_below(alloc, &grove, child, 2)?;
+    assert_eq!(rt; below.len(), 1);
+    let roots = moved_to_roots(alloc, &grove, child)?;
+    assert_eq!(rt; roots.len(), 2);
+    assert_eq!(rt; grove.len(), 1);
     Ok(())
 }
