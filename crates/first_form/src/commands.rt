@@ -14,10 +14,7 @@ pub(crate) fn is_first_command(command: &Command) -> bool
     ensures { result ≡ form.is_first_command (command_of command.now) }
 {
     match command {
-        Command::Skip
-        | Command::Assign(_, _)
-        | Command::Create(_, _)
-        | Command::Name(_, _) => true,
+        Command::Skip | Command::Assign(_, _) | Command::Create(_, _) | Command::Name(_, _) => true,
         Command::Block(block) => is_first_block(block),
         _ => false,
     }

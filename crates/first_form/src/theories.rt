@@ -50,7 +50,12 @@ fn is_first_step(step: &Step) -> bool
 fn are_first_steps(steps: &[Step]) -> bool
     ensures { result ≡ list_all form.is_first_step (map step_of steps.now) }
 {
-    steps.iter().all(is_first_step)
+    for step in steps {
+        if !is_first_step(step) {
+            return false;
+        }
+    }
+    true
 }
 
 // Whether the procedure is one of groves, with such formulas, such a body and such a proof.
@@ -67,7 +72,12 @@ fn is_first_procedure(procedure: &Procedure) -> bool
 fn are_first_procedures(procedures: &[Procedure]) -> bool
     ensures { result ≡ list_all form.is_first_procedure (map procedure_of procedures.now) }
 {
-    procedures.iter().all(is_first_procedure)
+    for procedure in procedures {
+        if !is_first_procedure(procedure) {
+            return false;
+        }
+    }
+    true
 }
 
 fn declares_none(theory: &Theory) -> bool
