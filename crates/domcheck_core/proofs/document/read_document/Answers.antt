@@ -1,4 +1,4 @@
-use Rattle.std.proofs.Common.{sym, subst, refl, List, true, false, arith}
+use Rattle.std.proofs.Common.{◌∙◌, sym, subst, refl, List, true, false, arith}
 use Rattle.model_text.specs.Lexemes.{Lexeme}
 use Rattle.model_documents.specs.Grammar.{SpellsGrove}
 use Rattle.logic_text.specs.RawGroves.{raw_forest_of}
@@ -10,7 +10,7 @@ pub returns-in-Ok : goal.returns-in-Ok
 returns-in-Ok c = record {
   small = omega arith;
   tokens = none_passes 200 c.args.bytes.now _ c.token_limit.result c.token_limit.ensures
-      c.in_ok-tokens.ensures c.if-token_limit-is_some.false;
+      c.in_ok-tokens.ensures (sym c.is_some.ensures ∙ c.if-is_some.false);
   spelled = subst (λ (z : List Lexeme). SpellsGrove (raw_forest_of c.in-Ok.grove) z)
       (same_lexemes c.args.bytes.now _ c.in_ok-tokens.ensures) c.in-Ok.ensures.found;
 }
@@ -21,7 +21,7 @@ returns-in-Err-BadText c = λ g spells.
     (subst (λ (z : List Lexeme). SpellsGrove g z)
     (sym (same_lexemes c.args.bytes.now _ c.in_ok-tokens.ensures)) spells.spelled)
 
-pub returns-then-token_limit-is_some : goal.returns-then-token_limit-is_some
-returns-then-token_limit-is_some c = λ g spells.
+pub returns-then-is_some : goal.returns-then-is_some
+returns-then-is_some c = λ g spells.
     one_passes 200 c.args.bytes.now _ c.token_limit.result c.token_limit.ensures
-    c.in_ok-tokens.ensures c.if-token_limit-is_some.true spells.tokens
+    c.in_ok-tokens.ensures (sym c.is_some.ensures ∙ c.if-is_some.true) spells.tokens

@@ -1,4 +1,4 @@
-use Rattle.std.proofs.Common.{◌≡◌, sym, subst, refl, List, true, false, Bool, arith}
+use Rattle.std.proofs.Common.{◌≡◌, ◌∙◌, sym, subst, refl, List, true, false, Bool, arith}
 use Rattle.model_text.specs.Lexemes.{Lexeme}
 use Rattle.model_grammar.specs.Theories.{SpellsTheory}
 use Rattle.model_grammar.specs.Files.{IsOfForm}
@@ -13,8 +13,8 @@ use Rattle.domcheck_core.proofs.file.read_file.Goals as goal
 not_both : (b : Bool) → b ≡ false → b ≡ true → ⊥
 not_both b e f = cc
 
-pub in_ok-is_of_form-requires : goal.in_ok-is_of_form-requires
-in_ok-is_of_form-requires c =
+pub is_of_form-requires : goal.is_of_form-requires
+is_of_form-requires c =
     theory_small (subst (λ (z : List Lexeme). SpellsTheory (theory_of c.in-Ok.theory) z)
     (same_lexemes c.args.bytes.now _ c.in_ok-tokens.ensures) c.in-Ok.ensures.found)
     (few_lexemes c.args.bytes.now (omega arith))
@@ -23,7 +23,7 @@ pub returns-then-branch : goal.returns-then-branch
 returns-then-branch c = record {
   small = omega arith;
   tokens = none_passes 100 c.args.bytes.now _ c.token_limit.result c.token_limit.ensures
-      c.in_ok-tokens.ensures c.if-token_limit-is_some.false;
+      c.in_ok-tokens.ensures (sym c.is_some.ensures ∙ c.if-is_some.false);
   spelled = subst (λ (z : List Lexeme). SpellsTheory (theory_of c.in-Ok.theory) z)
       (same_lexemes c.args.bytes.now _ c.in_ok-tokens.ensures) c.in-Ok.ensures.found;
   of_form = c.in_ok-is_of_form-in-Ok.ensures.0 c.if-branch.true;
@@ -44,7 +44,7 @@ returns-in-Err-BadText c = λ t spells.
     (subst (λ (z : List Lexeme). SpellsTheory t z)
     (sym (same_lexemes c.args.bytes.now _ c.in_ok-tokens.ensures)) spells.spelled)
 
-pub returns-then-token_limit-is_some : goal.returns-then-token_limit-is_some
-returns-then-token_limit-is_some c = λ t spells.
+pub returns-then-is_some : goal.returns-then-is_some
+returns-then-is_some c = λ t spells.
     one_passes 100 c.args.bytes.now _ c.token_limit.result c.token_limit.ensures
-    c.in_ok-tokens.ensures c.if-token_limit-is_some.true spells.tokens
+    c.in_ok-tokens.ensures (sym c.is_some.ensures ∙ c.if-is_some.true) spells.tokens
