@@ -8,3 +8,4 @@ pub mod Formulas
 pub mod Commands
 pub mod Sorts
 pub mod Theories
+pub mod Writing
