@@ -7,9 +7,13 @@
 mod ranges;
 mod raw_groves;
 mod reading;
+mod terms;
+mod tokens;
 mod writing;
 
 pub use ranges::{RangeFault, to_grove};
 pub use raw_groves::{RawForest, RawGrove, RawTree};
 pub use reading::{MOST_DEPTH, one_grove, read_grove};
+pub use terms::push_term;
+pub use tokens::{push_numeral, push_quoted, push_token, without_space};
 pub use writing::{write_grove, write_literal};

@@ -198,7 +198,8 @@ item_spelled x a b h k =
 
 call_spelled : (xs : List ProgVar) (name : List ℕ) (es : List Term)
     → IsWritableCommand (call xs name es)
-    → SpellsCommand (sorted_command undeclared (call xs name es)) (command_lexemes (call xs name es))
+    → SpellsCommand (sorted_command undeclared (call xs name es))
+    (command_lexemes (call xs name es))
 call_spelled xs name es h =
     c.a_call
     (brackets_spelled SpellsVariable IsWritableName (sorted_name undeclared) name_lexemes

@@ -1,5 +1,5 @@
--- The text of terms, formulas, commands and theories as the program prints them, byte by byte: their
--- lexemes, what is printed for each, and one space between each two; and what can be written.
+-- The text of terms, formulas and commands as the program prints them, byte by byte: their lexemes,
+-- what is printed for each, and one space between each two; and what can be written.
 use Rattle.model_limits.specs.Limits.{standard_limits}
 use Rattle.std.specs.Prelude.{◌≡◌, ℕ, suc, ◌≤◌, true, false, List, [], ◌∷◌, ◌++◌, codes, map, pos, negsuc}
 use Rattle.std.specs.Fmt.{decimal}
