@@ -22,6 +22,7 @@ fn push_integer(alloc: Global, text: &mut Text, number: i64) -> Result<(), OutOf
 
 // Puts two terms at the end, between braces and with a sign between them.
 #[cycle(term_writing)]
+#[tactic(auto, using(model_grammar::proofs::Spaced::spaced_rules))]
 fn push_braced(
     alloc: Global,
     text: &mut Text,

@@ -1,6 +1,6 @@
-use Rattle.std.proofs.Common.{lit<, None, Some, ap, ◌∙◌}
+use Rattle.std.proofs.Common.{lit<, None, ◌∙◌}
 use Rattle.std.proofs.lemmas.Str.Pattern.{strip_prefix_char}
-use Rattle.logic_text.proofs.SpaceLemmas.{no_space, behind_space}
+use Rattle.logic_text.proofs.SpaceLemmas.{no_space}
 use Rattle.logic_text.proofs.tokens.without_space.Goals as goal
 
 pub returns-in-None : goal.returns-in-None
