@@ -202,25 +202,9 @@ node_sound n forest S =
 tree_sound : (most n : ℕ) → n ≤ most → Sound n (tree_at most n) SpellsTree
 unfolding tree_at
 tree_sound most zero h = s_deep _ _ (λ ts. refl) (node [] 1 none 1 none) _
-    (tree [] 1 1 empty_forest) (
-      literal_seen,
-      (
-        is_seen (codes "#") refl,
-        (
-          number_seen,
-          (
-            is_seen (codes "[") refl,
-            (
-              is_seen (codes "0f") refl,
-              (
-                is_seen (codes "]") refl,
-                (is_seen (codes "%") refl, (number_seen, tt)),
-              ),
-            ),
-          ),
-        ),
-      ),
-    )
+    (tree [] 1 1 empty_forest) (literal_seen, (is_seen (codes "#") refl, (number_seen,
+    (is_seen (codes "[") refl, (is_seen (codes "0f") refl, (is_seen (codes "]") refl,
+    (is_seen (codes "%") refl, (number_seen, tt))))))))
 tree_sound most (suc n) h = node_sound n (forest_at most (tree_at most n))
     (forest_sound most n (omega arith) (tree_at most n) (tree_sound most n (omega arith)))
 

@@ -8,3 +8,5 @@ pub mod SortReader
 pub mod StepReader
 pub mod TheoryReader
 pub mod Exact
+pub mod MarkLemmas
+pub mod ConditionSizes

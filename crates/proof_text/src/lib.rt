@@ -18,5 +18,8 @@ mod sorts;
 mod steps;
 mod terms;
 mod theories;
+mod writing;
+mod written;
 
 pub use theories::{MOST_DEPTH, one_theory, read_theory};
+pub use writing::{push_command, write_command};
