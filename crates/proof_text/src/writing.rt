@@ -184,6 +184,7 @@ fn push_item(
 }
 
 // Puts a call at the end.
+#[tactic(auto, using(model_grammar::proofs::Spaced::spaced_rules))]
 fn push_call(
     alloc: Global,
     text: &mut Text,
@@ -238,7 +239,6 @@ fn push_block(alloc: Global, text: &mut Text, block: &Block) -> Result<(), OutOf
 
 /// Puts the tokens of the command at the end, each behind a space.
 #[cycle(command_writing)]
-#[tactic(auto, using(model_grammar::proofs::Spaced::spaced_rules))]
 pub fn push_command(alloc: Global, text: &mut Text, command: &Command) -> Result<(), OutOfMemory>
     ensures { OnOk result
         (text.new ≡ text.old ++ spaced (command_lexemes (command_of command.now))) }
@@ -259,16 +259,19 @@ pub fn push_command(alloc: Global, text: &mut Text, command: &Command) -> Result
             push_condition(alloc, text, cond)?;
             push_block(alloc, text, first)?;
             push_token(alloc, text, "else")?;
-            push_block(alloc, text, second)
+            push_block(alloc, text, second)?;
+            Ok(())
         }
         Command::While(cond, block) => {
             push_token(alloc, text, "while")?;
             push_condition(alloc, text, cond)?;
-            push_block(alloc, text, block)
+            push_block(alloc, text, block)?;
+            Ok(())
         }
         Command::Local(x, block) => {
             push_local(alloc, text, x)?;
-            push_block(alloc, text, block)
+            push_block(alloc, text, block)?;
+            Ok(())
         }
         Command::Call(results, name, arguments) => {
             push_call(alloc, text, results, name, arguments)
