@@ -12,7 +12,7 @@ use Rattle.model_grammar.proofs.Spaced.{spaced_append, spaced_rules}
 use Rattle.logic_text.proofs.ListLemmas.{drop_item}
 use Rattle.theory_syntax.specs.declared.commands.Command.{Command}
 use Rattle.theory_syntax.specs.declared.commands.Command.TheOpen.{Command-F}
-use Rattle.theory_syntax.specs.declared.commands.Command.{roll-Command, map-Command, fold-Command}
+use Rattle.theory_syntax.specs.declared.commands.Command.{roll-Command, map-Command}
 use Rattle.theory_syntax.specs.declared.commands.Command.TheVariants.{the_data}
 use Rattle.theory_syntax.specs.declared.commands.Command.TheFolds.{fold-roll-Command}
 use Rattle.theory_syntax.specs.Commands.{command_step, command_of, block_of}

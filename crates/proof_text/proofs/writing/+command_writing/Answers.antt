@@ -1,5 +1,4 @@
 use Rattle.std.proofs.Common.{◌≡◌, ◌∙◌, sym, rules, codes, [], IsTrue, false, refl, arith, length, ◌≤◌}
-use Rattle.model_grammar.specs.Writing.{spaced}
 use Rattle.model_grammar.proofs.Spaced.{spaced_rules}
 use Rattle.dom_terms.specs.Terms.{prog_var_of, term_of}
 use Rattle.dom_terms.specs.Conditions.{cond_of}
@@ -7,7 +6,6 @@ use Rattle.theory_syntax.specs.Commands.{command_of, block_of}
 use Rattle.theory_syntax.specs.declared.commands.Command.TheOpen.{Command-F}
 use Rattle.theory_syntax.specs.declared.commands.Command.TheVariants.{rolls-Create, rolls-Name, rolls-Parent, rolls-Children, rolls-Append, rolls-Remove, rolls-If, rolls-While, rolls-Local}
 use Rattle.model_commands.specs.Commands as model
-use Rattle.proof_text.specs.Marked.{marked}
 use Rattle.proof_text.proofs.MarkLemmas.{goes_on, ends, lexemes_of_command, block_text, seen}
 use Rattle.proof_text.proofs.writing.+command_writing.Goals as goal
 

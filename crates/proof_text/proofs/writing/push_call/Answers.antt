@@ -1,4 +1,3 @@
-use Rattle.std.proofs.Common.{◌≡◌}
 use Rattle.proof_text.proofs.MarkLemmas.{call_text}
 use Rattle.proof_text.proofs.writing.push_call.Goals as goal
 

@@ -1,4 +1,4 @@
-use Rattle.std.proofs.Common.{◌≡◌, List, [], false, true, length, nat_eq, ap, ◌∙◌}
+use Rattle.std.proofs.Common.{◌≡◌, [], false, true, length, nat_eq, ap, ◌∙◌}
 use Rattle.proof_text.proofs.MarkLemmas.{brackets_text}
 use Rattle.proof_text.proofs.written.push_bracketed.Goals as goal
 

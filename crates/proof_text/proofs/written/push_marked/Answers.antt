@@ -1,4 +1,4 @@
-use Rattle.std.proofs.Common.{◌≡◌, rules, codes}
+use Rattle.std.proofs.Common.{rules, codes}
 use Rattle.proof_text.proofs.MarkLemmas.{goes_on}
 use Rattle.proof_text.proofs.written.push_marked.Goals as goal
 
