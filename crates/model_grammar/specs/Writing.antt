@@ -1,17 +1,19 @@
--- The text of terms, formulas and commands as the program prints them, byte by byte: their lexemes,
--- what is printed for each, and one space between each two; and what can be written.
+-- The text of terms, formulas, commands and theories as the program prints them, byte by byte:
+-- their lexemes, what is printed for each, and one space between each two; and what can be written.
 use Rattle.model_limits.specs.Limits.{standard_limits}
 use Rattle.std.specs.Prelude.{◌≡◌, ℕ, suc, ◌≤◌, true, false, List, [], ◌∷◌, ◌++◌, codes, map, pos, negsuc}
 use Rattle.std.specs.Fmt.{decimal}
-use Rattle.model_shapes.specs.Sorts.{ValueSort, node_sort, list_sort, int_sort, str_sort, bool_sort, DataSort, tree, forest, grove}
+use Rattle.model_shapes.specs.Sorts.{ValueSort, node_sort, list_sort, int_sort, str_sort, bool_sort, DataSort, tree, forest, grove, Sort, value, shape, context}
 use Rattle.model_shapes.specs.Values.{null, nolist, node_number, list_number, int, str, boolean}
-use Rattle.model_terms.specs.Variables.{Var, prog, logic, bound}
+use Rattle.model_terms.specs.Variables.{Var, prog, logic, bound, var_sort}
 use Rattle.model_terms.specs.Terms.{Term, literal, variable, sum, difference, appended}
 use Rattle.model_terms.specs.Stores.{ProgVar, named}
 use Rattle.model_terms.specs.Conditions.{Cond, cond_true, cond_false, cond_variable, cond_equal, cond_at_most, cond_not, cond_and, cond_or}
 use Rattle.model_formulas.specs.Formulas.{Named, Side, whole, hole_left, hole_right, truth, falsity, conjunction, disjunction, implication, negation, existential, universal, equality, at_most, empty, bare_hole, node_formula, one_tree, one_root, concatenation, grove_sum, grove_sum_hole, application, hole_adjoint, context_adjoint, same_as, length_is, value_meets}
 use Rattle.model_commands.specs.Commands.{Command, skip, block, assign, create_node, node_name, child_nodes, parent_node, list_item, append_child, remove_child, if_else, while_do, local, call, Block, stop, ◌then◌}
-use Rattle.model_text.specs.Lexemes.{Lexeme, terminal, step_word, name_lexeme, logic_lexeme, number_lexeme, literal_lexeme, bad_lexeme}
+use Rattle.model_commands.specs.Theories.{JudgementOf, entails, triple, Reason, auto, by_rule, StepOf, ProcedureOf, Theory}
+use Rattle.model_text.specs.Tokens.{newline}
+use Rattle.model_text.specs.Lexemes.{Lexeme, terminal, step_word, name_lexeme, logic_lexeme, number_lexeme, literal_lexeme, bad_lexeme, word_lexeme}
 use Rattle.model_text.specs.Nesting.{lexemes_of}
 use Rattle.model_documents.specs.Printed.{quoted}
 use Rattle.model_grammar.specs.Words.{the, ◌⌢◌}
@@ -220,6 +222,107 @@ abbrev mutual
   pub further_commands : Block → List Lexeme
   further_commands stop = []
   further_commands (c then b) = the ";" ⌢ command_lexemes c ⌢ further_commands b
+
+-- ---- theories
+
+-- a word for the sort of a shape; there is none for a context that no shape fits
+abbrev pub data_sort_lexemes : DataSort → List Lexeme
+data_sort_lexemes tree = name_lexeme (codes "t") ∷ []
+data_sort_lexemes forest = name_lexeme (codes "f") ∷ []
+data_sort_lexemes grove = name_lexeme (codes "g") ∷ []
+
+-- a word for a sort; there is none for a context of trees or forests with a hole for a grove
+abbrev pub sort_lexemes : Sort → List Lexeme
+sort_lexemes (value s) = value_sort_lexemes s
+sort_lexemes (shape k) = data_sort_lexemes k
+sort_lexemes (context tree tree) = name_lexeme (codes "tt") ∷ []
+sort_lexemes (context tree forest) = name_lexeme (codes "tf") ∷ []
+sort_lexemes (context tree grove) = name_lexeme (codes "tg") ∷ []
+sort_lexemes (context forest tree) = name_lexeme (codes "ft") ∷ []
+sort_lexemes (context forest forest) = name_lexeme (codes "ff") ∷ []
+sort_lexemes (context forest grove) = name_lexeme (codes "fg") ∷ []
+sort_lexemes (context grove grove) = name_lexeme (codes "gg") ∷ []
+sort_lexemes (context grove tree) = []
+sort_lexemes (context grove forest) = []
+
+-- a variable and its sort, as they are declared
+abbrev pub declaration_lexemes : ProgVar → List Lexeme
+declaration_lexemes (named name s) = name_lexeme name ∷ [] ⌢ the ":" ⌢ value_sort_lexemes s
+
+-- the number of a step
+abbrev pub number_lexemes : ℕ → List Lexeme
+number_lexemes n = number_lexeme n ∷ []
+
+-- any word, as the name of a rule
+abbrev pub word_lexemes : List ℕ → List Lexeme
+word_lexemes word = word_lexeme word 0 ∷ []
+
+-- the arguments of a rule
+abbrev pub argument_lexemes : List Term → List Lexeme
+argument_lexemes [] = []
+argument_lexemes (a ∷ rest) = the "with" ⌢ in_brackets (map term_lexemes (a ∷ rest))
+
+-- why a step holds
+abbrev pub reason_lexemes : Reason → List Lexeme
+reason_lexemes auto = the "auto"
+reason_lexemes (by_rule name premises arguments) =
+    the "by" ⌢ word_lexemes name ⌢ in_brackets (map number_lexemes premises)
+    ⌢ argument_lexemes arguments
+
+-- what it says
+abbrev pub judgement_lexemes : JudgementOf Named → List Lexeme
+judgement_lexemes (entails p q s) =
+    formula_lexemes p ⌢ the "entails" ⌢ formula_lexemes q ⌢ the "at" ⌢ sort_lexemes s
+judgement_lexemes (triple p c q k) =
+    the "pre" ⌢ formula_lexemes p ⌢ the "do" ⌢ command_lexemes c ⌢ the "post"
+    ⌢ formula_lexemes q ⌢ the "at" ⌢ data_sort_lexemes k
+
+-- The text of a theory, line by line: a newline stands in place of the space before each of the
+-- words `logic`, `proc`, `requires`, `ensures`, `body`, `proof`, `step` and `end` of the grammar.
+
+-- the line of a declared logic variable
+abbrev pub logic_line : Var → List Lexeme
+logic_line x = the "logic" ⌢ sort_lexemes (var_sort x) ⌢ var_lexemes x ⌢ the ";"
+
+-- of a step
+abbrev pub step_line : StepOf Named → List Lexeme
+step_line step = step_word step.line ∷ [] ⌢ number_lexemes step.number
+    ⌢ reason_lexemes step.reason ⌢ the ":" ⌢ judgement_lexemes step.judgement ⌢ the ";"
+
+-- the lines of a procedure
+abbrev pub procedure_lines : ProcedureOf Named → List (List Lexeme)
+procedure_lines f =
+    (the "proc" ⌢ name_lexeme f.name ∷ [] ⌢ in_brackets (map declaration_lexemes f.params)
+    ⌢ the "returns" ⌢ in_brackets (map declaration_lexemes f.results) ⌢ the "sort"
+    ⌢ data_sort_lexemes f.sort)
+    ∷ (the "requires" ⌢ formula_lexemes f.pre) ∷ (the "ensures" ⌢ formula_lexemes f.post)
+    ∷ (the "body" ⌢ command_lexemes f.body) ∷ the "proof"
+    ∷ (map step_line f.proof ++ the "end" ∷ [])
+
+-- of the procedures
+abbrev pub procedures_lines : List (ProcedureOf Named) → List (List Lexeme)
+procedures_lines [] = []
+procedures_lines (f ∷ fs) = procedure_lines f ++ procedures_lines fs
+
+-- of a theory
+abbrev pub theory_lines : Theory → List (List Lexeme)
+theory_lines theory =
+    (the "domlogic" ⌢ number_lexemes theory.version)
+    ∷ (map logic_line theory.logic ++ procedures_lines theory.procedures)
+
+-- the lexemes of the lines
+abbrev pub all_lexemes : List (List Lexeme) → List Lexeme
+all_lexemes [] = []
+all_lexemes (line ∷ rest) = line ⌢ all_lexemes rest
+
+-- each line with a newline behind it
+abbrev pub text_of_lines : List (List Lexeme) → List ℕ
+text_of_lines [] = []
+text_of_lines (line ∷ rest) = text_of line ++ (newline ∷ text_of_lines rest)
+
+-- the text of a theory
+abbrev pub theory_text : Theory → List ℕ
+theory_text theory = text_of_lines (theory_lines theory)
 
 -- ---- what can be written
 

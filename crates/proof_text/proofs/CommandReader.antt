@@ -41,17 +41,8 @@ s_wider : {A : Type 0} {n : ℕ} {r : Read A} {L : A → List Lexeme → Type 0}
 s_wider M f S = record {
   some = (S.some.0, S.some.1, f S.some.0 S.some.1 S.some.2, S.some.3);
   found = λ ts a rest e. let x = S.found ts a rest e in (x.0, x.1, f a x.0 x.2);
-  viable = λ ts k e. let v = S.viable ts k e in (
-    v.0,
-    v.1,
-    v.2,
-    v.3,
-    v.4,
-    v.5,
-    f v.4
-        (v.0 ++ v.5) v.6,
-    v.7,
-  );
+  viable = λ ts k e. let v = S.viable ts k e in (v.0, v.1, v.2, v.3, v.4, v.5, f v.4
+      (v.0 ++ v.5) v.6, v.7);
   local_ok = S.local_ok;
   local_err = S.local_err;
   ends = S.ends;
@@ -63,7 +54,7 @@ rest_sound : (most n : ℕ) → n ≤ most → (command : Read Command) → Soun
 unfolding block_rest
 rest_sound most n h command S =
     s_then _ (s_list semicolon most n h S) λ cs s ls. s_close n (codes "}") refl (block_with cs) _
-    (in_braces (block_of ls))
+        (in_braces (block_of ls))
 
 block_sound : (most n : ℕ) → n ≤ most → (command : Read Command) → Sound n command SpellsCommand
     → Sound n (block_at most command) SpellsBlock
@@ -88,7 +79,7 @@ two_sound : (n : ℕ) (make : Term → Term → Command) (L : Command → List L
 unfolding two_at
 two_sound n make L spelled =
     s_expect (codes "(") refl L (s_then _ (T n) λ a s la. s_expect (codes ",") refl _
-    (s_then _ (T n) λ b t lb.
+        (s_then _ (T n) λ b t lb.
     s_close n (codes ")") refl (make a b) _ (spelled a b s t la lb)))
 
 setting_sound : (n : ℕ) (x : ProgVar) → Sound n (setting_at (term_at in_command n) x)
@@ -109,7 +100,7 @@ change_sound : (n : ℕ) → Sound (suc n) (change_at (term_at in_command n)) Sp
 unfolding change_at
 change_sound n =
     s_when n (codes "appendChild") (two_sound n append_child _ λ a b s t la lb.
-    change g.append_word la lb)
+        change g.append_word la lb)
     (s_when n (codes "removeChild") (two_sound n remove_child _ λ a b s t la lb.
     change g.remove_word la lb)
     (s_then _ (variable_sound (suc n)) λ x s lx. s_expect_up n (codes ":=") refl _
@@ -125,7 +116,7 @@ module _ (most n : ℕ) (h : n ≤ most) (command : Read Command)
   unfolding choice_at
   choice_sound =
       s_then _ (cond_sound n) λ c s lc. s_then _ B λ a t la. s_expect (codes "else") refl _
-      (s_then _ B λ b u lb.
+          (s_then _ B λ b u lb.
       s_ret n (if_else c a b) _ (choice lc la (ends_with SpellsBlock lb)))
 
   loop_sound : Sound n (loop_at (cond_at n) (block_at most command))
@@ -139,7 +130,7 @@ module _ (most n : ℕ) (h : n ≤ most) (command : Read Command)
   unfolding local_at
   local_sound =
       s_then _ (name_sound n) λ name s ln. s_expect (codes ":") refl _
-      (s_then _ (value_sort_sound n) λ v t lv. s_then _ B λ b u lb.
+          (s_then _ (value_sort_sound n) λ v t lv. s_then _ B λ b u lb.
       s_ret n (local (named name v) b) _ (with_local ln lv (ends_with SpellsBlock lb)))
 
   call_sound : Sound n (call_at most (term_at in_command n))
@@ -147,12 +138,12 @@ module _ (most n : ℕ) (h : n ≤ most) (command : Read Command)
   unfolding call_at
   call_sound =
       s_then _ (bracketed_sound (leaf leaf_variable) SpellsVariable most n h (variable_sound n)) λ
-      xs s lxs.
+          xs s lxs.
       s_expect (codes ":=") refl _ (s_then _ (name_sound n) λ name t ln.
       s_then _ (bracketed_sound (term_at in_command n) (SpellsTerm in_command) most n h (T n)) λ es
-      u les.
+          u les.
       s_ret n (call xs name es) _ (a_call lxs ln (ends_with
-      (Bracketed (SpellsTerm in_command)) les)))
+          (Bracketed (SpellsTerm in_command)) les)))
 
 pub command_sound : (most n : ℕ) → n ≤ most → Sound n (command_at most n) SpellsCommand
 unfolding command_at
@@ -236,7 +227,7 @@ setting_reads : (n : ℕ) (x : ProgVar) (c : Command) (s rest : List Lexeme) →
 unfolding setting_at one_at two_at
 setting_reads n x c s rest (to_value {a = a} la) =
     subst (λ z. OrDeep z (assign x a) rest) (sym (term_first n x a s rest la))
-    (o_last _ rest (O n) la refl read)
+        (o_last _ rest (O n) la refl read)
 setting_reads n x c s rest (to_answer g.create_word la) = o_then _ _ rest (O n) la refl read
 setting_reads n x c s rest (to_answer g.name_word la) = o_then _ _ rest (O n) la refl read
 setting_reads n x c s rest (to_answer g.parent_word la) = o_then _ _ rest (O n) la refl read
@@ -251,9 +242,9 @@ command_reads most zero c s rest l = deep
 command_reads most (suc n) c s rest skip_word = read
 command_reads most (suc n) c s rest (braces (in_braces {b = b} {inner = inner} l)) =
     let C : Only (command_at most n) SpellsCommand Prefix_free = record
-    { only = λ c s rest l st. command_reads most n c s rest l } in
+        { only = λ c s rest l st. command_reads most n c s rest l } in
     block_reads b (block_rest most (command_at most n) ((inner ++ the "}") ++ rest)) rest
-    (rest_reads most (command_at most n) C b inner rest l)
+        (rest_reads most (command_at most n) C b inner rest l)
   where
     block_reads : (b : Block) (x : Answer Block) (rest : List Lexeme) → OrDeep x b rest
         → OrDeep (x >>= λ z. Ok (model.block z.0, z.1)) (model.block b) rest
@@ -261,20 +252,20 @@ command_reads most (suc n) c s rest (braces (in_braces {b = b} {inner = inner} l
     block_reads b x rest read = read
 command_reads most (suc n) c s rest (choice lc (in_braces la) lb) =
     let B = block_only most (command_at most n) (record
-    { only = λ c s rest l st. command_reads most n c s rest l }) in
+        { only = λ c s rest l st. command_reads most n c s rest l }) in
     o_then _ _ rest (cond_only n) lc refl (o_then _ _ rest B (in_braces la) refl
-    (o_last _ rest B lb refl read))
+        (o_last _ rest B lb refl read))
 command_reads most (suc n) c s rest (loop lc (in_braces lb)) =
     let B = block_only most (command_at most n) (record
-    { only = λ c s rest l st. command_reads most n c s rest l }) in
+        { only = λ c s rest l st. command_reads most n c s rest l }) in
     o_then _ _ rest (cond_only n) lc refl (o_last _ rest B (in_braces lb) refl read)
 command_reads most (suc n) c s rest (with_local (a_name name) lv lb) =
     let B = block_only most (command_at most n) (record
-    { only = λ c s rest l st. command_reads most n c s rest l }) in
+        { only = λ c s rest l st. command_reads most n c s rest l }) in
     o_then _ _ rest value_sort_only lv refl (o_last _ rest B lb refl read)
 command_reads most (suc n) c s rest (a_call lxs ln les) =
     o_then _ _ rest (variables_only most) lxs refl (o_then _ _ rest name_only ln refl
-    (o_last _ rest (terms_only n most) les refl read))
+        (o_last _ rest (terms_only n most) les refl read))
 command_reads most (suc n) c s rest (change g.append_word la lb) = o_then _ _ rest (O n) la refl
     (o_then _ _ rest (O n) lb refl read)
 command_reads most (suc n) c s rest (change g.remove_word la lb) = o_then _ _ rest (O n) la refl

@@ -31,7 +31,7 @@ joined_sound : (n : ℕ) (condition : Read Cond) → Sound n condition SpellsCon
 unfolding cond_joined_at
 joined_sound n condition S c s lc =
     s_case (codes "and") (s_then _ S λ d t ld. s_close n (codes ")") refl (cond_and c d) _
-    (joined lc g.and_word ld))
+        (joined lc g.and_word ld))
     (s_case (codes "or") (s_then _ S λ d t ld. s_close n (codes ")") refl (cond_or c d) _
     (joined lc g.or_word ld))
     (s_fail n (cond_and c cond_true) (terminal (codes "and") ∷ (terminal (codes "true") ∷ the ")"))
@@ -67,7 +67,7 @@ compared_sound : (n : ℕ) (term : Read Term) → Sound n term (SpellsTerm in_co
 unfolding cond_compared_at
 compared_sound n term T a s la =
     s_when n (codes "=") (s_then _ T λ b t lb. s_ret n (cond_equal a b) _
-    (comparison la g.equal_sign (ends_with (SpellsTerm in_command) lb)))
+        (comparison la g.equal_sign (ends_with (SpellsTerm in_command) lb)))
     (s_when n (codes "<=") (s_then _ T λ b t lb. s_ret n (cond_at_most a b) _
     (comparison la g.at_most_sign (ends_with (SpellsTerm in_command) lb)))
     (lone_sound (suc n) a s la (cond_equal a (literal null)) (terminal (codes "=") ∷ the "null")
@@ -159,25 +159,25 @@ cond_reads (suc n) c s rest g.true_word st = read
 cond_reads (suc n) c s rest g.false_word st = read
 cond_reads (suc n) c s rest (bool_variable (a_variable (a_name name))) st =
     term_then n (variable (prog name node_sort)) (name_lexeme name ∷ []) [] rest _ _
-    (program_variable name) (variable_ends name (term_at in_command n) rest st)
+        (program_variable name) (variable_ends name (term_at in_command n) rest st)
 cond_reads (suc n) c s rest (comparison la g.equal_sign lb) st = term_then n _ _ _ rest _ _ la
     (o_last _ rest (term_only in_command n) lb refl read)
 cond_reads (suc n) c s rest (comparison la g.at_most_sign lb) st = term_then n _ _ _ rest _ _ la
     (o_last _ rest (term_only in_command n) lb refl read)
 cond_reads (suc n) c s rest (g.not lc) st =
     let S : Only (cond_at n) SpellsCondition ends_cond = record
-    { only = λ c s rest l st. cond_reads n c s rest l st } in
+        { only = λ c s rest l st. cond_reads n c s rest l st } in
     o_then _ _ rest S lc refl read
 cond_reads (suc n) c s rest (joined lc g.and_word ld) st =
     let S : Only (cond_at n) SpellsCondition ends_cond = record
-    { only = λ c s rest l st. cond_reads n c s rest l st } in
+        { only = λ c s rest l st. cond_reads n c s rest l st } in
     subst (λ z. OrDeep z c rest) (sym (bracket_first (cond_at n) _ _ _ rest lc))
-    (o_then _ _ rest S lc refl (o_then _ _ rest S ld refl read))
+        (o_then _ _ rest S lc refl (o_then _ _ rest S ld refl read))
 cond_reads (suc n) c s rest (joined lc g.or_word ld) st =
     let S : Only (cond_at n) SpellsCondition ends_cond = record
-    { only = λ c s rest l st. cond_reads n c s rest l st } in
+        { only = λ c s rest l st. cond_reads n c s rest l st } in
     subst (λ z. OrDeep z c rest) (sym (bracket_first (cond_at n) _ _ _ rest lc))
-    (o_then _ _ rest S lc refl (o_then _ _ rest S ld refl read))
+        (o_then _ _ rest S lc refl (o_then _ _ rest S ld refl read))
 
 pub cond_only : (n : ℕ) → Only (cond_at n) SpellsCondition ends_cond
 cond_only n = record { only = λ c s rest l st. cond_reads n c s rest l st }

@@ -25,7 +25,7 @@ use Rattle.proof_text.proofs.TermReader.{term_sound, term_only}
 word_is : (t : Lexeme) (p : Named) → leaf_word t ≡ Some p → SpellsWord p (t ∷ [])
 word_is t p e =
     where_it_is SpellsWord (codes "true") t truth p _ true_word
-    (where_it_is SpellsWord (codes "false") t falsity p _ false_word
+        (where_it_is SpellsWord (codes "false") t falsity p _ false_word
     (where_it_is SpellsWord (codes "0f") t (empty forest) p _ empty_forest
     (where_it_is SpellsWord (codes "0g") t (empty grove) p _ empty_grove
     (where_it_is SpellsWord (codes "?t") t (bare_hole tree) p _ tree_hole
@@ -49,7 +49,7 @@ connective_is : (t : Lexeme) (o : Named → Named → Named) → leaf_connective
     → SpellsConnective o (t ∷ [])
 connective_is t o e =
     where_it_is SpellsConnective (codes "and") t conjunction o _ g.and_word
-    (where_it_is SpellsConnective (codes "or") t disjunction o _ g.or_word
+        (where_it_is SpellsConnective (codes "or") t disjunction o _ g.or_word
     (where_it_is SpellsConnective (codes "->") t implication o _ g.arrow
     (where_it_is SpellsConnective (codes "-o") t hole_adjoint o _ g.lollipop
     (where_it_is SpellsConnective (codes "o-t") t (context_adjoint tree) o _ g.into_tree
@@ -59,12 +59,8 @@ connective_is t o e =
 
 connective_sound : (n : ℕ) → Sound n (leaf leaf_connective) SpellsConnective
 connective_sound n =
-    s_leaf n leaf_connective SpellsConnective (
-      conjunction,
-      the "and",
-      g.and_word,
-      (is_seen (codes "and") refl, tt),
-    ) connective_is
+    s_leaf n leaf_connective SpellsConnective (conjunction, the "and", g.and_word,
+        (is_seen (codes "and") refl, tt)) connective_is
 
 -- a last part
 ends_term : {a : Term} {s : List Lexeme} → SpellsTerm in_formula a s
@@ -87,7 +83,7 @@ joined_sound : (n : ℕ) (formula : Read Named) → Sound n formula SpellsFormul
 unfolding joined_at
 joined_sound n formula S p s lp =
     s_then _ (connective_sound n) λ o t lo. s_then _ S λ q u lq. s_close n (codes ")") refl
-    (o p q) _ (joined lp lo lq)
+        (o p q) _ (joined lp lo lq)
 
 -- a formula that is a logic variable has one spelling
 alone : (p : Named) (s : List Lexeme) → SpellsFormula p s → (name : List ℕ) (x : Sort)
@@ -138,7 +134,7 @@ is_spelled : (x : Sort) (name : List ℕ) (q : Named) (s t : List Lexeme)
 is_spelled x name q s t lp lq =
     let h = alone _ s lp name x refl in
     subst (λ z. SpellsFormula (value_meets z (variable (logic name z)) q)
-    (terminal (codes "(") ∷ (s ++ (terminal (codes "is") ∷ (t ++ the ")")))))
+        (terminal (codes "(") ∷ (s ++ (terminal (codes "is") ∷ (t ++ the ")")))))
     (sym h.0) (is h.1 lq)
 
 joined_or_is_sound : (n : ℕ) (formula : Read Named) → Sound n formula SpellsFormula
@@ -146,7 +142,7 @@ joined_or_is_sound : (n : ℕ) (formula : Read Named) → Sound n formula Spells
     → Sound n (joined_or_is formula p) (Behind s (After (terminal (codes "(")) SpellsFormula))
 joined_or_is_sound n formula S (same_as (variable (logic name x))) s lp =
     s_case (codes "is") (s_then _ S λ q t lq. s_close n (codes ")") refl
-    (value_meets x (variable (logic name x)) q) _ (is_spelled x name q s t lp lq))
+        (value_meets x (variable (logic name x)) q) _ (is_spelled x name q s t lp lq))
     (joined_sound n formula S (same_as (variable (logic name x))) s lp)
 joined_or_is_sound n formula S p s lp = joined_sound n formula S p s lp
 
@@ -183,7 +179,7 @@ node_sound : (n : ℕ) (term : Read Term) (formula : Read Named)
 unfolding node_at
 node_sound n term formula T S a s la =
     s_then _ T λ b t lb. s_expect (codes "[") refl _ (s_then _ S λ p u lp. s_expect
-    (codes "]") refl _ (s_expect (codes "%") refl _
+        (codes "]") refl _ (s_expect (codes "%") refl _
     (s_then _ T λ c v lc. s_ret n (node_formula a b p c) _ (node la lb lp (ends_term lc)))))
 
 compared_sound : (n : ℕ) (term : Read Term) (formula : Read Named)
@@ -193,7 +189,7 @@ compared_sound : (n : ℕ) (term : Read Term) (formula : Read Named)
 unfolding compared_at
 compared_sound n term formula T S a s la =
     s_when n (codes "=") (s_then _ T λ b t lb. s_ret n (equality a b) _
-    (comparison la equal_sign (ends_term lb)))
+        (comparison la equal_sign (ends_term lb)))
     (s_when n (codes "<=") (s_then _ T λ b t lb. s_ret n (at_most a b) _
     (comparison la at_most_sign (ends_term lb)))
     (s_when n (codes "#") (node_sound n term formula T S a s la)
@@ -208,7 +204,7 @@ formula_sound zero = s_deep _ _ (λ ts. refl) truth (the "true") (a_word true_wo
 formula_sound (suc n) =
     let S = formula_sound n in
     s_begins n (suc n) (omega arith) leaf_word ret _ SpellsFormula
-    (λ t p e. s_ret n p _ (a_word (word_is t p e)))
+        (λ t p e. s_ret n p _ (a_word (word_is t p e)))
     (s_when n (codes "(") (bracket_sound n (formula_at n) S)
     (s_when n (codes "len") (s_then _ (term_sound in_formula n) λ a s la. s_ret n (length_is a) _
     (g.length (ends_term la)))
@@ -356,7 +352,7 @@ unfolding compared_at
 variable_ends name T F [] st = read
 variable_ends name T F (t ∷ ts) st =
     let h = none_of (is_terminal (codes "=") t) (is_terminal (codes "<=") t)
-    (is_terminal (codes "#") t) st in
+        (is_terminal (codes "#") t) st in
     let a : is_terminal (codes "=") t ≡ false = h.0 in
     let b : is_terminal (codes "<=") t ≡ false = h.1 in
     let c : is_terminal (codes "#") t ≡ false = h.2 in
@@ -375,7 +371,7 @@ formula_reads (suc n) p s rest (a_word forest_hole) st = read
 formula_reads (suc n) p s rest (a_word grove_hole) st = read
 formula_reads (suc n) p s rest (shape_variable (a_logic_name name)) st =
     term_then n (variable (used_logic name)) (logic_lexeme name ∷ []) [] rest _ _
-    (logic_variable name)
+        (logic_variable name)
     (variable_ends name (term_at in_formula n) (formula_at n) rest st)
 formula_reads (suc n) p s rest (comparison la equal_sign lb) st = term_then n _ _ _ rest _ _ la
     (o_last _ rest (term_only in_formula n) lb refl read)
@@ -383,39 +379,39 @@ formula_reads (suc n) p s rest (comparison la at_most_sign lb) st = term_then n 
     (o_last _ rest (term_only in_formula n) lb refl read)
 formula_reads (suc n) p s rest (node la lb lp lc) st =
     let S : Only (formula_at n) SpellsFormula ends_formula = record
-    { only = λ p s rest l st. formula_reads n p s rest l st } in
+        { only = λ p s rest l st. formula_reads n p s rest l st } in
     let T = term_only in_formula n in
     term_then n _ _ _ rest _ _ la (o_then _ _ rest T lb refl
-    (o_then _ _ rest S lp refl (o_last _ rest T lc refl read)))
+        (o_then _ _ rest S lp refl (o_last _ rest T lc refl read)))
 formula_reads (suc n) p s rest (g.length la) st = o_last _ rest
     (term_only in_formula n) la refl read
 formula_reads (suc n) p s rest (a_tree lp) st =
     let S : Only (formula_at n) SpellsFormula ends_formula = record
-    { only = λ p s rest l st. formula_reads n p s rest l st } in
+        { only = λ p s rest l st. formula_reads n p s rest l st } in
     o_then _ _ rest S lp refl read
 formula_reads (suc n) p s rest (a_root lp) st =
     let S : Only (formula_at n) SpellsFormula ends_formula = record
-    { only = λ p s rest l st. formula_reads n p s rest l st } in
+        { only = λ p s rest l st. formula_reads n p s rest l st } in
     o_then _ _ rest S lp refl read
 formula_reads (suc n) p s rest (g.not lp) st =
     let S : Only (formula_at n) SpellsFormula ends_formula = record
-    { only = λ p s rest l st. formula_reads n p s rest l st } in
+        { only = λ p s rest l st. formula_reads n p s rest l st } in
     o_then _ _ rest S lp refl read
 formula_reads (suc n) p s rest (quantified exists_word (a_logic_name name) lp) st =
     let S : Only (formula_at n) SpellsFormula ends_formula = record
-    { only = λ p s rest l st. formula_reads n p s rest l st } in
+        { only = λ p s rest l st. formula_reads n p s rest l st } in
     o_then _ _ rest S lp refl read
 formula_reads (suc n) p s rest (quantified forall_word (a_logic_name name) lp) st =
     let S : Only (formula_at n) SpellsFormula ends_formula = record
-    { only = λ p s rest l st. formula_reads n p s rest l st } in
+        { only = λ p s rest l st. formula_reads n p s rest l st } in
     o_then _ _ rest S lp refl read
 formula_reads (suc n) p s rest (is (a_logic_name name) lp) st =
     let S : Only (formula_at n) SpellsFormula ends_formula = record
-    { only = λ p s rest l st. formula_reads n p s rest l st } in
+        { only = λ p s rest l st. formula_reads n p s rest l st } in
     o_last _ _ S (shape_variable (a_logic_name name)) refl (o_then _ _ rest S lp refl read)
 formula_reads (suc n) p s rest (joined lp lo lq) st =
     let S : Only (formula_at n) SpellsFormula ends_formula = record
-    { only = λ p s rest l st. formula_reads n p s rest l st } in
+        { only = λ p s rest l st. formula_reads n p s rest l st } in
     subst (λ z. OrDeep z p rest) (sym (bracket_first (formula_at n) _ _ _ rest lp))
     (o_then _ _ rest S lp (connective_ends _ _ _ rest lo)
     (subst (λ z. OrDeep z p rest) (sym (not_is (formula_at n) _ _ _ _ rest lo))

@@ -47,13 +47,8 @@ logic_is _ a e = absurd cc
 
 pub logic_sound : (n : ℕ) → Sound n (leaf leaf_logic) SpellsLogicName
 logic_sound n =
-    s_leaf n leaf_logic SpellsLogicName (
-      codes "$x",
-      logic_lexeme (codes "$x") ∷ [],
-      a_logic_name
-          (codes "$x"),
-      (logic_seen, tt),
-    ) logic_is
+    s_leaf n leaf_logic SpellsLogicName (codes "$x", logic_lexeme (codes "$x") ∷ [], a_logic_name
+        (codes "$x"), (logic_seen, tt)) logic_is
 
 pub logic_only : Only (leaf leaf_logic) SpellsLogicName Prefix_free
 logic_only = record { only = λ a s rest l st. reads a s rest l }

@@ -48,7 +48,7 @@ value_sort_is : (t : Lexeme) (s : ValueSort) → leaf_value_sort t ≡ Some s
     → SpellsValueSort s (t ∷ [])
 value_sort_is (name_lexeme word) s e =
     called_it SpellsValueSort (codes "node") word node_sort s _ node_word
-    (called_it SpellsValueSort (codes "list") word list_sort s _ list_word
+        (called_it SpellsValueSort (codes "list") word list_sort s _ list_word
     (called_it SpellsValueSort (codes "int") word int_sort s _ int_word
     (called_it SpellsValueSort (codes "str") word str_sort s _ str_word
     (called_it SpellsValueSort (codes "bool") word bool_sort s _ bool_word (λ h. absurd cc))))) e
@@ -58,26 +58,18 @@ pub data_sort_is : (t : Lexeme) (s : DataSort) → leaf_data_sort t ≡ Some s
     → SpellsDataSort s (t ∷ [])
 data_sort_is (name_lexeme word) s e =
     called_it SpellsDataSort (codes "t") word tree s _ tree_word
-    (called_it SpellsDataSort (codes "f") word forest s _ forest_word
+        (called_it SpellsDataSort (codes "f") word forest s _ forest_word
     (called_it SpellsDataSort (codes "g") word grove s _ grove_word (λ h. absurd cc))) e
 data_sort_is _ s e = absurd cc
 
 pub name_sound : (n : ℕ) → Sound n (leaf leaf_name) SpellsName
-name_sound n = s_leaf n leaf_name SpellsName (
-  codes "x",
-  name_lexeme (codes "x") ∷ [],
-  a_name
-      (codes "x"),
-  (name_seen, tt),
-) name_is
+name_sound n = s_leaf n leaf_name SpellsName (codes "x", name_lexeme (codes "x") ∷ [], a_name
+    (codes "x"), (name_seen, tt)) name_is
 
 pub variable_sound : (n : ℕ) → Sound n (leaf leaf_variable) SpellsVariable
-variable_sound n = s_leaf n leaf_variable SpellsVariable (
-  used_name (codes "x"),
-  name_lexeme (codes "x") ∷ [],
-  a_variable (a_name (codes "x")),
-  (name_seen, tt),
-) variable_is
+variable_sound n = s_leaf n leaf_variable SpellsVariable
+    (used_name (codes "x"), name_lexeme (codes "x") ∷ [], a_variable (a_name (codes "x")),
+    (name_seen, tt)) variable_is
 
 pub value_sort_sound : (n : ℕ) → Sound n (leaf leaf_value_sort) SpellsValueSort
 value_sort_sound n = s_leaf n leaf_value_sort SpellsValueSort
@@ -151,7 +143,7 @@ module _ {A : Type 0} (item : Read A) (L : A → List Lexeme → Type 0) where
     not_closed rest r other (last_item {x = x} {item = s} l) = opens x s rest r other l
     not_closed rest r other (more_items {x = x} {item = s} {others = t} l ls) =
         subst (λ z. when (codes ")") r other z ≡ other z)
-        (sym (append_assoc s (terminal comma ∷ t) rest))
+            (sym (append_assoc s (terminal comma ∷ t) rest))
         (opens x s ((terminal comma ∷ t) ++ rest) r other l)
 
     bracketed_read : (most : ℕ) (xs : List A) (s rest : List Lexeme) → Bracketed L xs s
@@ -160,12 +152,12 @@ module _ {A : Type 0} (item : Read A) (L : A → List Lexeme → Type 0) where
     bracketed_read most xs s rest no_item = read
     bracketed_read most xs s rest (some_items {items = u} ls) =
         let inside : Read (List A) = then (sep_list comma item most) λ xs. expect (codes ")")
-        (ret xs) in
+            (ret xs) in
         let skips : when (codes ")") (ret []) inside ((u ++ the ")") ++ rest)
-        ≡ inside ((u ++ the ")") ++ rest) =
+            ≡ inside ((u ++ the ")") ++ rest) =
         subst (λ z. when (codes ")") (ret []) inside z ≡ inside z)
-        (sym (append_assoc u (the ")") rest)) (not_closed (the ")" ++ rest) (ret []) inside ls)
-        in
+            (sym (append_assoc u (the ")") rest)) (not_closed (the ")" ++ rest) (ret []) inside ls)
+            in
         subst (λ z. OrDeep z xs rest) (sym skips)
         (o_then _ (the ")") rest (list_only comma item L O most) (listed ls) refl read)
 

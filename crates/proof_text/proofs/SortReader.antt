@@ -31,14 +31,14 @@ number_is : (t : Lexeme) (a : ℕ) → leaf_number t ≡ Some a → SpellsNumber
 number_is (number_lexeme n) a e =
     let h = chosen (nat_le n standard_limits.numeral) n a e in
     subst (λ z. SpellsNumber z (number_lexeme n ∷ [])) h.1
-    (small_number n (leb-true n standard_limits.numeral h.0))
+        (small_number n (leb-true n standard_limits.numeral h.0))
 number_is _ a e = absurd cc
 
 shape_called_is : (word : List ℕ) (s : Sort) → shape_sort_called word ≡ Some s
     → SpellsShapeSort s (name_lexeme word ∷ [])
 shape_called_is word s e =
     called_it SpellsShapeSort (codes "t") word (shape tree) s _ (data_sort g.tree_word)
-    (called_it SpellsShapeSort (codes "f") word (shape forest) s _ (data_sort g.forest_word)
+        (called_it SpellsShapeSort (codes "f") word (shape forest) s _ (data_sort g.forest_word)
     (called_it SpellsShapeSort (codes "g") word (shape grove) s _ (data_sort g.grove_word)
     (called_it SpellsShapeSort (codes "tt") word (context tree tree) s _ g.tree_in_tree
     (called_it SpellsShapeSort (codes "tf") word (context tree forest) s _ g.tree_in_forest
@@ -56,8 +56,8 @@ shape_sort_is _ s e = absurd cc
 sort_is : (t : Lexeme) (s : Sort) → leaf_sort t ≡ Some s → SpellsSort s (t ∷ [])
 sort_is (name_lexeme word) s e =
     called_it SpellsSort (codes "node") word (value node_sort) s _ (value_sort_word g.node_word)
-    (called_it SpellsSort (codes "list") word (value list_sort) s _
-    (value_sort_word g.list_word)
+        (called_it SpellsSort (codes "list") word (value list_sort) s _
+        (value_sort_word g.list_word)
     (called_it SpellsSort (codes "int") word (value int_sort) s _ (value_sort_word g.int_word)
     (called_it SpellsSort (codes "str") word (value str_sort) s _ (value_sort_word g.str_word)
     (called_it SpellsSort (codes "bool") word (value bool_sort) s _ (value_sort_word g.bool_word)
@@ -65,35 +65,20 @@ sort_is (name_lexeme word) s e =
 sort_is _ s e = absurd cc
 
 pub word_sound : (n : ℕ) → Sound n (leaf leaf_word) SpellsAnyWord
-word_sound n = s_leaf n leaf_word SpellsAnyWord (
-  codes "x",
-  name_lexeme (codes "x") ∷ [],
-  plain_word
-      (codes "x"),
-  (name_seen, tt),
-) word_is
+word_sound n = s_leaf n leaf_word SpellsAnyWord (codes "x", name_lexeme (codes "x") ∷ [], plain_word
+    (codes "x"), (name_seen, tt)) word_is
 
 pub number_sound : (n : ℕ) → Sound n (leaf leaf_number) SpellsNumber
-number_sound n = s_leaf n leaf_number SpellsNumber (
-  1,
-  number_lexeme 1 ∷ [],
-  small_number 1
-      (omega arith),
-  (number_seen, tt),
-) number_is
+number_sound n = s_leaf n leaf_number SpellsNumber (1, number_lexeme 1 ∷ [], small_number 1
+    (omega arith), (number_seen, tt)) number_is
 
 pub shape_sort_sound : (n : ℕ) → Sound n (leaf leaf_shape_sort) SpellsShapeSort
 shape_sort_sound n = s_leaf n leaf_shape_sort SpellsShapeSort
     (shape grove, name_lexeme (codes "g") ∷ [], data_sort g.grove_word, (g_seen, tt)) shape_sort_is
 
 pub sort_sound : (n : ℕ) → Sound n (leaf leaf_sort) SpellsSort
-sort_sound n = s_leaf n leaf_sort SpellsSort (
-  value node_sort,
-  name_lexeme
-      (codes "node") ∷ [],
-  value_sort_word g.node_word,
-  (node_seen, tt),
-) sort_is
+sort_sound n = s_leaf n leaf_sort SpellsSort (value node_sort, name_lexeme
+    (codes "node") ∷ [], value_sort_word g.node_word, (node_seen, tt)) sort_is
 
 -- what is spelled is read
 pub word_only : Only (leaf leaf_word) SpellsAnyWord Prefix_free

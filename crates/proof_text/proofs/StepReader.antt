@@ -44,7 +44,7 @@ declaration_sound : (n : ℕ) → Sound n declaration_at SpellsDeclaration
 unfolding declaration_at
 declaration_sound n =
     s_then _ (name_sound n) λ name s ln. s_expect (codes ":") refl _
-    (s_then _ (value_sort_sound n) λ v t lv.
+        (s_then _ (value_sort_sound n) λ v t lv.
     s_ret n (named name v) _ (declaration ln (ends_with SpellsValueSort lv)))
 
 declaration_only : Only declaration_at SpellsDeclaration Prefix_free
@@ -75,7 +75,7 @@ arguments_sound : (depth most n : ℕ) → n ≤ depth → n ≤ most
 unfolding arguments_at
 arguments_sound depth most n h k =
     s_case (codes "with") (s_expect (codes "(") refl _ (s_then _
-    (s_list comma most n k (s_less n depth h (term_sound in_formula depth))) λ es s ls.
+        (s_list comma most n k (s_less n depth h (term_sound in_formula depth))) λ es s ls.
     s_close n (codes ")") refl es _ (some_arguments (items_of ls))))
     (s_ret n [] _ no_argument)
 
@@ -91,23 +91,21 @@ unfolding arguments_at
 arguments_read depth most es s rest no_argument st = none_given depth most rest st
 arguments_read depth most es s rest (some_arguments ls) st =
     o_then _ _ rest (list_only comma (term_at in_formula depth) (SpellsTerm in_formula)
-    (term_only in_formula depth) most) (listed ls) refl read
+        (term_only in_formula depth) most) (listed ls) refl read
 
 arguments_only : (depth most : ℕ) → Only (arguments_at depth most) SpellsArguments
     (not_next (codes "with"))
-arguments_only depth most = record {
-  only = λ a s rest l st.
-      arguments_read depth most a s rest l st;
-}
+arguments_only depth most = record { only = λ a s rest l st.
+    arguments_read depth most a s rest l st }
 
 reason_sound : (depth most n : ℕ) → n ≤ depth → n ≤ most
     → Sound n (reason_at depth most) SpellsReason
 unfolding reason_at
 reason_sound depth most n h k =
     s_case (codes "auto") (s_ret n auto _ auto_word) (s_expect (codes "by") refl _
-    (s_then _ (word_sound n) λ w s lw.
+        (s_then _ (word_sound n) λ w s lw.
     s_then _ (premises_sound most n k) λ ns t lns. s_then _
-    (arguments_sound depth most n h k) λ es u les.
+        (arguments_sound depth most n h k) λ es u les.
     s_ret n (by_rule w ns es) _ (by_word lw lns (ends_with SpellsArguments les))))
 
 reason_read : (depth most : ℕ) (r : Reason) (s rest : List Lexeme) → SpellsReason r s
@@ -116,7 +114,7 @@ unfolding reason_at
 reason_read depth most r s rest auto_word st = read
 reason_read depth most r s rest (by_word lw lns les) st =
     o_then _ _ rest word_only lw refl (o_then _ _ rest (premises_only most) lns refl
-    (o_last _ rest (arguments_only depth most) les st read))
+        (o_last _ rest (arguments_only depth most) les st read))
 
 reason_only : (depth most : ℕ) → Only (reason_at depth most) SpellsReason (not_next (codes "with"))
 reason_only depth most = record { only = λ a s rest l st. reason_read depth most a s rest l st }
@@ -128,9 +126,9 @@ unfolding triple_at
 triple_sound depth most n h k =
     let F : Sound n (formula_at depth) SpellsFormula = s_less n depth k (formula_sound depth) in
     s_then _ F λ p s lp. s_expect (codes "do") refl _ (s_then _
-    (s_less n depth k (command_sound most depth h)) λ c t lc.
+        (s_less n depth k (command_sound most depth h)) λ c t lc.
     s_expect (codes "post") refl _ (s_then _ F λ q u lq. s_expect (codes "at") refl _
-    (s_then _ (data_sort_sound n) λ d v ld.
+        (s_then _ (data_sort_sound n) λ d v ld.
     s_ret n (triple p c q d) _ (a_triple lp lc lq (ends_with SpellsDataSort ld)))))
 
 entailment_sound : (depth n : ℕ) → n ≤ depth → Sound n (entailment_at depth) SpellsJudgement
@@ -138,7 +136,7 @@ unfolding entailment_at
 entailment_sound depth n k =
     let F : Sound n (formula_at depth) SpellsFormula = s_less n depth k (formula_sound depth) in
     s_then _ F λ p s lp. s_expect (codes "entails") refl _
-    (s_then _ F λ q t lq. s_expect (codes "at") refl _ (s_then _ (shape_sort_sound n) λ o u lo.
+        (s_then _ F λ q t lq. s_expect (codes "at") refl _ (s_then _ (shape_sort_sound n) λ o u lo.
     s_ret n (entails p q o) _ (entailment lp lq (ends_with SpellsShapeSort lo))))
 
 judgement_sound : (depth most n : ℕ) → depth ≤ most → n ≤ depth
@@ -188,7 +186,7 @@ judgement_read : (depth most : ℕ) (j : JudgementOf Named) (s rest : List Lexem
 unfolding judgement_at triple_at entailment_at
 judgement_read depth most j s rest (entailment lp lq lo) =
     subst (λ z. OrDeep z j rest) (sym (formula_begins (triple_at depth most)
-    (entailment_at depth) _ _ _ rest lp))
+        (entailment_at depth) _ _ _ rest lp))
     (o_then _ _ rest (formula_only depth) lp refl (o_then _ _ rest (formula_only depth) lq refl
     (o_last _ rest shape_sort_only lo refl read)))
 judgement_read depth most j s rest (a_triple lp lc lq ld) =
@@ -217,7 +215,7 @@ module _ (depth most : ℕ) where
   unfolding step_tail
   step_read line a s rest (a_step l li lr lj) =
       o_then _ _ rest number_only li refl (o_then _ _ rest (reason_only depth most) lr refl
-      (o_then _ _ rest (judgement_only depth most) lj refl read))
+          (o_then _ _ rest (judgement_only depth most) lj refl read))
 
   pub steps_sound : (n : ℕ) → depth ≤ most → n ≤ depth → n ≤ most
       → Sound n (many leaf_step (step_tail depth most) most) (SpellsMany leaf_step SpellsStep)

@@ -35,7 +35,7 @@ leaf_term_is place (literal_lexeme text) a e =
 leaf_term_is place (number_lexeme n) a e =
     let h = chosen (nat_le n standard_limits.integer) (literal (int (pos n))) a e in
     subst (λ z. SpellsTerm place z (number_lexeme n ∷ [])) h.1
-    (number_literal n (leb-true n standard_limits.integer h.0))
+        (number_literal n (leb-true n standard_limits.integer h.0))
 leaf_term_is place _ a e = absurd cc
 
 negated_is : (place : Place) (n : ℕ) (a : Term) → negated n ≡ Some a
@@ -55,7 +55,7 @@ operator_sound : (n : ℕ) → Sound n operator_at SpellsOperator
 unfolding operator_at
 operator_sound n =
     s_case (codes "+") (s_ret n sum _ plus_sign) (s_case (codes "-")
-    (s_ret n difference _ minus_sign)
+        (s_ret n difference _ minus_sign)
     (s_case (codes "++") (s_ret n appended _ append_sign)
     (s_fail n sum (terminal (codes "+") ∷ []) _ plus_sign (is_seen (codes "+") refl, tt))))
 
@@ -70,14 +70,9 @@ word_sound : (place : Place) (n : ℕ) (other : Read Term) → Sound (suc n) oth
     → Sound (suc n) (word_at other) (SpellsTerm place)
 unfolding word_at
 word_sound place n other S =
-    s_when n (codes "-") (s_leaf n leaf_negative _ (
-      literal
-          (int (negsuc 0)),
-      number_lexeme 1 ∷ [],
-      negative_literal 0 (omega arith),
-      (number_seen, tt),
-    )
-    (leaf_negative_is place))
+    s_when n (codes "-") (s_leaf n leaf_negative _ (literal
+        (int (negsuc 0)), number_lexeme 1 ∷ [], negative_literal 0 (omega arith), (number_seen, tt))
+        (leaf_negative_is place))
     (s_when n (codes "null") (s_ret n (literal null) _ (constant null_word))
     (s_when n (codes "nolist") (s_ret n (literal nolist) _ (constant nolist_word))
     (s_when n (codes "yes") (s_ret n (literal (boolean true)) _ (constant yes_word))
@@ -90,13 +85,8 @@ term_sound place zero = s_deep _ _ (λ ts. refl) (literal null) (terminal (codes
 term_sound place (suc n) =
     s_when n (codes "{") (operation_sound place n (term_at place n) (term_sound place n))
     (word_sound place n (leaf (leaf_term place))
-    (s_leaf (suc n) (leaf_term place) _ (
-      literal null,
-      terminal
-          (codes "null") ∷ [],
-      constant null_word,
-      (is_seen (codes "null") refl, tt),
-    )
+    (s_leaf (suc n) (leaf_term place) _ (literal null, terminal
+    (codes "null") ∷ [], constant null_word, (is_seen (codes "null") refl, tt))
     (leaf_term_is place)))
 
 -- what is spelled is read
@@ -129,9 +119,9 @@ term_reads place (suc n) a s rest (constant yes_word) = read
 term_reads place (suc n) a s rest (constant no_word) = read
 term_reads place (suc n) a s rest (operation la lo lb) =
     let T : Only (term_at place n) (SpellsTerm place) Prefix_free = record
-    { only = λ a s rest l st. term_reads place n a s rest l } in
+        { only = λ a s rest l st. term_reads place n a s rest l } in
     o_then _ _ rest T la refl (o_then _ _ rest operator_only lo refl
-    (o_then _ _ rest T lb refl read))
+        (o_then _ _ rest T lb refl read))
 
 pub term_only : (place : Place) (n : ℕ) → Only (term_at place n) (SpellsTerm place) Prefix_free
 term_only place n = record { only = λ a s rest l st. term_reads place n a s rest l }

@@ -43,7 +43,7 @@ contents_sound depth most n h k m lf lps lrs ld =
     s_expect (codes "requires") refl _ (s_then _ F λ p t lp.
     s_expect (codes "ensures") refl _ (s_then _ F λ q u lq.
     s_expect (codes "body") refl _ (s_then _ (s_less n depth k (command_sound most depth h)) λ c v
-    lc.
+        lc.
     s_expect (codes "proof") refl _ (s_then _ (steps_sound depth most n h k m) λ xs w lxs.
     s_close n (codes "end") refl _ _ (procedure lf lps lrs ld lp lq lc (steps_of lxs))))))
 
@@ -54,7 +54,7 @@ procedure_sound depth most n h k m =
     s_then _ (name_sound n) λ f l lf. s_then _ (declarations_sound most n m) λ ps a lps.
     s_expect (codes "returns") refl _ (s_then _ (declarations_sound most n m) λ rs b lrs.
     s_expect (codes "sort") refl _ (s_then _ (data_sort_sound n) λ d s ld.
-    contents_sound depth most n h k m lf lps lrs ld))
+        contents_sound depth most n h k m lf lps lrs ld))
 
 procedure_read : (depth most : ℕ) (a : ProcedureOf Named) (s rest : List Lexeme)
     → SpellsProcedure a (terminal (codes "proc") ∷ s) → OrDeep
@@ -128,9 +128,9 @@ procedures_sound : (depth most n : ℕ) → depth ≤ most → n ≤ depth → n
 unfolding procedures_at
 procedures_sound depth most n h k m =
     s_expect (codes "proc") refl _ (s_then _ (procedure_sound depth most n h k m) λ f s lf. s_then _
-    (more_sound depth most n h k m) λ fs t lfs.
+        (more_sound depth most n h k m) λ fs t lfs.
     s_ret n (f ∷ fs) _ (subst (λ z. SpellsProcedures (f ∷ fs) (terminal (codes "proc") ∷ (s ++ z)))
-    (sym (append-nil t)) (procedures_of lf lfs)))
+        (sym (append-nil t)) (procedures_of lf lfs)))
 
 some_read : (depth most : ℕ) (a : List (ProcedureOf Named)) (s rest : List Lexeme) → SpellsSome a s
     → not_begun (the_terminal (codes "proc")) rest ≡ true
@@ -138,14 +138,12 @@ some_read : (depth most : ℕ) (a : List (ProcedureOf Named)) (s rest : List Lex
 unfolding procedures_at
 some_read depth most a s rest (some_procedures {t = t} l ms) st =
     o_then _ t rest (procedure_only depth most) l refl (o_last _ rest
-    (more_only depth most) ms st read)
+        (more_only depth most) ms st read)
 
 procedures_only : (depth most : ℕ) → Only (procedures_at depth most) SpellsProcedures
     (not_begun (the_terminal (codes "proc")))
-procedures_only depth most = record {
-  only = λ a s rest l st. some_read depth most a s rest
-      (some_of l) st;
-}
+procedures_only depth most = record { only = λ a s rest l st. some_read depth most a s rest
+    (some_of l) st }
 
 -- THE LOGIC VARIABLES
 line_sound : (most n : ℕ) → n ≤ most → Sound n (logic_tail most)
@@ -160,7 +158,7 @@ line_read : (most : ℕ) (a : List Var) (s rest : List Lexeme)
 unfolding logic_tail
 line_read most a s rest (logic_line lo ls) =
     o_then _ _ rest sort_only lo refl (o_then _ _ rest (list_only comma
-    (leaf leaf_logic) SpellsLogicName logic_only most) (listed ls) refl read)
+        (leaf leaf_logic) SpellsLogicName logic_only most) (listed ls) refl read)
 
 abbrev Lines : List (List Var) → List Lexeme → Type 0
 Lines = SpellsMany (the_terminal (codes "logic")) SpellsLogicLine
@@ -208,10 +206,10 @@ pub theory_sound : (depth most n : ℕ) → depth ≤ most → n ≤ depth → n
 unfolding theory_at
 theory_sound depth most n h k m =
     s_expect (codes "domlogic") refl _ (s_then _ (number_sound n) λ v s lv. s_then _
-    (lines_sound most n m) λ lines t ll.
+        (lines_sound most n m) λ lines t ll.
     s_then _ (procedures_sound depth most n h k m) λ fs u lfs.
     s_ret n (record { version = v; logic = joined_lines lines; procedures = fs }) _
-    (theory lv (lines_of ll) (ends lfs)))
+        (theory lv (lines_of ll) (ends lfs)))
   where
     ends : {fs : List (ProcedureOf Named)} {s : List Lexeme} → SpellsProcedures fs s
         → SpellsProcedures fs (s ++ [])
@@ -230,7 +228,7 @@ theory_read depth most a s rest (theory {n = n} {fs = fs} {version = v} {lines =
     {procedures = ps} lv ll lfs) st =
     let lines = lines_as_items ll in
     subst (λ z. OrDeep (theory_at depth most ((terminal (codes "domlogic") ∷ (v ++ (ls ++ ps))) ++
-    rest)) (record { version = n; logic = z; procedures = fs }) rest) lines.1
+        rest)) (record { version = n; logic = z; procedures = fs }) rest) lines.1
     (o_then _ (ls ++ ps) rest number_only lv refl
     (o_then _ ps rest (lines_only most) lines.2 (begins_procedures rest (some_of lfs))
     (o_last _ rest (procedures_only depth most) lfs st read)))

@@ -96,7 +96,7 @@ local_at body =
 unfoldable pub call_at : ℕ → Read Term → Read Command
 call_at most term =
     then (bracketed_at (leaf leaf_variable) most) λ xs. expect (codes ":=")
-    (then (leaf leaf_name) λ name.
+        (then (leaf leaf_name) λ name.
     then (bracketed_at term most) λ es. ret (call xs name es))
 
 -- a command that begins with a name or a word for a change of the document

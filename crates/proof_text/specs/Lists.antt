@@ -30,7 +30,7 @@ leaf_value_sort lexeme = None
 abbrev pub data_sort_called : List ℕ → Option DataSort
 data_sort_called word =
     called (codes "t") word tree (called (codes "f") word forest
-    (called (codes "g") word grove None))
+        (called (codes "g") word grove None))
 
 abbrev pub leaf_data_sort : Lexeme → Option DataSort
 leaf_data_sort (name_lexeme word) = data_sort_called word

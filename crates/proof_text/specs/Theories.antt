@@ -52,7 +52,7 @@ declaration_at =
 unfoldable pub arguments_at : ℕ → ℕ → Read (List Term)
 arguments_at depth most =
     when (codes "with") (expect (codes "(") (then (sep_list comma (term_at in_formula depth) most) λ
-    es.
+        es.
     expect (codes ")") (ret es)))
     (ret [])
 

@@ -10,14 +10,14 @@ ghost use Rattle.proof_text.specs.Terms.{term_at};
 ghost use Rattle.proof_text.specs.Operators.{query_of, change_of};
 ghost use Rattle.proof_text.specs.Commands.{cond_at, semicolon, block_rest, block_at, one_at, two_at, setting_at, choice_at, loop_at, local_at, call_at, change_at, command_at};
 
-use crate::bracketed::{terms, variables};
 use crate::conditions::condition;
+use crate::bracketed::{terms, variables};
 use crate::sorts::{value_sort, variable};
 use crate::terms::{Place, term};
+use theory_syntax::{Block, Command};
 use dom_terms::{ProgVar, Term};
 use std::alloc::Global;
 use text_tokens::Token;
-use theory_syntax::{Block, Command};
 use token_readers::{ReadFault, after, expect, name};
 
 /// What is asked of the document.
@@ -50,7 +50,8 @@ fn one<'a>(
     tokens: &'a [Token],
 ) -> Result<(Command, &'a [Token]), ReadFault>
     ensures { Gives (λ y. (command_of y.0, lexemes_in y.1.now)) result
-        (one_at (term_at in_command depth) (query_of query (prog_var_of x)) (lexemes_in tokens.now)) }
+        (one_at (term_at in_command depth) (query_of query (prog_var_of x)) (lexemes_in tokens.now))
+        }
 {
     let rest = expect(tokens, "(")?;
     let (argument, rest) = term(alloc, Place::Command, depth, rest)?;

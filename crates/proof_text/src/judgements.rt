@@ -9,10 +9,10 @@ use crate::commands::command;
 use crate::declarations::shape_sort;
 use crate::formulas::formula;
 use crate::sorts::data_sort;
+use theory_syntax::{Judgement, Triple};
 use formula_syntax::Entailment;
 use std::alloc::Global;
 use text_tokens::Token;
-use theory_syntax::{Judgement, Triple};
 use token_readers::{ReadFault, after, expect};
 
 // What stands behind the word `pre`.

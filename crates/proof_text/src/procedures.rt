@@ -13,10 +13,10 @@ use crate::declarations::declarations;
 use crate::formulas::formula;
 use crate::sorts::data_sort;
 use crate::steps::steps;
+use theory_syntax::{Procedure, Procedures};
 use dom_terms::{DataSort, Text, Vars};
 use std::alloc::Global;
 use text_tokens::Token;
-use theory_syntax::{Procedure, Procedures};
 use token_readers::{ReadFault, after, expect, name};
 
 // What stands before the requires of a procedure.

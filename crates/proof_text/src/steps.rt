@@ -11,10 +11,10 @@ ghost use Rattle.proof_text.specs.Theories.{arguments_at, reason_at, step_tail};
 use crate::bracketed::listed_terms;
 use crate::judgements::judgement;
 use crate::terms::Place;
+use theory_syntax::{Reason, Step, Steps};
 use dom_terms::{Numbers, Terms};
 use std::alloc::Global;
 use text_tokens::Token;
-use theory_syntax::{Reason, Step, Steps};
 use token_readers::{ReadFault, after, expect, number, step_line, word};
 
 // One or more numbers with commas between them.

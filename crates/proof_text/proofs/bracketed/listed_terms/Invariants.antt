@@ -11,5 +11,5 @@ use Rattle.proof_text.proofs.bracketed.listed_terms.Given as goal
 abbrev pub invariant-loop : goal.invariant-loop
 invariant-loop l =
     with_front (map term_of l.found) (sep_list comma (term_at (place_of l.place) l.depth)
-    (4294967295 - l.counter) (lexemes_in l.rest))
+        (4294967295 - l.counter) (lexemes_in l.rest))
     ≡ sep_list comma (term_at (place_of l.place) l.depth) 4294967295 (lexemes_in l.tokens)

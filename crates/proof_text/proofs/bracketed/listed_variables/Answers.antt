@@ -12,23 +12,23 @@ pub returns-in_err-item : goal.returns-in_err-item
 returns-in_err-item c =
     let p = err_from_is_err_and c.from_residual.result c.from_residual.ensures.1 in
     rw (p.1, p.2) (breaks comma (leaf leaf_variable) c.in_err-item.field-0.0
-    (map prog_var_of c.loop.found) 4294967295 c.loop.counter _ _
+        (map prog_var_of c.loop.found) 4294967295 c.loop.counter _ _
     c.loop-test.true c.in_err-item.ensures c.loop.invariant)
 
 pub returns-in-None : goal.returns-in-None
 returns-in-None c =
     let e : map prog_var_of c.push.new.self ≡ map prog_var_of c.loop.found ++ prog_var_of
-    c.in_ok-item.item ∷ [] =
+        c.in_ok-item.item ∷ [] =
     rw c.in_ok-push.ensures.ok (map_push _ c.loop.found c.in_ok-item.item) in
     rw e (is_done comma (leaf leaf_variable) (map prog_var_of c.loop.found) 4294967295
-    c.loop.counter _ _ _ _
+        c.loop.counter _ _ _ _
     c.loop-test.true c.in_ok-item.ensures (sym c.in-None.ensures) c.loop.invariant)
 
 pub loop-preserved : goal.loop-preserved
 loop-preserved c =
     let e : map prog_var_of c.push.new.self ≡ map prog_var_of c.loop.found ++ prog_var_of
-    c.in_ok-item.item ∷ [] =
+        c.in_ok-item.item ∷ [] =
     rw c.in_ok-push.ensures.ok (map_push _ c.loop.found c.in_ok-item.item) in
     rw e (goes_on comma (leaf leaf_variable) (map prog_var_of c.loop.found) 4294967295
-    c.loop.counter _ _ _ _ _
+        c.loop.counter _ _ _ _ _
     c.loop-test.true c.in_ok-item.ensures (sym c.in-Some.ensures) c.loop.invariant)

@@ -10,5 +10,5 @@ use Rattle.proof_text.proofs.bracketed.listed_variables.Given as goal
 abbrev pub invariant-loop : goal.invariant-loop
 invariant-loop l =
     with_front (map prog_var_of l.found) (sep_list comma (leaf leaf_variable)
-    (4294967295 - l.counter) (lexemes_in l.rest))
+        (4294967295 - l.counter) (lexemes_in l.rest))
     ≡ sep_list comma (leaf leaf_variable) 4294967295 (lexemes_in l.tokens)

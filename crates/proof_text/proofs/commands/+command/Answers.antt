@@ -10,23 +10,23 @@ pub commands-returns-in_err-item : goal.commands-returns-in_err-item
 commands-returns-in_err-item t c =
     let p = err_from_is_err_and c.from_residual.result c.from_residual.ensures.1 in
     rw (p.1, p.2) (breaks semicolon (command_at 4294967295 c.args.depth) c.in_err-item.field-0.0
-    (map command_of c.loop.found) 4294967295 c.loop.counter _ _
+        (map command_of c.loop.found) 4294967295 c.loop.counter _ _
     c.loop-test.true c.in_err-item.ensures c.loop.invariant)
 
 pub commands-returns-in-None : goal.commands-returns-in-None
 commands-returns-in-None t c =
     let e : map command_of c.push.new.self ≡ map command_of c.loop.found ++ command_of
-    c.in_ok-item.item ∷ [] =
+        c.in_ok-item.item ∷ [] =
     rw c.in_ok-push.ensures.ok (map_push _ c.loop.found c.in_ok-item.item) in
     rw e (is_done semicolon (command_at 4294967295 c.args.depth)
-    (map command_of c.loop.found) 4294967295 c.loop.counter _ _ _ _
+        (map command_of c.loop.found) 4294967295 c.loop.counter _ _ _ _
     c.loop-test.true c.in_ok-item.ensures (sym c.in-None.ensures) c.loop.invariant)
 
 pub commands-loop-preserved : goal.commands-loop-preserved
 commands-loop-preserved t c =
     let e : map command_of c.push.new.self ≡ map command_of c.loop.found ++ command_of
-    c.in_ok-item.item ∷ [] =
+        c.in_ok-item.item ∷ [] =
     rw c.in_ok-push.ensures.ok (map_push _ c.loop.found c.in_ok-item.item) in
     rw e (goes_on semicolon (command_at 4294967295 c.args.depth)
-    (map command_of c.loop.found) 4294967295 c.loop.counter _ _ _ _ _
+        (map command_of c.loop.found) 4294967295 c.loop.counter _ _ _ _ _
     c.loop-test.true c.in_ok-item.ensures (sym c.in-Some.ensures) c.loop.invariant)

@@ -6,7 +6,7 @@ use Rattle.proof_text.proofs.logics.flat.Given as goal
 abbrev pub invariant-lines : goal.invariant-lines
 invariant-lines l =
     map logic_var_of l.all ++ joined_lines (map (map logic_var_of) l.rest)
-    ≡ joined_lines (map (map logic_var_of) l.lines)
+        ≡ joined_lines (map (map logic_var_of) l.lines)
 
 abbrev pub decreases-lines : goal.decreases-lines
 decreases-lines l = length l.rest

@@ -34,28 +34,28 @@ unfolding behind
 returns-in_err-item-in-Some c =
     let p = err_from_is_err_and c.from_residual.result c.from_residual.ensures.1 in
     rw (p.1, p.2) (many_breaks (the_terminal (codes "logic"))
-    (λ x. logic_tail 4294967295) c.in_err-item-in-Some.field-0.0
-    (map (map logic_var_of) c.loop.found) 4294967295 c.loop.counter _ true _ _
+        (λ x. logic_tail 4294967295) c.in_err-item-in-Some.field-0.0
+        (map (map logic_var_of) c.loop.found) 4294967295 c.loop.counter _ true _ _
     c.loop-test.true (first_after (codes "logic") (lexemes_in c.loop.rest.now)
-    (Some (lexemes_in c.in-Some.behind.now)) c.in-Some.ensures) c.in_err-item-in-Some.ensures
-    c.loop.invariant)
+        (Some (lexemes_in c.in-Some.behind.now)) c.in-Some.ensures) c.in_err-item-in-Some.ensures
+        c.loop.invariant)
 
 pub returns-in-None : goal.returns-in-None
 unfolding behind
 returns-in-None c =
     many_done (the_terminal (codes "logic")) (λ x. logic_tail 4294967295)
-    (map (map logic_var_of) c.loop.found) 4294967295 c.loop.counter _ _
+        (map (map logic_var_of) c.loop.found) 4294967295 c.loop.counter _ _
     c.loop-test.true (first_after (codes "logic") (lexemes_in c.loop.rest.now) None
-    c.in-None.ensures) c.loop.invariant
+        c.in-None.ensures) c.loop.invariant
 
 pub loop-preserved : goal.loop-preserved
 unfolding behind
 loop-preserved c =
     let e : map (map logic_var_of) c.push.new.self ≡ map
-    (map logic_var_of) c.loop.found ++ map logic_var_of c.in_ok-item-in-Some.item ∷ [] =
+        (map logic_var_of) c.loop.found ++ map logic_var_of c.in_ok-item-in-Some.item ∷ [] =
     rw c.in_ok-push-in-Some.ensures.ok (map_push _ c.loop.found c.in_ok-item-in-Some.item) in
     rw e (many_goes_on (the_terminal (codes "logic")) (λ x. logic_tail 4294967295)
-    (map (map logic_var_of) c.loop.found) 4294967295 c.loop.counter _ true _ _ _ _
+        (map (map logic_var_of) c.loop.found) 4294967295 c.loop.counter _ true _ _ _ _
     c.loop-test.true (first_after (codes "logic") (lexemes_in c.loop.rest.now)
-    (Some (lexemes_in c.in-Some.behind.now)) c.in-Some.ensures) c.in_ok-item-in-Some.ensures
-    c.loop.invariant)
+        (Some (lexemes_in c.in-Some.behind.now)) c.in-Some.ensures) c.in_ok-item-in-Some.ensures
+        c.loop.invariant)

@@ -9,5 +9,5 @@ use Rattle.proof_text.proofs.logics.names.Given as goal
 abbrev pub invariant-loop : goal.invariant-loop
 invariant-loop l =
     with_front l.found (sep_list comma (leaf leaf_logic) (4294967295 - l.counter)
-    (lexemes_in l.rest))
+        (lexemes_in l.rest))
     ≡ sep_list comma (leaf leaf_logic) 4294967295 (lexemes_in l.tokens)

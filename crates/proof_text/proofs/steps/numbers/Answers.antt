@@ -10,7 +10,7 @@ pub returns-in_err-item : goal.returns-in_err-item
 returns-in_err-item c =
     let p = err_from_is_err_and c.from_residual.result c.from_residual.ensures.1 in
     rw (p.1, p.2) (breaks comma (leaf leaf_number) c.in_err-item.field-0.0 c.loop.found 4294967295
-    c.loop.counter _ _ c.loop-test.true c.in_err-item.ensures c.loop.invariant)
+        c.loop.counter _ _ c.loop-test.true c.in_err-item.ensures c.loop.invariant)
 
 pub returns-in-None : goal.returns-in-None
 returns-in-None c =

@@ -8,5 +8,5 @@ use Rattle.proof_text.proofs.steps.numbers.Given as goal
 abbrev pub invariant-loop : goal.invariant-loop
 invariant-loop l =
     with_front l.found (sep_list comma (leaf leaf_number) (4294967295 - l.counter)
-    (lexemes_in l.rest))
+        (lexemes_in l.rest))
     ≡ sep_list comma (leaf leaf_number) 4294967295 (lexemes_in l.tokens)

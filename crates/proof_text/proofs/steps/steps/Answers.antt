@@ -11,20 +11,20 @@ pub returns-in_err-item-in-Some : goal.returns-in_err-item-in-Some
 returns-in_err-item-in-Some c =
     let p = err_from_is_err_and c.from_residual.result c.from_residual.ensures.1 in
     rw (p.1, p.2) (many_breaks leaf_step (step_tail c.args.depth 4294967295)
-    c.in_err-item-in-Some.field-0.0 (map step_of c.loop.found) 4294967295 c.loop.counter _ _ _ _
+        c.in_err-item-in-Some.field-0.0 (map step_of c.loop.found) 4294967295 c.loop.counter _ _ _ _
     c.loop-test.true (sym c.in-Some.ensures) c.in_err-item-in-Some.ensures c.loop.invariant)
 
 pub returns-in-None : goal.returns-in-None
 returns-in-None c =
     many_done leaf_step (step_tail c.args.depth 4294967295)
-    (map step_of c.loop.found) 4294967295 c.loop.counter _ _ c.loop-test.true
-    (sym c.in-None.ensures) c.loop.invariant
+        (map step_of c.loop.found) 4294967295 c.loop.counter _ _ c.loop-test.true
+        (sym c.in-None.ensures) c.loop.invariant
 
 pub loop-preserved : goal.loop-preserved
 loop-preserved c =
     let e : map step_of c.push.new.self ≡ map step_of c.loop.found ++ step_of
-    c.in_ok-item-in-Some.item ∷ [] =
+        c.in_ok-item-in-Some.item ∷ [] =
     rw c.in_ok-push-in-Some.ensures.ok (map_push _ c.loop.found c.in_ok-item-in-Some.item) in
     rw e (many_goes_on leaf_step (step_tail c.args.depth 4294967295)
-    (map step_of c.loop.found) 4294967295 c.loop.counter _ _ _ _ _ _
+        (map step_of c.loop.found) 4294967295 c.loop.counter _ _ _ _ _ _
     c.loop-test.true (sym c.in-Some.ensures) c.in_ok-item-in-Some.ensures c.loop.invariant)

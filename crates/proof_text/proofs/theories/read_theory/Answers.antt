@@ -1,3 +1,4 @@
+use Rattle.std.proofs.Common.{sym}
 use Rattle.std.proofs.lemmas.List.{length-map}
 use Rattle.token_readers.specs.Leaves.{seen}
 use Rattle.proof_text.proofs.Exact.{found, within, none, fault_token}
