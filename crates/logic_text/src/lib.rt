@@ -20,4 +20,4 @@ pub use raw_groves::{RawForest, RawGrove, RawTree};
 pub use reading::{MOST_DEPTH, one_grove, read_grove};
 pub use terms::push_term;
 pub use tokens::{push_numeral, push_quoted, push_token, without_space};
-pub use writing::{write_grove, write_literal};
+pub use writing::{push_str, write_grove, write_literal};

@@ -10,3 +10,4 @@ pub mod TheoryReader
 pub mod Exact
 pub mod MarkLemmas
 pub mod ConditionSizes
+pub mod LineLemmas

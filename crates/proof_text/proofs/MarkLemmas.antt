@@ -108,7 +108,7 @@ seen command form e = ap command_of e ∙ fold-roll-Command commands.Command com
 
 -- ---- a call
 
-fused : {A B C : Type 0} (f : B → C) (g : A → B) (xs : List A)
+pub fused : {A B C : Type 0} (f : B → C) (g : A → B) (xs : List A)
     → map (λ x. f (g x)) xs ≡ map f (map g xs)
 fused f g [] = refl
 fused {C = C} f g (x ∷ xs) = ap (λ (z : List C). f (g x) ∷ z) (fused f g xs)

@@ -11,6 +11,7 @@ mod connectives;
 mod declarations;
 mod formulas;
 mod judgements;
+mod lines;
 mod logics;
 mod names;
 mod procedures;
@@ -21,5 +22,6 @@ mod theories;
 mod writing;
 mod written;
 
+pub use lines::write_theory;
 pub use theories::{MOST_DEPTH, one_theory, read_theory};
 pub use writing::{push_command, write_command};

@@ -71,8 +71,8 @@ fn push_condition(alloc: Global, text: &mut Text, cond: &Cond) -> Result<(), Out
     }
 }
 
-// Puts the word for the sort at the end.
-fn push_value_sort(alloc: Global, text: &mut Text, sort: ValueSort) -> Result<(), OutOfMemory>
+/// Puts the word for the sort at the end.
+pub fn push_value_sort(alloc: Global, text: &mut Text, sort: ValueSort) -> Result<(), OutOfMemory>
     ensures { OnOk result
         (text.new ≡ text.old ++ spaced (value_sort_lexemes (value_sort_of sort))) }
 {
