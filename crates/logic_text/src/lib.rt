@@ -1,7 +1,7 @@
 //! Groves from tokens and back to text; formulas and their terms as text. Promises that a list of
-//! tokens is read as the grove that it spells by the grammar of documents, and refused exactly where
-//! it spells none; that the first number out of range is told; and that groves, terms and formulas
-//! are printed byte by byte as their definitions say.
+//! tokens is read as the grove that it spells by the grammar of documents, and refused exactly
+//! where it spells none; that the first number out of range is told; and that groves, terms and
+//! formulas are printed byte by byte as their definitions say.
 //! Stands on the readers of tokens, the trees and formulas of the program and the definitions of
 //! documents and of the grammar.
 #![tactic(auto)]

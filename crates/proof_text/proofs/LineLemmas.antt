@@ -1,13 +1,12 @@
 -- Lines and words of theories.
-use Rattle.std.proofs.Common.{◌≡◌, ℕ, ◌+◌, ◌<◌, Bool, true, false, List, [], ◌∷◌, ◌++◌, length, get_or, drop, map, codes, refl, sym, ap, ◌∙◌, append_assoc, append-nil}
+use Rattle.std.proofs.Common.{◌≡◌, ℕ, ◌+◌, ◌<◌, Bool, true, false, List, [], ◌∷◌, ◌++◌, length, get_or, drop, map, codes, refl, sym, ap, ◌∙◌, append_assoc}
 use Rattle.std.specs.Prelude.{bytes_eq, if◌then◌else◌}
 use Rattle.model_terms.specs.Terms as terms
 use Rattle.model_commands.specs.Theories as theories
-use Rattle.model_formulas.specs.Formulas.{Named}
 use Rattle.model_text.specs.Tokens.{newline}
 use Rattle.model_text.specs.Lexemes.{Lexeme, terminal, step_word, name_lexeme, word_lexeme, is_reserved}
 use Rattle.model_grammar.specs.Words.{the, ◌⌢◌}
-use Rattle.model_grammar.specs.Writing.{printed, spaced, text_of, text_of_lines, in_brackets, term_lexemes, number_lexemes, argument_lexemes, reason_lexemes, procedure_lines, procedures_lines, step_line, logic_line, theory_text, theory_lines, declaration_lexemes}
+use Rattle.model_grammar.specs.Writing.{printed, spaced, text_of, text_of_lines, in_brackets, term_lexemes, number_lexemes, argument_lexemes, reason_lexemes, procedure_lines, procedures_lines, step_line, logic_line, theory_text, declaration_lexemes}
 use Rattle.model_grammar.proofs.Spaced.{spaced_rules}
 use Rattle.logic_text.proofs.ListLemmas.{drop_item}
 use Rattle.dom_terms.specs.declared.terms.Term.{Term}
@@ -19,7 +18,7 @@ use Rattle.theory_syntax.specs.declared.theories.Procedure.{Procedure}
 use Rattle.theory_syntax.specs.declared.theories.Theory.{Theory}
 use Rattle.theory_syntax.specs.Judgements.{step_of}
 use Rattle.theory_syntax.specs.Theories.{procedure_of, theory_of}
-use Rattle.proof_text.specs.Marked.{joined_texts, line_text, header_line}
+use Rattle.proof_text.specs.Marked.{joined_texts, line_text}
 use Rattle.proof_text.proofs.MarkLemmas.{fused}
 
 -- a turn of a loop

@@ -1,5 +1,5 @@
--- Needn't be believed: parts of which each stands behind a mark, and lines. The definition of what is printed
--- says how lists and blocks are written, and a lemma that it is so.
+-- Needn't be believed: parts of which each stands behind a mark, and lines. The definition of what
+-- is printed says how lists, blocks and theories are written, and lemmas that it is so.
 use Rattle.std.specs.Prelude.{ℕ, List, [], ◌∷◌, ◌++◌, map}
 use Rattle.model_text.specs.Tokens.{newline}
 use Rattle.model_text.specs.Lexemes.{Lexeme, terminal, name_lexeme}

@@ -1,7 +1,9 @@
-//! Theories from tokens. Promises that a list of tokens is read as the theory that it spells by the
-//! grammar, each variable with the sort of its declaration, and refused exactly where it spells
-//! none, at the fault token.
-//! Stands on the readers of tokens, the types of theories, the walk that sets sorts and the grammar.
+//! Theories from tokens and back to text; commands as text. Promises that a list of tokens is read
+//! as the theory that it spells by the grammar, each variable with the sort of its declaration, and
+//! refused exactly where it spells none, at the fault token; and that theories and commands are
+//! printed byte by byte as their definitions say.
+//! Stands on the readers of tokens, the types of theories, the writers of formulas, the walk that
+//! sets sorts and the grammar.
 #![tactic(auto)]
 
 mod bracketed;

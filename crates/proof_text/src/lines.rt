@@ -139,11 +139,7 @@ fn push_triple(alloc: Global, text: &mut Text, triple: &Triple) -> Result<(), Ou
 }
 
 // Puts what a step says at the end.
-fn push_judgement(
-    alloc: Global,
-    text: &mut Text,
-    judgement: &Judgement,
-) -> Result<(), OutOfMemory>
+fn push_judgement(alloc: Global, text: &mut Text, judgement: &Judgement) -> Result<(), OutOfMemory>
     ensures { OnOk result
         (text.new ≡ text.old ++ spaced (judgement_lexemes (judgement_of judgement.now))) }
 {

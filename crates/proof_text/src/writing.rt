@@ -6,7 +6,8 @@ ghost use Rattle.model_text.specs.Lexemes.{terminal};
 ghost use Rattle.model_grammar.specs.Words.{the, ◌⌢◌};
 ghost use Rattle.model_grammar.specs.Writing.{spaced, text_of, bracketed, term_lexemes};
 ghost use Rattle.model_grammar.specs.Writing.{cond_lexemes, command_lexemes, block_lexemes};
-ghost use Rattle.model_grammar.specs.Writing.{name_lexemes, value_sort_lexemes, set_to, in_brackets};
+ghost use Rattle.model_grammar.specs.Writing.{name_lexemes, value_sort_lexemes, set_to};
+ghost use Rattle.model_grammar.specs.Writing.{in_brackets};
 ghost use Rattle.dom_terms.specs.Sorts.{value_sort_of};
 ghost use Rattle.dom_terms.specs.Terms.{prog_var_of, term_of};
 ghost use Rattle.dom_terms.specs.Conditions.{cond_of};
@@ -140,7 +141,8 @@ fn push_on_two(
     second: &Term,
 ) -> Result<(), OutOfMemory>
     ensures { OnOk result (text.new ≡ text.old ++ spaced (terminal word.now ∷ []
-        ⌢ in_brackets (term_lexemes (term_of first.now) ∷ term_lexemes (term_of second.now) ∷ []))) }
+        ⌢ in_brackets (term_lexemes (term_of first.now)
+        ∷ term_lexemes (term_of second.now) ∷ []))) }
 {
     push_token(alloc, text, word)?;
     push_token(alloc, text, "(")?;

@@ -1,4 +1,3 @@
-use Rattle.std.proofs.Common.{◌≡◌}
 use Rattle.proof_text.proofs.LineLemmas.{goes_on}
 use Rattle.proof_text.proofs.lines.push_each.Goals as goal
 

@@ -1,4 +1,4 @@
-use Rattle.std.proofs.Common.{◌≡◌, map}
+use Rattle.std.proofs.Common.{map}
 use Rattle.dom_terms.specs.Terms.{term_of}
 use Rattle.proof_text.proofs.LineLemmas.{reason_text}
 use Rattle.proof_text.proofs.lines.push_reason.Goals as goal

@@ -1,4 +1,3 @@
-use Rattle.std.proofs.Common.{◌≡◌}
 use Rattle.proof_text.proofs.LineLemmas.{whole_text}
 use Rattle.proof_text.proofs.lines.write_theory.Goals as goal
 

@@ -1,4 +1,4 @@
-use Rattle.std.proofs.Common.{◌≡◌, ◌∷◌, codes}
+use Rattle.std.proofs.Common.{◌∷◌, codes}
 use Rattle.model_text.specs.Lexemes.{terminal}
 use Rattle.model_grammar.specs.Writing.{formula_lexemes, command_lexemes}
 use Rattle.theory_syntax.specs.Theories.{procedure_of}
