@@ -8,8 +8,3 @@ pub no_space : (s : List Lexeme) (text made : List ℕ) → ((rest : List ℕ) �
     → made ≡ [] → text ≡ spaced s → made ≡ text_of s
 no_space [] text made none m e = m
 no_space (first ∷ s) text made none m e = absurd (none _ e)
-
-pub behind_space : (s : List Lexeme) (text made : List ℕ) → text ≡ 32 ∷ made → text ≡ spaced s
-    → made ≡ text_of s
-behind_space [] text made found e = cc
-behind_space (first ∷ s) text made found e = cc
