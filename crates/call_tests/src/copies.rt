@@ -4,7 +4,6 @@ use crate::groves::{document, leaf};
 use crate::terms::integer;
 use context_apply::{Piece, cut_at};
 use dom_meaning::{Config, Pending, Pieces};
-use theory_syntax::{Command, Judgement};
 use dom_terms::{Cond, Copied, DataSort, List, Sort, Store, Text, Value};
 use formula_syntax::{AnyVar, Entailment, Formula, Pair};
 use logic_text::read_grove;
@@ -14,6 +13,7 @@ use std::fmt::Debug;
 use std::process::Abort;
 use std::test::Fail;
 use text_tokens::token_list;
+use theory_syntax::{Command, Judgement};
 
 // Checks that a copy of the value prints as the value does.
 fn check_copy<T: Copied + Debug>(rt: &impl Abort, alloc: Global, value: &T) -> Result<(), Fail> {

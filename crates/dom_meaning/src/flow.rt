@@ -302,6 +302,9 @@ fn with_results(
         unreachable!();
     };
     let mut store = with_results(alloc, results, variables, callee, caller)?;
-    store.set(variable.copy(alloc)?, value_or_default(alloc, result, callee)?)?;
+    store.set(
+        variable.copy(alloc)?,
+        value_or_default(alloc, result, callee)?,
+    )?;
     Ok(store)
 }

@@ -11,11 +11,11 @@ use crate::checks::check_bytes;
 use crate::replies::{Refusal, Reply, bad_text, reported};
 use crate::runs::{Opened, open_file, run_document};
 use crate::status::Status;
-use theory_syntax::Theory;
 use dom_terms::{Text, Texts};
 use fault_report::Report;
 use outside_io::{Library, ReadAllFault, read_all};
 use std::alloc::Global;
+use theory_syntax::Theory;
 
 // The bytes of a book, or none where it has more than a file may have.
 fn read_book<L: Library>(

@@ -4,10 +4,10 @@ ghost use Rattle.theory_syntax.specs.Theories.{procedure_of, theory_of};
 ghost use Rattle.model_answers.specs.Arguments.{called, procedure_called};
 ghost use Rattle.domcheck_core.specs.Calls.{IsPlaceOf, IsCallOf};
 
-use theory_syntax::{Procedure, Theory};
 use dom_terms::{OutOfMemory, Text, Texts, Values};
 use request_words::read_arguments;
 use std::alloc::Global;
+use theory_syntax::{Procedure, Theory};
 
 /// A procedure of a theory with the values of its parameters.
 #[derive(Drop)]

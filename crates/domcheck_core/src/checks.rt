@@ -8,11 +8,11 @@ ghost use Rattle.domcheck_core.specs.Clauses.{IsProved};
 use crate::file::read_file;
 use crate::replies::{Reply, accepted, bad_text, reported};
 use crate::status::Status;
-use theory_syntax::Theory;
 use dom_terms::OutOfMemory;
 use fault_report::Report;
 use hoare_kernel::is_accepted;
 use std::alloc::Global;
+use theory_syntax::Theory;
 
 // The answer on the theory that a file spells.
 fn judge(alloc: Global, theory: &Theory) -> Result<Reply, OutOfMemory>

@@ -5,12 +5,12 @@ ghost use Rattle.model_grammar.specs.Files.{SpellsFile};
 ghost use Rattle.domcheck_core.specs.Answers.{Unreadable};
 
 use crate::form::is_of_form;
-use theory_syntax::Theory;
 use dom_terms::{OutOfMemory, limits};
 use outside_io::MOST_BYTES;
 use proof_text::read_theory;
 use std::alloc::Global;
 use text_tokens::{token_limit, token_list};
+use theory_syntax::Theory;
 use token_readers::TextFault;
 
 /// The theory that the bytes spell, or none where they spell none of the form that is read.

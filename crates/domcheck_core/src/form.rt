@@ -5,11 +5,11 @@ ghost use Rattle.model_files.specs.Sizes.{TheoryIsSmall};
 ghost use Rattle.model_grammar.specs.Files as files;
 
 use crate::limits::count_steps;
-use theory_syntax::Theory;
-use dom_terms::OutOfMemory;
 use dom_syntax::variables_within;
+use dom_terms::OutOfMemory;
 use first_form::is_of_first_form;
 use std::alloc::Global;
+use theory_syntax::Theory;
 
 /// Whether the theory is of the form that is read: well formed, of the parts of the first form, and
 /// within the limits.

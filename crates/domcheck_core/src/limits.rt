@@ -3,8 +3,8 @@ ghost use Rattle.std.specs.Prelude.{◌≡◌, ◌<◌, ◌≤◌, MatchOption, 
 ghost use Rattle.theory_syntax.specs.Theories.{procedure_of};
 ghost use Rattle.model_files.specs.FileLimits as files;
 
-use theory_syntax::Procedure;
 use dom_terms::limits::PROOF_STEPS;
+use theory_syntax::Procedure;
 
 /// The number of steps of all proofs, or none where it passes the limit.
 pub fn count_steps(procedures: &[Procedure]) -> Option<usize>

@@ -8,10 +8,10 @@ ghost use Rattle.domcheck_core.specs.declared.replies.Refusal.TheVariants.{OutOf
 
 use crate::limits::count_steps;
 use crate::status::Status;
-use theory_syntax::Theory;
 use dom_terms::{OutOfMemory, Text};
 use fault_report::{Report, status_line};
 use std::alloc::{AllocError, Global};
+use theory_syntax::Theory;
 
 /// An answer with the output that is written.
 #[derive(Drop)]

@@ -19,12 +19,12 @@ use crate::groves::{Unfit, fit_grove};
 use crate::replies::{Reply, bad_text, reported};
 use crate::status::Status;
 use dom_meaning::{Outcome, run_plain, start};
-use theory_syntax::Theory;
 use dom_terms::{OutOfMemory, ProgVar, Text, Texts, Values};
 use fault_report::{Report, ended_text};
 use grove_data::{Grove, sort_roots};
 use logic_text::RawGrove;
 use std::alloc::Global;
+use theory_syntax::Theory;
 
 /// What the bytes of a file come to before the document is read.
 #[derive(Drop)]

@@ -4,3 +4,5 @@ pub mod ListLemmas
 pub mod RangeLemmas
 pub mod EscapeLemmas
 pub mod MarkLemmas
+pub mod SpaceLemmas
+pub mod TermSizes

@@ -39,8 +39,8 @@ fn push_escaped(text: &mut Text, character: char) -> Result<(), OutOfMemory>
     }
 }
 
-// Puts the literal that stands for the other text at the end.
-fn push_literal(text: &mut Text, other: &Text) -> Result<(), OutOfMemory>
+/// Puts the literal that stands for the other text at the end.
+pub fn push_literal(text: &mut Text, other: &Text) -> Result<(), OutOfMemory>
     ensures { OnOk result (text.new ≡ text.old ++ quoted other.now) }
 {
     text.push('"')?;
@@ -60,8 +60,8 @@ pub fn write_literal(alloc: Global, text: &Text) -> Result<Text, OutOfMemory>
     Ok(literal)
 }
 
-// Puts the characters at the end.
-fn push_str(alloc: Global, text: &mut Text, characters: &str) -> Result<(), OutOfMemory>
+/// Puts the characters at the end.
+pub fn push_str(alloc: Global, text: &mut Text, characters: &str) -> Result<(), OutOfMemory>
     ensures { OnOk result (text.new ≡ text.old ++ characters.now) }
 {
     let other = Text::from_str(alloc, characters)?;

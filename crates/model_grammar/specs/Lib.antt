@@ -6,3 +6,4 @@ pub mod Formulas
 pub mod Commands
 pub mod Sorts
 pub mod Theories
+pub mod Writing

@@ -8,3 +8,6 @@ pub mod SortReader
 pub mod StepReader
 pub mod TheoryReader
 pub mod Exact
+pub mod MarkLemmas
+pub mod ConditionSizes
+pub mod LineLemmas

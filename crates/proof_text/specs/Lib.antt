@@ -5,3 +5,4 @@ pub mod Formulas
 pub mod Lists
 pub mod Commands
 pub mod Theories
+pub mod Marked

@@ -1,7 +1,9 @@
-//! Theories from tokens. Promises that a list of tokens is read as the theory that it spells by the
-//! grammar, each variable with the sort of its declaration, and refused exactly where it spells
-//! none, at the fault token.
-//! Stands on the readers of tokens, the types of theories, the grammar and what sets sorts.
+//! Theories from tokens and back to text; commands as text. Promises that a list of tokens is read
+//! as the theory that it spells by the grammar, each variable with the sort of its declaration, and
+//! refused exactly where it spells none, at the fault token; and that theories and commands are
+//! printed byte by byte as their definitions say.
+//! Stands on the readers of tokens, the types of theories, the writers of formulas, the walk that
+//! sets sorts and the grammar.
 #![tactic(auto)]
 
 mod bracketed;
@@ -11,6 +13,7 @@ mod connectives;
 mod declarations;
 mod formulas;
 mod judgements;
+mod lines;
 mod logics;
 mod names;
 mod procedures;
@@ -18,5 +21,9 @@ mod sorts;
 mod steps;
 mod terms;
 mod theories;
+mod writing;
+mod written;
 
+pub use lines::write_theory;
 pub use theories::{MOST_DEPTH, one_theory, read_theory};
+pub use writing::{push_command, write_command};

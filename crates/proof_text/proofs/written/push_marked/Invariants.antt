@@ -1,0 +1,14 @@
+use Rattle.std.proofs.Common.{◌≡◌, ◌++◌, codes, drop, map}
+use denote.Shadow.{shadow}
+use denote.Text.{Utf8}
+use Rattle.model_grammar.specs.Writing.{spaced}
+use Rattle.proof_text.specs.Marked.{marked}
+use Rattle.proof_text.proofs.written.push_marked.Given as goal
+
+-- with the items that are left, all of them
+abbrev pub invariant-loop-item : goal.invariant-loop-item
+invariant-loop-item g l =
+    (l.text
+    ++ spaced (marked l.mark (codes ",") (map g.T.Written.lexemes (drop l.item-index l.items)))
+    ≡ l.fn.text ++ spaced (marked l.first_mark (codes ",") (map g.T.Written.lexemes l.items)))
+    × shadow (Utf8 l.mark)
