@@ -73,7 +73,8 @@ module _ (theory : Theory) where
         (first_fault_at (steps_from theory number f (at + 1) (map step_of (drop (i + 1) xs))))
     steps-here =
         (λ j. first_fault_at (steps_from theory number f at (cut-steps j)))
-        ∙ fault-or (record { procedure = number; step = at; passes = proof_step theory f at (step_of x) })
+        ∙ fault-or
+            (record { procedure = number; step = at; passes = proof_step theory f at (step_of x) })
         (step_kind theory f at (step_of x))
         (first_fault_at (steps_from theory number f (at + 1) (map step_of (drop (i + 1) xs))))
 
@@ -108,7 +109,8 @@ module _ (theory : Theory) where
         (map procedure_of (drop (i + 1) xs)))
 
     pub small-procedures : ProceduresAreSmall (map procedure_of (drop i xs))
-        → ProcedureIsSmall (procedure_of x) × ProceduresAreSmall (map procedure_of (drop (i + 1) xs))
+        → ProcedureIsSmall (procedure_of x)
+        × ProceduresAreSmall (map procedure_of (drop (i + 1) xs))
     small-procedures h = subst ProceduresAreSmall cut-procedures h
 
     pub count-procedures : step_count (map procedure_of (drop i xs))
@@ -145,7 +147,8 @@ pub new-name : (table : Table Unit) (earlier : List (ProcedureOf Named)) → IsE
 new-name table earlier h name =
     none-seen (found table name) ∙ (λ j. not (is_some (h.1.first name j))) ∙ ap not (h.2 name)
 
-some-or : (o : Option Unit) (b : Bool) → is_some (or_else o (cond b (Some tt) None)) ≡ (b || is_some o)
+some-or : (o : Option Unit) (b : Bool)
+    → is_some (or_else o (cond b (Some tt) None)) ≡ (b || is_some o)
 some-or None true = refl
 some-or None false = refl
 some-or (Some u) true = refl
@@ -176,7 +179,8 @@ module _ (theory : Theory) where
   -- a step at fault, and one that is none
   module _ (number : ℕ) (f : ProcedureOf Named) (place : ℕ) (xs : List Step) (i : ℕ) (x : Step)
       (lt : i < length xs) (is : x ≡ get_or xs i x) (whole : Option FileFault)
-      (h : whole ≡ first_fault_at (steps_from theory number f place (map step_of (drop i xs)))) where
+      (h : whole
+      ≡ first_fault_at (steps_from theory number f place (map step_of (drop i xs)))) where
     pub step-bad : (e : ProgramFault)
         → FaultReports e (step_fault number place (step_kind theory f place (step_of x)))
         → FaultReports e whole
@@ -195,11 +199,13 @@ module _ (theory : Theory) where
 
   -- a header at fault, and one that is none
   module _ (earlier : List (ProcedureOf Named)) (number : ℕ) (f : ProcedureOf Named) where
-    pub head-bad : (e : ProgramFault) → FaultReports e (step_fault number 0 (head_kind theory earlier f))
+    pub head-bad : (e : ProgramFault)
+        → FaultReports e (step_fault number 0 (head_kind theory earlier f))
         → FaultReports e (first_fault_at (places_of theory earlier number f))
     head-bad e r =
         subst (FaultReports e)
-        (sym (place-first (record { procedure = number; step = 0; passes = header theory earlier f })
+        (sym (place-first
+        (record { procedure = number; step = 0; passes = header theory earlier f })
         (steps_from theory number f 1 f.proof)))
         (fault-first e (step_fault number 0 (head_kind theory earlier f))
         (first_fault_at (steps_from theory number f 1 f.proof)) r)
@@ -210,7 +216,8 @@ module _ (theory : Theory) where
         → Reports r (first_fault_at (places_of theory earlier number f))
     head-fine r none k =
         subst (λ o. Reports r o)
-        (sym (place-first (record { procedure = number; step = 0; passes = header theory earlier f })
+        (sym (place-first
+        (record { procedure = number; step = 0; passes = header theory earlier f })
         (steps_from theory number f 1 f.proof)
         ∙ (λ j. or_else (none j) (first_fault_at (steps_from theory number f 1 f.proof))))) k
 

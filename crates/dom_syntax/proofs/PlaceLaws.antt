@@ -30,7 +30,8 @@ variables-distinct : (scope : Scope) → IsScope scope
     → not scope.variables.repeats
     ≡ distinct_by share_name (map as_var (declared_by (procedure_in scope)))
 variables-distinct scope is =
-    ap not is.variables.repeats ∙ twice-denied _ ∙ distinct-entries (declared_by (procedure_in scope))
+    ap not is.variables.repeats ∙ twice-denied _
+        ∙ distinct-entries (declared_by (procedure_in scope))
 
 -- its name is new
 name-new : (b : Bool) (f : ProcedureOf Named)

@@ -99,7 +99,8 @@ module _ (name : List ℕ) (s : Sort) where
 pub first-procedure : (fs : List Procedure) (name : List ℕ)
     → first_of (map procedure_entry fs) name ≡ procedure_named name fs
 first-procedure [] name = refl
-first-procedure (f ∷ fs) name = λ j. cond (bytes_eq name f.name) (Some f) (first-procedure fs name j)
+first-procedure (f ∷ fs) name =
+    λ j. cond (bytes_eq name f.name) (Some f) (first-procedure fs name j)
 
 -- VARIABLES THAT MAY STAND
 pub only-among-all : (allowed : List ProgVar) (xs : List Var)

@@ -33,7 +33,8 @@ module _ {W : Type 0} where
       → first_of (ds ++ es) name ≡ or_else (first_of ds name) (first_of es name)
   first-append [] es name = refl
   first-append (d ∷ ds) es name =
-      first-step (bytes_eq name d.0) (first_of ds name) (first_of es name) (first_of (ds ++ es) name)
+      first-step (bytes_eq name d.0) (first_of ds name) (first_of es name)
+          (first_of (ds ++ es) name)
       d.1 (first-append ds es name)
 
   arranged : (a b c : Bool) (o : Option W) (w : W)
@@ -71,7 +72,8 @@ module _ {V W : Type 0} (seen : V → W) where
   not-none None e b = absurd (cc)
 
   -- NAMES THAT ARE THERE
-  module _ (table : Table V) (name : List ℕ) (w : W) (there : is_some (found table name) ≡ true) where
+  module _ (table : Table V) (name : List ℕ) (w : W)
+      (there : is_some (found table name) ≡ true) where
     again-at : (q : List ℕ) (b : Bool) → bytes_eq q name ≡ b
         → option_map seen (found table q)
         ≡ or_else (option_map seen (found table q)) (cond b (Some w) None)

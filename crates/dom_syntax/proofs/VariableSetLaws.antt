@@ -38,7 +38,8 @@ among-names (named other u ∷ xs) name s =
   where
     by_sort : (a b c : Bool) → a ≡ bytes_eq name other
         → c ≡ is_some (first_of (names_of s xs) name)
-        → ((a && b) || c) ≡ is_some (first_of (cond b ((other, tt) ∷ names_of s xs) (names_of s xs)) name)
+        → ((a && b) || c)
+        ≡ is_some (first_of (cond b ((other, tt) ∷ names_of s xs) (names_of s xs)) name)
     by_sort true true c e f = λ j. is_some (cond (e j) (Some tt) (first_of (names_of s xs) name))
     by_sort false true c e f =
         f ∙ (λ j. is_some (cond (e j) (Some tt) (first_of (names_of s xs) name)))

@@ -12,8 +12,8 @@ use Rattle.domcheck_core.proofs.Spelling.{same_lexemes}
 
 module _ (most : ℕ) (bytes : List ℕ) (ts : List Token) (named : Option own.LimitKind) where
   -- what is named is the limit that a token of the bytes passes
-  of_bytes : NamesLimit named (token_limit most 0 (lexemes_in ts)) → map token_of ts ≡ tokens_of bytes
-      → NamesLimit named (token_limit most 0 (lexemes_of bytes))
+  of_bytes : NamesLimit named (token_limit most 0 (lexemes_in ts))
+      → map token_of ts ≡ tokens_of bytes → NamesLimit named (token_limit most 0 (lexemes_of bytes))
   of_bytes h e = subst (λ z. NamesLimit named (token_limit most 0 z)) (same_lexemes bytes ts e) h
 
   -- no token passes one

@@ -155,7 +155,8 @@ judgement_small d (files.entailment {left = l} {right = r} {sort = s} lp lq ls) 
     let a = two l (the "entails" ⌢ r ⌢ the "at" ⌢ s) in
     let b = two r (the "at" ⌢ s) in
     (formula_small d lp (omega (arith, a, h)), formula_small d lq (omega (arith, a, b, h)))
-judgement_small d (files.a_triple {before = p} {command = c} {behind = q} {sort = s} lp lc lq ls) h =
+judgement_small d
+    (files.a_triple {before = p} {command = c} {behind = q} {sort = s} lp lc lq ls) h =
     let x = two p (the "do" ⌢ c ⌢ the "post" ⌢ q ⌢ the "at" ⌢ s) in
     let y = two c (the "post" ⌢ q ⌢ the "at" ⌢ s) in
     let z = two q (the "at" ⌢ s) in

@@ -10,7 +10,8 @@ use Rattle.dom_syntax.proofs.programs.check_one.Goals as goal
 pub returns : goal.returns
 returns c = λ f at.
     let own = procedure-at c.as_slice.result.now (c.args.procedure - 1)
-    c.index-as_slice-procedure.result f (omega (arith, ap length c.as_slice.ensures)) c.index-as_slice-procedure.is
+    c.index-as_slice-procedure.result f (omega (arith, ap length c.as_slice.ensures))
+    c.index-as_slice-procedure.is
     ((λ j. slice_get (map procedure_of (c.as_slice.ensures j)) (c.args.procedure - 1)) ∙ at) in
     subst (λ (o : Option FileFault). Reports c.check_step_in.result o)
     (λ j. step_fault c.args.procedure c.args.place
