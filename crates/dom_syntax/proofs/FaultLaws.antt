@@ -74,7 +74,7 @@ module _ (theory : Theory) where
     steps-here =
         (λ j. first_fault_at (steps_from theory number f at (cut-steps j)))
         ∙ fault-or
-            (record { procedure = number; step = at; passes = proof_step theory f at (step_of x) })
+        (record { procedure = number; step = at; passes = proof_step theory f at (step_of x) })
         (step_kind theory f at (step_of x))
         (first_fault_at (steps_from theory number f (at + 1) (map step_of (drop (i + 1) xs))))
 

@@ -31,7 +31,7 @@ variables-distinct : (scope : Scope) → IsScope scope
     ≡ distinct_by share_name (map as_var (declared_by (procedure_in scope)))
 variables-distinct scope is =
     ap not is.variables.repeats ∙ twice-denied _
-        ∙ distinct-entries (declared_by (procedure_in scope))
+    ∙ distinct-entries (declared_by (procedure_in scope))
 
 -- its name is new
 name-new : (b : Bool) (f : ProcedureOf Named)

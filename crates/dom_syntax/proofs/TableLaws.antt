@@ -34,7 +34,7 @@ module _ {W : Type 0} where
   first-append [] es name = refl
   first-append (d ∷ ds) es name =
       first-step (bytes_eq name d.0) (first_of ds name) (first_of es name)
-          (first_of (ds ++ es) name)
+      (first_of (ds ++ es) name)
       d.1 (first-append ds es name)
 
   arranged : (a b c : Bool) (o : Option W) (w : W)
