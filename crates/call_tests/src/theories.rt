@@ -1,4 +1,7 @@
 // Calls on theories, commands and conditions that the program doesn't make.
+ghost use Rattle.model_files.specs.Sizes.{JudgementIsSmall};
+ghost use Rattle.theory_syntax.specs.Judgements.{judgement_of};
+
 use dom_syntax::{
     FileKind, Judgement, ProgramFault, Reason, Step, check_one, cond_formula, modified,
 };
@@ -34,7 +37,9 @@ fn a_block_modifies_no_local_of_its_own(rt: HostRuntime) -> Result<(), Fail> {
 }
 
 // A step without a rule.
-fn gap(number: u32) -> Step {
+fn gap(number: u32) -> Step
+    ensures { JudgementIsSmall (judgement_of result.judgement) }
+{
     let (left, right) = (Formula::True, Formula::EmptyGrove);
     let sort = Sort::Shape(DataSort::Grove);
     Step {
