@@ -1,5 +1,3 @@
-pub mod FirstForm
-pub mod Files
 pub mod Words
 pub mod Terms
 pub mod Formulas
