@@ -20,4 +20,6 @@ mod requests;
 #[cfg(test)]
 mod terms;
 #[cfg(test)]
+mod texts;
+#[cfg(test)]
 mod theories;

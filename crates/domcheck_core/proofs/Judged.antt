@@ -1,32 +1,60 @@
 -- What follows from an answer: the clauses of the calls.
-use Rattle.std.proofs.Common.{◌≡◌, inl, ℕ, ◌<◌, true, List, Option, Some, None, refl, sym, subst, arith, length, Result, Ok, Err, IfOk}
+use Rattle.std.proofs.Common.{◌≡◌, ◌∙◌, inl, ℕ, ◌<◌, Bool, true, List, Option, Some, None, option_map, refl, sym, ap, subst, length, Result, Ok, Err, IfOk}
+use Rattle.std.proofs.lemmas.Bool.{lt-leb}
+use Rattle.model_commands.specs.Theories.{Theory}
+use Rattle.model_text.specs.Nesting.{token_limit, lexemes_of}
+use Rattle.dom_terms.specs.declared.limits.LimitKind as own
 use Rattle.outside_io.specs.Causes.{Told}
 use Rattle.model_rules.proofs.Sound.{accepted_hold}
 use Rattle.model_limits.specs.Limits.{standard_limits}
 use Rattle.model_answers.specs.Words.{Request, check, run}
-use Rattle.domcheck_core.specs.Answers.{Books, Unreadable, NoDocument, CheckAnswer, says_yes, says_no, reads_nothing, DocumentAnswer, IsCalled, NotCalled, RunAnswer, file_unread, not_called, is_called, IsAnswer, checked, ran, IsToldBook, IsTold}
+use Rattle.model_text.specs.Lexemes.{Lexeme}
+use Rattle.model_limits.specs.Limits.{LimitKind, file_limit}
+use Rattle.model_limits.specs.FirstOf.{or_else, unless}
+use Rattle.model_answers.specs.Texts.{text_limit, IsFile}
+use Rattle.domcheck_core.specs.Answers.{Books, Answer, limit_answer, Unread, passes_limit, NoFile, Verdict, is_unbuilt, says_yes, has_gap, says_no, CheckAnswer, no_file, judged, DocumentAnswer, IsCalled, NotCalled, RunAnswer, not_run, not_called, is_called, IsAnswer, checked, ran, IsToldBook, IsTold}
 use Rattle.domcheck_core.specs.Books.{IsReply}
 use Rattle.domcheck_core.specs.Clauses.{OfFile, IsProved, ExactlyWhere, BadWordsExactly, IsAnswered, Wrote}
 use Rattle.outside_io.specs.Pieces.{Took}
-use Rattle.domcheck_core.proofs.OneAnswer.{not_both_called, told_of, one_answer}
-use Rattle.domcheck_core.proofs.Statuses.{document_status, is_of_called, speaks, reply_speaks}
+use Rattle.domcheck_core.proofs.OneAnswer.{not_file, not_both_called, told_of, one_answer}
+use Rattle.domcheck_core.proofs.Statuses.{document_status, all_no_file, is_of_called, speaks, reply_speaks}
 use Rattle.domcheck_core.specs.declared.status.Status.{Status}
 use Rattle.domcheck_core.specs.declared.status.Status.TheVariants as status
 
--- more bytes than a file or a document may have spell nothing
-pub too_large : (bytes : List ℕ) → standard_limits.file_bytes < length bytes → Unreadable bytes
-too_large bytes lt t spells = omega (arith, spells.small)
-
-pub no_large_document : (bytes : List ℕ) → standard_limits.file_bytes < length bytes
-    → NoDocument bytes
-no_large_document bytes lt g spells = omega (arith, spells.small)
+-- more bytes than a file or a document may have are not read
+pub too_large : {A : Type 0} (Spells : A → List Lexeme → Type 0) (most : ℕ) (bad_line : ℕ → List ℕ)
+    (bytes : List ℕ) (s : Status) (output : List ℕ) → standard_limits.file_bytes < length bytes
+    → limit_answer file_limit ≡ (s, output) → Unread Spells most bad_line bytes s output
+too_large Spells most bad_line bytes s output long e = passes_limit
+    (ap (λ (b : Bool). option_map limit_answer (or_else (unless b file_limit)
+    (token_limit most 0 (lexemes_of bytes)))) (lt-leb _ _ long) ∙ ap (λ (z : Answer). Some z) e)
 
 -- a yes is a proof
+sound_verdict : (bytes : List ℕ) (theory : Theory) (s : Status) (output : List ℕ)
+    → IsFile bytes theory → Verdict theory s output → s ≡ status.Done → IsProved bytes
+sound_verdict bytes t s output file (is_unbuilt f n e) q = absurd cc
+sound_verdict bytes t s output file (says_yes e x) q = (t, file, accepted_hold t x)
+sound_verdict bytes t s output file (has_gap f x e a) q = absurd cc
+sound_verdict bytes t s output file (says_no e x n) q = absurd cc
+
+-- the status is no yes
+abbrev IsNoYes : Status → Type 0
+IsNoYes s = s ≡ status.Done → ⊥
+
+no_yes_past : (kind : own.LimitKind) → IsNoYes (status.Limit kind)
+no_yes_past kind e = cc
+
+no_yes_ill : IsNoYes status.BadFile
+no_yes_ill e = cc
+
+no_yes_bad : IsNoYes status.BadText
+no_yes_bad e = cc
+
 pub sound : (bytes : List ℕ) (s : Status) (output : List ℕ)
     → CheckAnswer bytes s output → s ≡ status.Done → IsProved bytes
-sound bytes s output (says_yes t spells accepted) e = (t, spells, accepted_hold t accepted)
-sound bytes s output (says_no t spells refused) e = absurd cc
-sound bytes s output (reads_nothing none) e = absurd cc
+sound bytes s output (no_file a) e =
+    absurd (all_no_file IsNoYes no_yes_past no_yes_ill bytes s output no_yes_bad a e)
+sound bytes s output (judged t file v) e = sound_verdict bytes t s output file v e
 
 -- the status and the line of a reply are those of the answer
 pub said : {R E : Type 0} (status_in : R → Status) (line_in : R → List ℕ)
@@ -36,6 +64,19 @@ pub said : {R E : Type 0} (status_in : R → Status) (line_in : R → List ℕ)
 said status_in line_in Answer s output (Ok x) a e f = rw (e, f) a
 said status_in line_in Answer s output (Err x) a e f = tt
 
+-- the status isn't that of bad words
+abbrev AreNoWords : Status → Type 0
+AreNoWords s = s ≡ status.BadWords → ⊥
+
+no_words_past : (kind : own.LimitKind) → AreNoWords (status.Limit kind)
+no_words_past kind e = cc
+
+no_words_ill : AreNoWords status.BadFile
+no_words_ill e = cc
+
+no_words_bad : AreNoWords status.BadText
+no_words_bad e = cc
+
 -- A REPLY, where what it needs is told
 module _ (books : Books) where
   -- of a run: the document that was read is the told one, where it comes to that
@@ -44,7 +85,7 @@ module _ (books : Books) where
       → (IsCalled bytes procedure arguments → IsToldBook books document)
       → RunAnswer (Some read) bytes procedure fuel arguments s output
       → RunAnswer (books document) bytes procedure fuel arguments s output
-  told_run document bytes name fuel words read s output same needs (file_unread n) = file_unread n
+  told_run document bytes name fuel words read s output same needs (not_run n) = not_run n
   told_run document bytes name fuel words read s output same needs (not_called n) = not_called n
   told_run document bytes name fuel words read s output same needs
       (is_called t f values d spells e found answer) =
@@ -89,10 +130,12 @@ module _ (books : Books) where
       by_status status.StepFails e h = h
       by_status status.BadWords e h = h
       by_status status.BadText e h = h
+      by_status status.BadFile e h = h
       by_status status.BadDocument e h = h
       by_status status.Faulted e h = h
       by_status status.FuelSpent e h = h
       by_status (status.Limit kind) e h = h
+      by_status status.GapLeft e h = h
       by_status status.OutOfMemory e h = absurd cc
       by_status status.ReadFault e h = absurd cc
       by_status status.WriteFault e h = absurd cc
@@ -111,8 +154,10 @@ module _ (books : Books) where
       (read : Option (List ℕ)) (s : Status) (output : List ℕ)
       → RunAnswer read bytes procedure fuel arguments s output
       → ExactlyWhere (NotCalled bytes procedure arguments) s status.BadWords
-  words_of_run bytes name fuel words read s output (file_unread n) =
-      (λ e. absurd cc, λ c. absurd (n c.0 c.1))
+  words_of_run bytes name fuel words read s output (not_run n) = (
+    λ e. absurd (all_no_file AreNoWords no_words_past no_words_ill bytes s output no_words_bad n e),
+    λ c. absurd (not_file bytes s output c.0 c.1 n),
+  )
   words_of_run bytes name fuel words read s output (not_called n) = (λ e. n, λ c. inl refl)
   words_of_run bytes name fuel words read s output (is_called t f values d spells e found answer) =
       let called : is_of_called s ≡ true = document_status t f values fuel d s output answer in (

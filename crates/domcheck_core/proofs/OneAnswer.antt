@@ -1,33 +1,26 @@
 -- A request has at most one answer.
-use Rattle.std.proofs.Common.{◌≡◌, ℕ, List, Option, Some, None, refl, sym, ap, ◌∙◌, subst}
+use Rattle.std.proofs.Common.{◌≡◌, ◌+◌, ◌≤◌, ℕ, zero, suc, ◌<◌, List, Option, Some, None, option_map, refl, sym, ap, ◌∙◌, subst, arith, length}
 use Rattle.model_shapes.specs.Trees.{Trees}
 use Rattle.model_shapes.specs.Values.{Value}
+use Rattle.model_limits.specs.Limits.{LimitKind}
+use Rattle.model_limits.specs.FirstOf.{or_else}
 use Rattle.model_formulas.specs.Formulas.{Named}
-use Rattle.model_commands.specs.Theories.{ProcedureOf, Theory}
-use Rattle.model_rules.specs.Accepted.{IsAccepted}
-use Rattle.model_grammar.specs.Files.{SpellsFile}
+use Rattle.model_commands.specs.Theories.{ProcedureOf, Procedure, Step, Theory}
+use Rattle.model_files.specs.FileFaults.{FileFault, first_file_fault}
+use Rattle.model_rules.proofs.Gaps.{accepted_has_no_gap, one_first_gap}
+use Rattle.model_text.specs.Lexemes.{Lexeme}
 use Rattle.model_text.specs.Nesting.{lexemes_of}
+use Rattle.model_text.specs.FaultTokens.{IsFaultToken}
+use Rattle.model_documents.specs.Grammar.{SpellsGrove}
+use Rattle.model_grammar.specs.Theories.{SpellsTheory}
 use Rattle.model_answers.specs.Words.{Request}
 use Rattle.model_answers.specs.Arguments.{called}
-use Rattle.model_answers.specs.Documents.{SpellsDocument}
-use Rattle.model_answers.specs.Output.{accepted_line}
+use Rattle.model_answers.specs.Texts.{text_limit, theory_limit, IsFile}
+use Rattle.model_answers.specs.Output.{bad_text_line, bad_document_text_line, accepted_line, unbuilt_line, gap_line}
 use Rattle.proof_text.proofs.Exact.{one_theory}
 use Rattle.logic_text.proofs.Exact.{at_most_one}
-use Rattle.domcheck_core.specs.Answers.{Books, Answer, CheckAnswer, says_yes, says_no, reads_nothing, grove_answer, DocumentAnswer, document_unread, document_read, IsCalled, NotCalled, RunAnswer, file_unread, not_called, is_called, IsAnswer, bad_words, checked, ran, IsToldBook, IsTold}
+use Rattle.domcheck_core.specs.Answers.{Books, Answer, limit_answer, fault_answer, Unread, passes_limit, spells_nothing, theory_refusal, NoFile, unread, refused, Verdict, is_unbuilt, says_yes, has_gap, says_no, CheckAnswer, no_file, judged, grove_answer, DocumentAnswer, no_document, is_document, IsCalled, NotCalled, RunAnswer, not_run, not_called, is_called, IsAnswer, bad_words, checked, ran, IsToldBook, IsTold}
 use Rattle.domcheck_core.specs.declared.status.Status.{Status}
-
--- a file spells at most one theory, and a document one grove
-pub one_file : (bytes : List ℕ) (t u : Theory) → SpellsFile bytes t → SpellsFile bytes u → t ≡ u
-one_file bytes t u a b = one_theory (lexemes_of bytes) t u a.spelled b.spelled
-
-one_document : (bytes : List ℕ) (g h : Trees)
-    → SpellsDocument bytes g → SpellsDocument bytes h → g ≡ h
-one_document bytes g h a b = at_most_one (lexemes_of bytes) g h a.spelled b.spelled
-
--- no file is both accepted and not
-pub not_both : (bytes : List ℕ) (t u : Theory) → SpellsFile bytes t → SpellsFile bytes u
-    → IsAccepted t → (IsAccepted u → ⊥) → ⊥
-not_both bytes t u a b x n = n (subst IsAccepted (one_file bytes t u a b) x)
 
 -- values in options
 some_same : {A : Type 0} (a b : A) → Some a ≡ Some b → a ≡ b
@@ -40,19 +33,6 @@ some_none a e = cc
 abbrev pub Equal : Status → List ℕ → Status → List ℕ → Type 0
 Equal s o t p = (s ≡ t) × (o ≡ p)
 
-pub one_check : (bytes : List ℕ) (s t : Status) (o p : List ℕ)
-    → CheckAnswer bytes s o → CheckAnswer bytes t p → Equal s o t p
-one_check bytes s t o p (says_yes u a x) (says_yes v b y) =
-    (refl, ap accepted_line (one_file bytes u v a b))
-one_check bytes s t o p (says_yes u a x) (says_no v b q) = absurd (not_both bytes u v a b x q)
-one_check bytes s t o p (says_yes u a x) (reads_nothing n) = absurd (n u a)
-one_check bytes s t o p (says_no v b q) (says_yes u a x) = absurd (not_both bytes u v a b x q)
-one_check bytes s t o p (says_no u a q) (says_no v b m) = (refl, refl)
-one_check bytes s t o p (says_no u a q) (reads_nothing n) = absurd (n u a)
-one_check bytes s t o p (reads_nothing n) (says_yes u a x) = absurd (n u a)
-one_check bytes s t o p (reads_nothing n) (says_no u a q) = absurd (n u a)
-one_check bytes s t o p (reads_nothing n) (reads_nothing m) = (refl, refl)
-
 -- the parts of equal answers
 some_pair : (s t : Status) (o p : List ℕ) (x : Option Answer)
     → x ≡ Some (s, o) → x ≡ Some (t, p) → Equal s o t p
@@ -60,22 +40,139 @@ some_pair s t o p x e f =
     let g : (s, o) ≡ (t, p) = some_same (s, o) (t, p) (sym e ∙ f) in
     (ap (λ (z : Answer). z.0) g, ap (λ (z : Answer). z.1) g)
 
+-- where there is no limit there is no answer to one
+unlimited : (limit : Option LimitKind) (answer : Answer) → limit ≡ None
+    → option_map limit_answer limit ≡ Some answer → ⊥
+unlimited limit answer e f =
+    some_none answer (sym f ∙ ap (λ (z : Option LimitKind). option_map limit_answer z) e)
+
+-- TEXTS
+by_order : (k l : ℕ) → (k < l → ⊥) → (l < k → ⊥) → k ≡ l
+by_order zero zero a b = refl
+by_order zero (suc l) a b = absurd (a (omega arith))
+by_order (suc k) zero a b = absurd (b (omega arith))
+by_order (suc k) (suc l) a b =
+    ap suc (by_order k l (λ h. a (omega (arith, h))) (λ h. b (omega (arith, h))))
+
+module _ {A : Type 0} (Spells : A → List Lexeme → Type 0) where
+  -- a fault token isn't before another
+  not_before : (ts : List Lexeme) (k l : ℕ) → IsFaultToken Spells ts k → IsFaultToken Spells ts l
+      → k < l → ⊥
+  not_before ts k l a b h = a.here (omega (arith, h, b.in_range)) (b.before k h)
+
+  one_fault_token : (ts : List Lexeme) (k l : ℕ) → IsFaultToken Spells ts k
+      → IsFaultToken Spells ts l → k ≡ l
+  one_fault_token ts k l a b = by_order k l (not_before ts k l a b) (not_before ts l k b a)
+
+  module _ (most : ℕ) (bad_line : ℕ → List ℕ) (bytes : List ℕ) where
+    -- a text that is read has no other answer
+    pub not_unread : (s : Status) (o : List ℕ) (a : A) → text_limit most bytes ≡ None
+        → Spells a (lexemes_of bytes) → Unread Spells most bad_line bytes s o → ⊥
+    not_unread s o a e spelled (passes_limit f) = unlimited (text_limit most bytes) (s, o) e f
+    not_unread s o a e spelled (spells_nothing token f none fault) = none a spelled
+
+    one_unread : (s t : Status) (o p : List ℕ) → Unread Spells most bad_line bytes s o
+        → Unread Spells most bad_line bytes t p → Equal s o t p
+    one_unread s t o p (passes_limit e) (passes_limit f) =
+        some_pair s t o p (option_map limit_answer (text_limit most bytes)) e f
+    one_unread s t o p (passes_limit e) (spells_nothing k f none fault) =
+        absurd (unlimited (text_limit most bytes) (s, o) f e)
+    one_unread s t o p (spells_nothing k e none fault) (passes_limit f) =
+        absurd (unlimited (text_limit most bytes) (t, p) e f)
+    one_unread s t o p (spells_nothing k e none fault) (spells_nothing l f never other) =
+        (refl, ap bad_line (one_fault_token (lexemes_of bytes) k l fault other))
+
+-- FILES
+-- a file spells at most one theory
+pub one_file : (bytes : List ℕ) (t u : Theory) → IsFile bytes t → IsFile bytes u → t ≡ u
+one_file bytes t u a b = one_theory (lexemes_of bytes) t u a.spelled b.spelled
+
+-- a theory that is well formed and passes no limit isn't refused
+pub admitted : (t : Theory) → first_file_fault t ≡ None → theory_limit t ≡ None
+    → theory_refusal t ≡ None
+admitted t e f =
+    ap (λ (z : Option FileFault). or_else (option_map fault_answer z)
+    (option_map limit_answer (theory_limit t))) e
+    ∙ ap (λ (z : Option LimitKind). option_map limit_answer z) f
+
+pub not_file : (bytes : List ℕ) (s : Status) (o : List ℕ) (t : Theory) → IsFile bytes t
+    → NoFile bytes s o → ⊥
+not_file bytes s o t file (unread a) = not_unread SpellsTheory _ bad_text_line bytes s o t
+    file.read file.spelled a
+not_file bytes s o t file (refused u e spelled f) =
+    let same : t ≡ u = one_theory (lexemes_of bytes) t u file.spelled spelled in
+    some_none (s, o) (sym f ∙ ap theory_refusal (sym same)
+    ∙ admitted t file.well_formed file.within)
+
+one_no_file : (bytes : List ℕ) (s t : Status) (o p : List ℕ) → NoFile bytes s o
+    → NoFile bytes t p → Equal s o t p
+one_no_file bytes s t o p (unread a) (unread b) =
+    one_unread SpellsTheory _ bad_text_line bytes s t o p a b
+one_no_file bytes s t o p (unread a) (refused u e spelled f) =
+    absurd (not_unread SpellsTheory _ bad_text_line bytes s o u e spelled a)
+one_no_file bytes s t o p (refused u e spelled f) (unread b) =
+    absurd (not_unread SpellsTheory _ bad_text_line bytes t p u e spelled b)
+one_no_file bytes s t o p (refused u e spelled f) (refused v d spells g) =
+    some_pair s t o p (theory_refusal u) f
+    (ap theory_refusal (one_theory (lexemes_of bytes) u v spelled spells) ∙ g)
+
+-- CHECK
+one_verdict : (theory : Theory) (s t : Status) (o p : List ℕ) → Verdict theory s o
+    → Verdict theory t p → Equal s o t p
+one_verdict theory s t o p (is_unbuilt f n e) (is_unbuilt g m h) =
+    let same : (f, n) ≡ (g, m) = some_same (f, n) (g, m) (sym e ∙ h) in
+    (refl, ap (λ (z : ℕ × ℕ). unbuilt_line z.0 z.1) same)
+one_verdict theory s t o p (is_unbuilt f n e) (says_yes h y) = absurd (some_none _ (sym e ∙ h))
+one_verdict theory s t o p (is_unbuilt f n e) (has_gap g x h a) =
+    absurd (some_none _ (sym e ∙ h))
+one_verdict theory s t o p (is_unbuilt f n e) (says_no h y z) = absurd (some_none _ (sym e ∙ h))
+one_verdict theory s t o p (says_yes e x) (is_unbuilt g m h) = absurd (some_none _ (sym h ∙ e))
+one_verdict theory s t o p (says_yes e x) (says_yes h y) = (refl, refl)
+one_verdict theory s t o p (says_yes e x) (has_gap g y h a) =
+    absurd (accepted_has_no_gap theory g y x a)
+one_verdict theory s t o p (says_yes e x) (says_no h y z) = absurd (y x)
+one_verdict theory s t o p (has_gap f x e a) (is_unbuilt g m h) =
+    absurd (some_none _ (sym h ∙ e))
+one_verdict theory s t o p (has_gap f x e a) (says_yes h y) =
+    absurd (accepted_has_no_gap theory f x y a)
+one_verdict theory s t o p (has_gap f x e a) (has_gap g y h b) =
+    let same = one_first_gap _ f g x y a b in
+    (refl, ap (λ (z : Procedure × Step). gap_line z.1.number z.0.name z.1.line) (pair same))
+  where
+    pair : (f ≡ g) × (x ≡ y) → (f, x) ≡ (g, y)
+    pair (q, r) = cc
+one_verdict theory s t o p (has_gap f x e a) (says_no h y z) = absurd (z f x a)
+one_verdict theory s t o p (says_no e x n) (is_unbuilt g m h) = absurd (some_none _ (sym h ∙ e))
+one_verdict theory s t o p (says_no e x n) (says_yes h y) = absurd (x y)
+one_verdict theory s t o p (says_no e x n) (has_gap g y h a) = absurd (n g y a)
+one_verdict theory s t o p (says_no e x n) (says_no h y z) = (refl, refl)
+
+pub one_check : (bytes : List ℕ) (s t : Status) (o p : List ℕ)
+    → CheckAnswer bytes s o → CheckAnswer bytes t p → Equal s o t p
+one_check bytes s t o p (no_file a) (no_file b) = one_no_file bytes s t o p a b
+one_check bytes s t o p (no_file a) (judged u file v) = absurd (not_file bytes s o u file a)
+one_check bytes s t o p (judged u file v) (no_file b) = absurd (not_file bytes t p u file b)
+one_check bytes s t o p (judged u a v) (judged w b z) =
+    one_verdict w s t o p
+    (subst (λ (y : Theory). Verdict y s o) (one_file bytes u w a b) v) z
+
+-- RUN
 one_on_document : (theory : Theory) (f : ProcedureOf Named) (values : List Value) (fuel : ℕ)
     (bytes : List ℕ) (s t : Status) (o p : List ℕ) → DocumentAnswer theory f values fuel bytes s o
     → DocumentAnswer theory f values fuel bytes t p → Equal s o t p
-one_on_document theory f values fuel bytes s t o p (document_unread n) (document_unread m) =
-    (refl, refl)
-one_on_document theory f values fuel bytes s t o p (document_unread n) (document_read g a e) =
-    absurd (n g a)
-one_on_document theory f values fuel bytes s t o p (document_read g a e) (document_unread n) =
-    absurd (n g a)
-one_on_document theory f values fuel bytes s t o p (document_read g a e) (document_read h b d) =
-    some_pair s t o p (grove_answer theory f values fuel g) e
-    (ap (grove_answer theory f values fuel) (one_document bytes g h a b) ∙ d)
+one_on_document theory f values fuel bytes s t o p (no_document a) (no_document b) =
+    one_unread SpellsGrove _ bad_document_text_line bytes s t o p a b
+one_on_document theory f values fuel bytes s t o p (no_document a) (is_document g e x y) =
+    absurd (not_unread SpellsGrove _ bad_document_text_line bytes s o g e x a)
+one_on_document theory f values fuel bytes s t o p (is_document g e x y) (no_document b) =
+    absurd (not_unread SpellsGrove _ bad_document_text_line bytes t p g e x b)
+one_on_document theory f values fuel bytes s t o p (is_document g e x y) (is_document h d z w) =
+    some_pair s t o p (grove_answer theory f values fuel g) y
+    (ap (grove_answer theory f values fuel) (at_most_one (lexemes_of bytes) g h x z) ∙ w)
 
 -- what a file calls
 one_call : (bytes procedure : List ℕ) (arguments : List (List ℕ)) (t u : Theory)
-    → SpellsFile bytes t → SpellsFile bytes u
+    → IsFile bytes t → IsFile bytes u
     → called t procedure arguments ≡ called u procedure arguments
 one_call bytes procedure arguments t u a b =
     ap (λ (z : Theory). called z procedure arguments) (one_file bytes t u a b)
@@ -99,18 +196,19 @@ pub one_run : (document : Option (List ℕ)) (bytes procedure : List ℕ) (fuel 
     (arguments : List (List ℕ)) (s t : Status) (o p : List ℕ)
     → RunAnswer document bytes procedure fuel arguments s o
     → RunAnswer document bytes procedure fuel arguments t p → Equal s o t p
-one_run document bytes name fuel words s t o p (file_unread n) (file_unread m) = (refl, refl)
-one_run document bytes name fuel words s t o p (file_unread n) (not_called m) =
-    absurd (n m.0 m.1)
-one_run document bytes name fuel words s t o p (file_unread n) (is_called u f vs read a e r d) =
-    absurd (n u a)
-one_run document bytes name fuel words s t o p (not_called m) (file_unread n) =
-    absurd (n m.0 m.1)
+one_run document bytes name fuel words s t o p (not_run a) (not_run b) =
+    one_no_file bytes s t o p a b
+one_run document bytes name fuel words s t o p (not_run a) (not_called m) =
+    absurd (not_file bytes s o m.0 m.1 a)
+one_run document bytes name fuel words s t o p (not_run n) (is_called u f vs read a e r d) =
+    absurd (not_file bytes s o u a n)
+one_run document bytes name fuel words s t o p (not_called m) (not_run b) =
+    absurd (not_file bytes t p m.0 m.1 b)
 one_run document bytes name fuel words s t o p (not_called m) (not_called n) = (refl, refl)
 one_run document bytes name fuel words s t o p (not_called m) (is_called u f vs read a e r d) =
     absurd (not_both_called bytes name words (u, a, f, vs, e) m)
-one_run document bytes name fuel words s t o p (is_called u f vs read a e r d) (file_unread n) =
-    absurd (n u a)
+one_run document bytes name fuel words s t o p (is_called u f vs read a e r d) (not_run n) =
+    absurd (not_file bytes t p u a n)
 one_run document bytes name fuel words s t o p (is_called u f vs read a e r d) (not_called m) =
     absurd (not_both_called bytes name words (u, a, f, vs, e) m)
 one_run document bytes name fuel words s t o p
@@ -141,8 +239,8 @@ told_for_run : (books : Books) (bytes procedure document : List ℕ) (fuel : ℕ
     (arguments : List (List ℕ)) (s : Status) (o : List ℕ)
     → RunAnswer (books document) bytes procedure fuel arguments s o
     → IsCalled bytes procedure arguments → IsToldBook books document
-told_for_run books bytes procedure document fuel arguments s o (file_unread n) c =
-    absurd (n c.0 c.1)
+told_for_run books bytes procedure document fuel arguments s o (not_run n) c =
+    absurd (not_file bytes s o c.0 c.1 n)
 told_for_run books bytes procedure document fuel arguments s o (not_called m) c =
     absurd (not_both_called bytes procedure arguments c m)
 told_for_run books bytes procedure document fuel arguments s o

@@ -2,13 +2,13 @@
 use Rattle.std.proofs.Common.{◌≡◌, ℕ, List, Option, Some, None, refl, map, subst, slice_get, Result, Ok, Err, IfOk}
 use Rattle.outside_io.specs.Causes.{Told}
 use Rattle.model_answers.specs.Arguments.{called}
-use Rattle.model_answers.specs.Output.{bad_text_line, bad_words_line}
+use Rattle.model_answers.specs.Output.{bad_words_line}
+use Rattle.model_answers.specs.Texts.{IsFile}
 use Rattle.theory_syntax.specs.Theories.{procedure_of, theory_of}
 use Rattle.theory_syntax.specs.declared.theories.Procedure.{Procedure}
 use Rattle.theory_syntax.specs.declared.theories.Theory.{Theory}
 use Rattle.dom_terms.specs.Values.{value_seen}
-use Rattle.model_grammar.specs.Files.{SpellsFile}
-use Rattle.domcheck_core.specs.Answers.{Unreadable, DocumentAnswer, IsCalled, RunAnswer, file_unread, not_called, is_called}
+use Rattle.domcheck_core.specs.Answers.{NoFile, DocumentAnswer, IsCalled, RunAnswer, not_run, not_called, is_called}
 use Rattle.domcheck_core.specs.Books.{ReadFrom}
 use Rattle.domcheck_core.specs.Calls.{FitsCall, IsCallOf, CallAnswer}
 use Rattle.domcheck_core.specs.declared.calls.Call.{Call}
@@ -24,12 +24,11 @@ module _ (bytes name : List ℕ) (arguments : List (List ℕ)) where
       (document : Option (List ℕ)) (fuel : ℕ)
       → RunAnswer document bytes name fuel arguments s output
 
-  pub unread : (s : Status) (output : List ℕ) → Unreadable bytes → s ≡ status.BadText
-      → output ≡ bad_text_line → AnswersAll s output
-  unread s output h e q = λ document fuel. rw (e, q) (file_unread h)
+  pub unread : (s : Status) (output : List ℕ) → NoFile bytes s output → AnswersAll s output
+  unread s output n = λ document fuel. not_run n
 
   pub uncalled : (theory : Theory) (s : Status) (output : List ℕ)
-      → SpellsFile bytes (theory_of theory)
+      → IsFile bytes (theory_of theory)
       → called (theory_of theory) name arguments ≡ None → s ≡ status.BadWords
       → output ≡ bad_words_line → AnswersAll s output
   uncalled theory s output spells h e q =
@@ -37,10 +36,10 @@ module _ (bytes name : List ℕ) (arguments : List (List ℕ)) where
 
   -- where it comes to a call
   module _ (theory : Theory) (call : Call)
-      (opened : SpellsFile bytes (theory_of theory) × IsCallOf theory name arguments call) where
+      (opened : IsFile bytes (theory_of theory) × IsCallOf theory name arguments call) where
     pub fits : FitsCall theory call
     fits = record {
-      of_form = opened.0.of_form;
+      well_formed = opened.0.well_formed;
       procedure = opened.1.0;
       stands = opened.1.1;
       fit = called_fits (theory_of theory) name arguments (procedure_of opened.1.0)
@@ -81,7 +80,7 @@ module _ (book : Option (List ℕ)) (name : List ℕ) (arguments : List (List �
   )
 
   module _ (theory : Theory) (call : Call)
-      (opened : ReadFrom book (λ bytes. SpellsFile bytes (theory_of theory)
+      (opened : ReadFrom book (λ bytes. IsFile bytes (theory_of theory)
       × IsCallOf theory name arguments call)) where
     pub called_reply : (before between : Option (List ℕ)) → Told before (λ d. between ≡ Some d)
         → (s : Status) (output : List ℕ)

@@ -12,19 +12,61 @@ use Rattle.model_documents.specs.Numbers.{Numbered, first_out_of_range, first_re
 use Rattle.model_groves.specs.Sizes.{size}
 use Rattle.model_limits.specs.Limits.{standard_limits}
 use Rattle.model_answers.specs.Words.{Request, check, run}
-use Rattle.model_limits.specs.Limits.{nodes_limit}
+use Rattle.model_limits.specs.Limits.{LimitKind, nodes_limit}
+use Rattle.dom_terms.specs.declared.limits.LimitKind as own
 use Rattle.model_answers.specs.Output.{range_line, repeat_line}
-use Rattle.domcheck_core.specs.Answers.{Books, IsAnswer, bad_words, Answer, limit_answer, CheckAnswer, says_yes, says_no, reads_nothing, outcome_answer, outcome_on, range_refusal, repeat_refusal, size_refusal, refusal, grove_answer, DocumentAnswer, document_unread, document_read, RunAnswer, file_unread, not_called, is_called}
+use Rattle.model_text.specs.Lexemes.{Lexeme}
+use Rattle.model_files.specs.FileFaults.{FileFault, first_file_fault}
+use Rattle.model_answers.specs.Texts.{text_limit, theory_limit}
+use Rattle.domcheck_core.specs.Answers.{Books, IsAnswer, bad_words, Answer, limit_answer, fault_answer, Unread, passes_limit, spells_nothing, theory_refusal, NoFile, unread, refused, Verdict, is_unbuilt, says_yes, has_gap, says_no, CheckAnswer, no_file, judged, outcome_answer, outcome_on, range_refusal, repeat_refusal, size_refusal, refusal, grove_answer, DocumentAnswer, no_document, is_document, RunAnswer, not_run, not_called, is_called}
 use Rattle.domcheck_core.specs.Clauses.{statuses, ReadRose}
 use Rattle.domcheck_core.specs.Books.{IsReply}
 use Rattle.domcheck_core.specs.Numbers.{number_of}
 use Rattle.domcheck_core.specs.declared.status.Status.{Status}
 use Rattle.domcheck_core.specs.declared.status.Status.TheVariants as status
 
+-- REFUSALS
+-- what holds of the status of each answer there is
+abbrev AllOf : (Status → Type 0) → Option Answer → Type 0
+AllOf P None = Unit
+AllOf P (Some answer) = P answer.0
+
+module _ (P : Status → Type 0) where
+  first_of : (a b : Option Answer) → AllOf P a → AllOf P b → AllOf P (or_else a b)
+  first_of None b h k = k
+  first_of (Some a) b h k = h
+
+  module _ (past : (kind : own.LimitKind) → P (status.Limit kind)) where
+    all_limits : (limit : Option LimitKind) → AllOf P (option_map limit_answer limit)
+    all_limits None = tt
+    all_limits (Some kind) = past _
+
+    all_unread : {A : Type 0} (Spells : A → List Lexeme → Type 0) (most : ℕ)
+        (bad_line : ℕ → List ℕ) (bytes : List ℕ) (s : Status) (o : List ℕ) → P status.BadText
+        → Unread Spells most bad_line bytes s o → P s
+    all_unread Spells most bad_line bytes s o bad (passes_limit e) =
+        subst (AllOf P) e (all_limits (text_limit most bytes))
+    all_unread Spells most bad_line bytes s o bad (spells_nothing token e none fault) = bad
+
+    module _ (ill : P status.BadFile) where
+      all_faults : (fault : Option FileFault) → AllOf P (option_map fault_answer fault)
+      all_faults None = tt
+      all_faults (Some fault) = ill
+
+      pub all_no_file : (bytes : List ℕ) (s : Status) (o : List ℕ) → P status.BadText
+          → NoFile bytes s o → P s
+      all_no_file bytes s o bad (unread a) = all_unread _ _ _ bytes s o bad a
+      all_no_file bytes s o bad (refused t read spelled e) =
+          subst (AllOf P) e (first_of (option_map fault_answer (first_file_fault t))
+          (option_map limit_answer (theory_limit t)) (all_faults (first_file_fault t))
+          (all_limits (theory_limit t)))
+
 -- the status is one of a run that is called
 abbrev pub is_of_called : Status → Bool
 is_of_called status.StepFails = false
 is_of_called status.BadWords = false
+is_of_called status.BadFile = false
+is_of_called status.GapLeft = false
 is_of_called status.OutOfMemory = false
 is_of_called status.ReadFault = false
 is_of_called status.WriteFault = false
@@ -42,22 +84,22 @@ speaks_called status.Done e = refl
 speaks_called status.StepFails e = refl
 speaks_called status.BadWords e = refl
 speaks_called status.BadText e = refl
+speaks_called status.BadFile e = refl
 speaks_called status.BadDocument e = refl
 speaks_called status.Faulted e = refl
 speaks_called status.FuelSpent e = refl
 speaks_called (status.Limit kind) e = refl
+speaks_called status.GapLeft e = refl
 speaks_called status.OutOfMemory e = e
 speaks_called status.ReadFault e = e
 speaks_called status.WriteFault e = e
 
 -- each answer there is has such a status
-abbrev AllOfCalled : Option Answer → Type 0
-AllOfCalled None = Unit
-AllOfCalled (Some answer) = is_of_called answer.0 ≡ true
+abbrev IsOfCalled : Status → Type 0
+IsOfCalled s = is_of_called s ≡ true
 
-first_of_called : (a b : Option Answer) → AllOfCalled a → AllOfCalled b → AllOfCalled (or_else a b)
-first_of_called None b h k = k
-first_of_called (Some a) b h k = h
+abbrev AllOfCalled : Option Answer → Type 0
+AllOfCalled = AllOf IsOfCalled
 
 refused_of_called : (line : Numbered → List ℕ) (found : Option Numbered)
     → AllOfCalled (option_map {U = Answer} (λ n. (status.BadDocument, line n)) found)
@@ -79,12 +121,12 @@ outcome_of_called results no_pick = tt
 grove_of_called : (theory : Theory) (f : ProcedureOf Named) (values : List Value) (fuel : ℕ)
     (document : Trees) → AllOfCalled (grove_answer theory f values fuel document)
 grove_of_called theory f values fuel document =
-    first_of_called (refusal document)
+    first_of IsOfCalled (refusal document)
     (outcome_answer f.results (outcome_on theory f values fuel document))
-    (first_of_called (range_refusal document)
+    (first_of IsOfCalled (range_refusal document)
     (or_else (repeat_refusal document) (size_refusal document))
     (refused_of_called range_line (first_out_of_range document))
-    (first_of_called (repeat_refusal document) (size_refusal document)
+    (first_of IsOfCalled (repeat_refusal document) (size_refusal document)
     (refused_of_called repeat_line (first_repeat document))
     (unless_of_called (nat_le (size document) standard_limits.nodes)
     (limit_answer nodes_limit) refl)))
@@ -93,21 +135,34 @@ grove_of_called theory f values fuel document =
 pub document_status : (theory : Theory) (f : ProcedureOf Named) (values : List Value) (fuel : ℕ)
     (bytes : List ℕ) (s : Status) (o : List ℕ)
     → DocumentAnswer theory f values fuel bytes s o → is_of_called s ≡ true
-document_status theory f values fuel bytes s o (document_unread n) = refl
-document_status theory f values fuel bytes s o (document_read g a e) =
+document_status theory f values fuel bytes s o (no_document a) =
+    all_unread IsOfCalled (λ kind. refl) _ _ _ bytes s o refl a
+document_status theory f values fuel bytes s o (is_document g read spelled e) =
     subst AllOfCalled e (grove_of_called theory f values fuel g)
 
 -- A REPLY SPEAKS
+abbrev Speaks : Status → Type 0
+Speaks s = speaks s ≡ true
+
+speaks_no_file : (bytes : List ℕ) (s : Status) (o : List ℕ) → NoFile bytes s o → speaks s ≡ true
+speaks_no_file bytes s o a = all_no_file Speaks (λ kind. refl) refl bytes s o refl a
+
+speaks_verdict : (theory : Theory) (s : Status) (o : List ℕ) → Verdict theory s o
+    → speaks s ≡ true
+speaks_verdict theory s o (is_unbuilt f n e) = refl
+speaks_verdict theory s o (says_yes e x) = refl
+speaks_verdict theory s o (has_gap f x e a) = refl
+speaks_verdict theory s o (says_no e x n) = refl
+
 speaks_check : (bytes : List ℕ) (s : Status) (o : List ℕ) → CheckAnswer bytes s o
     → speaks s ≡ true
-speaks_check bytes s o (says_yes t a x) = refl
-speaks_check bytes s o (says_no t a x) = refl
-speaks_check bytes s o (reads_nothing n) = refl
+speaks_check bytes s o (no_file a) = speaks_no_file bytes s o a
+speaks_check bytes s o (judged t file v) = speaks_verdict t s o v
 
 speaks_run : (read : Option (List ℕ)) (bytes procedure : List ℕ) (fuel : ℕ)
     (arguments : List (List ℕ)) (s : Status) (o : List ℕ)
     → RunAnswer read bytes procedure fuel arguments s o → speaks s ≡ true
-speaks_run read bytes name fuel words s o (file_unread n) = refl
+speaks_run read bytes name fuel words s o (not_run a) = speaks_no_file bytes s o a
 speaks_run read bytes name fuel words s o (not_called n) = refl
 speaks_run read bytes name fuel words s o (is_called t f values d a e told answer) =
     speaks_called s (document_status t f values fuel d s o answer)
@@ -131,11 +186,23 @@ no_fault r books s o a (inr e) = let q = reply_speaks r books s o a in cc
 
 -- WHAT IS POSSIBLE
 -- the place of the status in the list
-possible_check : (file bytes : List ℕ) (s : Status) (o : List ℕ) → CheckAnswer bytes s o
-    → Contains (statuses (Some (check file))) (number_of s)
-possible_check file bytes s o (says_yes t a x) = (0, lit< tt, refl)
-possible_check file bytes s o (says_no t a x) = (1, lit< tt, refl)
-possible_check file bytes s o (reads_nothing n) = (2, lit< tt, refl)
+module _ (file : List ℕ) where
+  abbrev PossibleCheck : Status → Type 0
+  PossibleCheck s = Contains (statuses (Some (check file))) (number_of s)
+
+  possible_verdict : (theory : Theory) (s : Status) (o : List ℕ) → Verdict theory s o
+      → PossibleCheck s
+  possible_verdict theory s o (is_unbuilt f n e) = (3, lit< tt, refl)
+  possible_verdict theory s o (says_yes e x) = (0, lit< tt, refl)
+  possible_verdict theory s o (has_gap f x e a) = (5, lit< tt, refl)
+  possible_verdict theory s o (says_no e x n) = (1, lit< tt, refl)
+
+  possible_check : (bytes : List ℕ) (s : Status) (o : List ℕ) → CheckAnswer bytes s o
+      → PossibleCheck s
+  possible_check bytes s o (no_file a) =
+      all_no_file PossibleCheck (λ kind. (4, lit< tt, refl)) (3, lit< tt, refl) bytes s o
+      (2, lit< tt, refl) a
+  possible_check bytes s o (judged t is v) = possible_verdict t s o v
 
 module _ (file procedure document : List ℕ) (fuel : ℕ) (arguments : List (List ℕ)) where
   abbrev Possible : Status → Type 0
@@ -146,17 +213,21 @@ module _ (file procedure document : List ℕ) (fuel : ℕ) (arguments : List (Li
   possible_called status.StepFails e = absurd cc
   possible_called status.BadWords e = absurd cc
   possible_called status.BadText e = (2, lit< tt, refl)
-  possible_called status.BadDocument e = (3, lit< tt, refl)
-  possible_called status.Faulted e = (4, lit< tt, refl)
-  possible_called status.FuelSpent e = (5, lit< tt, refl)
-  possible_called (status.Limit kind) e = (6, lit< tt, refl)
+  possible_called status.BadFile e = absurd cc
+  possible_called status.BadDocument e = (4, lit< tt, refl)
+  possible_called status.Faulted e = (5, lit< tt, refl)
+  possible_called status.FuelSpent e = (6, lit< tt, refl)
+  possible_called (status.Limit kind) e = (7, lit< tt, refl)
+  possible_called status.GapLeft e = absurd cc
   possible_called status.OutOfMemory e = absurd cc
   possible_called status.ReadFault e = absurd cc
   possible_called status.WriteFault e = absurd cc
 
   possible_run : (read : Option (List ℕ)) (bytes : List ℕ) (s : Status) (o : List ℕ)
       → RunAnswer read bytes procedure fuel arguments s o → Possible s
-  possible_run read bytes s o (file_unread n) = possible_called status.BadText refl
+  possible_run read bytes s o (not_run a) =
+      all_no_file Possible (λ kind. (7, lit< tt, refl)) (3, lit< tt, refl) bytes s o
+      (2, lit< tt, refl) a
   possible_run read bytes s o (not_called n) = (1, lit< tt, refl)
   possible_run read bytes s o (is_called t f values d a e told answer) =
       possible_called s (document_status t f values fuel d s o answer)
@@ -175,16 +246,16 @@ possible (Some (run file procedure document fuel arguments)) books s o a =
 -- where the call gives up
 pub no_memory : (r : Option Request) → Contains (statuses r) (number_of status.OutOfMemory)
 no_memory None = (1, lit< tt, refl)
-no_memory (Some (check file)) = (3, lit< tt, refl)
-no_memory (Some (run file procedure document fuel arguments)) = (7, lit< tt, refl)
+no_memory (Some (check file)) = (6, lit< tt, refl)
+no_memory (Some (run file procedure document fuel arguments)) = (8, lit< tt, refl)
 
 pub no_sink : (r : Option Request) → Contains (statuses r) (number_of status.WriteFault)
 no_sink None = (2, lit< tt, refl)
-no_sink (Some (check file)) = (5, lit< tt, refl)
-no_sink (Some (run file procedure document fuel arguments)) = (9, lit< tt, refl)
+no_sink (Some (check file)) = (8, lit< tt, refl)
+no_sink (Some (run file procedure document fuel arguments)) = (10, lit< tt, refl)
 
 pub no_book : (r : Option Request) (books : Books) (rose : List ℕ → Type 0)
     → ReadRose r books rose → Contains (statuses r) (number_of status.ReadFault)
 no_book None books rose h = absurd h
-no_book (Some (check file)) books rose h = (4, lit< tt, refl)
-no_book (Some (run file procedure document fuel arguments)) books rose h = (8, lit< tt, refl)
+no_book (Some (check file)) books rose h = (7, lit< tt, refl)
+no_book (Some (run file procedure document fuel arguments)) books rose h = (9, lit< tt, refl)

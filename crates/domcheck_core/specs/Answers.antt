@@ -5,38 +5,35 @@ use Rattle.model_shapes.specs.Values.{Value}
 use Rattle.model_formulas.specs.Formulas.{Named}
 use Rattle.model_terms.specs.Stores.{ProgVar}
 use Rattle.model_terms.specs.TermLimits.{or_else, unless}
-use Rattle.model_commands.specs.Theories.{ProcedureOf, Theory, procedures_of}
+use Rattle.model_commands.specs.Theories.{ProcedureOf, Procedure, Step, Theory, procedures_of}
+use Rattle.model_files.specs.FileFaults.{FileFault, first_file_fault}
 use Rattle.model_machine.specs.Machine.{start}
 use Rattle.model_machine.specs.Outcomes.{Outcome, ends, spends, passes_limit, has_fault, no_pick, outcome}
 use Rattle.model_limits.specs.Limits as limits
 use Rattle.model_limits.specs.Limits.{standard_limits}
 use Rattle.model_groves.specs.Sizes.{size}
 use Rattle.model_rules.specs.Accepted.{IsAccepted}
+use Rattle.model_rules.specs.Gaps.{IsFirstGap}
+use Rattle.model_rules.specs.Checked.{first_unbuilt}
+use Rattle.model_text.specs.Lexemes.{Lexeme}
+use Rattle.model_text.specs.Nesting.{lexemes_of}
+use Rattle.model_text.specs.FaultTokens.{IsFaultToken}
+use Rattle.model_documents.specs.Grammar.{SpellsGrove}
 use Rattle.model_documents.specs.Numbers.{first_out_of_range, first_repeat}
-use Rattle.model_grammar.specs.Files.{SpellsFile}
+use Rattle.model_grammar.specs.Theories.{SpellsTheory}
 use Rattle.model_answers.specs.Words.{Request, check, run}
 use Rattle.model_answers.specs.Arguments.{called}
-use Rattle.model_answers.specs.Documents.{SpellsDocument}
-use Rattle.model_answers.specs.Output.{accepted_line, not_accepted_line, bad_words_line, bad_text_line, bad_document_text_line, range_line, repeat_line, limit_line, fault_line, spent_line, ended_lines}
+use Rattle.model_answers.specs.Texts.{text_limit, theory_limit, IsFile}
+use Rattle.model_answers.specs.Output.{accepted_line, not_accepted_line, gap_line, bad_words_line, bad_text_line, bad_document_text_line, file_fault_line, unbuilt_line, range_line, repeat_line, limit_line, fault_line, spent_line, ended_lines}
 use Rattle.dom_terms.specs.declared.limits.LimitKind.{LimitKind}
 use Rattle.dom_terms.specs.declared.limits.LimitKind.TheVariants as l
 use Rattle.domcheck_core.specs.declared.status.Status.{Status}
 use Rattle.domcheck_core.specs.declared.status.Status.TheVariants as status
 
--- CHECK
--- the bytes spell no file
-abbrev pub Unreadable : List ℕ → Type 0
-Unreadable bytes = (theory : Theory) → SpellsFile bytes theory → ⊥
+-- a status and the output with it
+abbrev pub Answer : Type 0
+Answer = Status × List ℕ
 
--- the answer of `check` on a file with these bytes
-pub data CheckAnswer (bytes : List ℕ) : Status → List ℕ → Type 0 where
-  says_yes : (theory : Theory) → SpellsFile bytes theory → IsAccepted theory
-      → CheckAnswer bytes status.Done (accepted_line theory)
-  says_no : (theory : Theory) → SpellsFile bytes theory → (IsAccepted theory → ⊥)
-      → CheckAnswer bytes status.StepFails not_accepted_line
-  reads_nothing : Unreadable bytes → CheckAnswer bytes status.BadText bad_text_line
-
--- RUN
 -- the status that names a limit
 abbrev pub limit_named : limits.LimitKind → LimitKind
 limit_named limits.file_limit = l.File
@@ -49,18 +46,66 @@ limit_named limits.identifier_limit = l.Identifier
 limit_named limits.number_limit = l.Number
 limit_named limits.depth_limit = l.Depth
 
--- a status and the output with it
-abbrev pub Answer : Type 0
-Answer = Status × List ℕ
-
 abbrev pub limit_answer : limits.LimitKind → Answer
 limit_answer kind = (status.Limit (limit_named kind), limit_line kind)
 
+-- TEXTS
+-- the answer to a text that isn't read: it passes a limit, or it spells nothing of its language, in
+-- which so many brackets may be open; with the line for its fault token
+pub data Unread {A : Type 0} (Spells : A → List Lexeme → Type 0) (most : ℕ)
+    (bad_line : ℕ → List ℕ) (bytes : List ℕ) : Status → List ℕ → Type 0 where
+  passes_limit : {s : Status} {output : List ℕ}
+      → option_map limit_answer (text_limit most bytes) ≡ Some (s, output)
+      → Unread Spells most bad_line bytes s output
+  spells_nothing : (token : ℕ) → text_limit most bytes ≡ None
+      → ((a : A) → Spells a (lexemes_of bytes) → ⊥) → IsFaultToken Spells (lexemes_of bytes) token
+      → Unread Spells most bad_line bytes status.BadText (bad_line token)
+
+-- the answer to a theory that no file may have: its first fault, or else the limit that it passes
+abbrev pub fault_answer : FileFault → Answer
+fault_answer fault = (status.BadFile, file_fault_line fault)
+
+abbrev pub theory_refusal : Theory → Option Answer
+theory_refusal theory = or_else (option_map fault_answer (first_file_fault theory))
+    (option_map limit_answer (theory_limit theory))
+
+-- the answer to bytes that are no file
+pub data NoFile (bytes : List ℕ) : Status → List ℕ → Type 0 where
+  unread : {s : Status} {output : List ℕ}
+      → Unread SpellsTheory standard_limits.file_nesting bad_text_line bytes s output
+      → NoFile bytes s output
+  refused : (theory : Theory) {s : Status} {output : List ℕ}
+      → text_limit standard_limits.file_nesting bytes ≡ None
+      → SpellsTheory theory (lexemes_of bytes) → theory_refusal theory ≡ Some (s, output)
+      → NoFile bytes s output
+
+-- CHECK
+-- the answer of `check` on the theory of a file
+pub data Verdict (theory : Theory) : Status → List ℕ → Type 0 where
+  is_unbuilt : (procedure step : ℕ) → first_unbuilt theory ≡ Some (procedure, step)
+      → Verdict theory status.BadFile (unbuilt_line procedure step)
+  says_yes : first_unbuilt theory ≡ None → IsAccepted theory
+      → Verdict theory status.Done (accepted_line theory)
+  has_gap : (f : Procedure) (step : Step) → first_unbuilt theory ≡ None
+      → IsFirstGap (procedures_of theory) f step
+      → Verdict theory status.GapLeft (gap_line step.number f.name step.line)
+  says_no : first_unbuilt theory ≡ None → (IsAccepted theory → ⊥)
+      → ((f : Procedure) (step : Step) → IsFirstGap (procedures_of theory) f step → ⊥)
+      → Verdict theory status.StepFails not_accepted_line
+
+-- and on bytes
+pub data CheckAnswer (bytes : List ℕ) : Status → List ℕ → Type 0 where
+  no_file : {s : Status} {output : List ℕ} → NoFile bytes s output → CheckAnswer bytes s output
+  judged : (theory : Theory) {s : Status} {output : List ℕ} → IsFile bytes theory
+      → Verdict theory s output → CheckAnswer bytes s output
+
+-- RUN
 -- the answer of an outcome; the last never comes, since the next pick is free
 abbrev pub outcome_answer : List ProgVar → Outcome → Option Answer
 outcome_answer results (ends steps values grove) =
     Some (status.Done, ended_lines steps results values grove)
-outcome_answer results (has_fault kind steps command) = Some (status.Faulted, fault_line kind steps)
+outcome_answer results (has_fault kind steps command) =
+    Some (status.Faulted, fault_line kind steps command)
 outcome_answer results (spends steps config) = Some (status.FuelSpent, spent_line steps)
 outcome_answer results (passes_limit kind) = Some (limit_answer kind)
 outcome_answer results no_pick = None
@@ -93,39 +138,38 @@ abbrev pub grove_answer : Theory → ProcedureOf Named → List Value → ℕ �
 grove_answer theory f values fuel document =
     or_else (refusal document) (outcome_answer f.results (outcome_on theory f values fuel document))
 
--- the bytes spell no document
-abbrev pub NoDocument : List ℕ → Type 0
-NoDocument bytes = (document : Trees) → SpellsDocument bytes document → ⊥
-
 -- the answer of the run on a document with these bytes
 pub data DocumentAnswer (theory : Theory) (f : ProcedureOf Named) (values : List Value) (fuel : ℕ)
     (bytes : List ℕ) : Status → List ℕ → Type 0 where
-  document_unread : NoDocument bytes
-      → DocumentAnswer theory f values fuel bytes status.BadText bad_document_text_line
-  document_read : (document : Trees) {s : Status} {output : List ℕ} → SpellsDocument bytes document
+  no_document : {s : Status} {output : List ℕ}
+      → Unread SpellsGrove standard_limits.document_nesting bad_document_text_line bytes s output
+      → DocumentAnswer theory f values fuel bytes s output
+  is_document : (document : Trees) {s : Status} {output : List ℕ}
+      → text_limit standard_limits.document_nesting bytes ≡ None
+      → SpellsGrove document (lexemes_of bytes)
       → grove_answer theory f values fuel document ≡ Some (s, output)
       → DocumentAnswer theory f values fuel bytes s output
 
 -- the file with these bytes has the procedure, and the arguments read
 abbrev pub IsCalled : List ℕ → List ℕ → List (List ℕ) → Type 0
 IsCalled bytes procedure arguments =
-    (theory : Theory) × SpellsFile bytes theory × (f : ProcedureOf Named) × (values : List Value)
+    (theory : Theory) × IsFile bytes theory × (f : ProcedureOf Named) × (values : List Value)
     × (called theory procedure arguments ≡ Some (f, values))
 
 -- it has not
 abbrev pub NotCalled : List ℕ → List ℕ → List (List ℕ) → Type 0
 NotCalled bytes procedure arguments =
-    (theory : Theory) × SpellsFile bytes theory × (called theory procedure arguments ≡ None)
+    (theory : Theory) × IsFile bytes theory × (called theory procedure arguments ≡ None)
 
 -- the answer of `run` on a file with these bytes, and on a document as far as it is told
 pub data RunAnswer (document : Option (List ℕ)) (bytes procedure : List ℕ) (fuel : ℕ)
     (arguments : List (List ℕ)) : Status → List ℕ → Type 0 where
-  file_unread : Unreadable bytes
-      → RunAnswer document bytes procedure fuel arguments status.BadText bad_text_line
+  not_run : {s : Status} {output : List ℕ} → NoFile bytes s output
+      → RunAnswer document bytes procedure fuel arguments s output
   not_called : NotCalled bytes procedure arguments
       → RunAnswer document bytes procedure fuel arguments status.BadWords bad_words_line
   is_called : (theory : Theory) (f : ProcedureOf Named) (values : List Value) (read : List ℕ)
-      {s : Status} {output : List ℕ} → SpellsFile bytes theory
+      {s : Status} {output : List ℕ} → IsFile bytes theory
       → called theory procedure arguments ≡ Some (f, values) → document ≡ Some read
       → DocumentAnswer theory f values fuel read s output
       → RunAnswer document bytes procedure fuel arguments s output

@@ -2,7 +2,7 @@
 use Rattle.std.specs.Prelude.{◌≡◌, ℕ, List, Option, Some, slice_get, map}
 use Rattle.model_shapes.specs.Trees.{WellFormed}
 use Rattle.model_machine.specs.Fitting.{ValuesFit}
-use Rattle.model_grammar.specs.Files.{SpellsFile, IsOfForm}
+use Rattle.model_files.specs.FileFaults.{IsWellFormedTheory}
 use Rattle.dom_terms.specs.Terms.{prog_var_of}
 use Rattle.grove_data.specs.Trees.{forest_of}
 use Rattle.dom_meaning.specs.declared.runs.Outcome.{Outcome}
@@ -12,6 +12,7 @@ use Rattle.theory_syntax.specs.declared.theories.Theory.{Theory}
 use Rattle.theory_syntax.specs.Theories.{procedure_of, theory_of}
 use Rattle.dom_terms.specs.Values.{value_seen}
 use Rattle.model_answers.specs.Arguments.{called, procedure_called}
+use Rattle.model_answers.specs.Texts.{IsFile}
 use Rattle.domcheck_core.specs.Answers.{DocumentAnswer, RunAnswer}
 use Rattle.domcheck_core.specs.declared.calls.Call.{Call}
 use Rattle.domcheck_core.specs.declared.runs.Opened.{Opened}
@@ -30,9 +31,9 @@ IsCallOf theory name arguments call =
     (f : Procedure) × (slice_get theory.procedures call.procedure ≡ Some f)
     × (called (theory_of theory) name arguments ≡ Some (procedure_of f, map value_seen call.values))
 
--- the theory is of the form that is read, and the values fit the parameters of the procedure
+-- the theory is well formed, and the values fit the parameters of the procedure
 pub record FitsCall (theory : Theory) (call : Call) : Type 0 where
-  pub of_form : IsOfForm (theory_of theory)
+  pub well_formed : IsWellFormedTheory (theory_of theory)
   pub procedure : Procedure
   pub stands : slice_get theory.procedures call.procedure ≡ Some procedure
   pub fit : ValuesFit (map prog_var_of procedure.params) (map value_seen call.values)
@@ -40,7 +41,7 @@ pub record FitsCall (theory : Theory) (call : Call) : Type 0 where
 -- what the bytes of a file come to: a call, or the answer whatever the document is
 abbrev pub IsOpened : List ℕ → List ℕ → List (List ℕ) → Opened → Type 0
 IsOpened bytes name arguments (opened.Called theory call) =
-    SpellsFile bytes (theory_of theory) × IsCallOf theory name arguments call
+    IsFile bytes (theory_of theory) × IsCallOf theory name arguments call
 IsOpened bytes name arguments (opened.Answered reply) =
     (document : Option (List ℕ)) (fuel : ℕ)
     → RunAnswer document bytes name fuel arguments reply.status reply.output

@@ -6,8 +6,8 @@ use Rattle.outside_io.specs.Pieces.{Took, TookPrefix}
 use Rattle.model_commands.specs.Theories.{Theory, procedures_of}
 use Rattle.model_machine.specs.LocalTriples.{MeetsItsSpecification}
 use Rattle.model_rules.specs.Accepted.{Each}
-use Rattle.model_grammar.specs.Files.{SpellsFile}
 use Rattle.model_answers.specs.Words.{Request, check, run, reading_of}
+use Rattle.model_answers.specs.Texts.{IsFile}
 use Rattle.domcheck_core.specs.Answers.{Books, IsAnswer, IsTold, IsCalled, NotCalled}
 use Rattle.domcheck_core.specs.declared.status.Status.{Status}
 use Rattle.domcheck_core.specs.declared.status.Status.TheVariants as status
@@ -22,11 +22,11 @@ OfFile None books P = Unit
 OfFile (Some (check file)) books P = Told (books file) P
 OfFile (Some (run file procedure document fuel arguments)) books P = Unit
 
--- The file spells a theory, and each of its procedures, started in any context round data that
+-- The bytes are a file of a theory, and each of its procedures, started in any context round data that
 -- meets its requires, faults in no number of steps and ends with data that meets its ensures.
 abbrev pub IsProved : List ℕ → Type 0
 IsProved bytes =
-    (theory : Theory) × SpellsFile bytes theory
+    (theory : Theory) × IsFile bytes theory
     × Each (MeetsItsSpecification (procedures_of theory)) (procedures_of theory)
 
 -- the three statuses that may come for any file: want of memory, and a fault of library or sink
@@ -53,9 +53,9 @@ BadWordsExactly r books s = Unit
 -- the numbers of the statuses that a request may have, whatever is told
 abbrev pub statuses : Option Request → List ℕ
 statuses None = 2 ∷ 10 ∷ 12 ∷ []
-statuses (Some (check file)) = 0 ∷ 1 ∷ 3 ∷ 10 ∷ 11 ∷ 12 ∷ []
+statuses (Some (check file)) = 0 ∷ 1 ∷ 3 ∷ 4 ∷ 8 ∷ 9 ∷ 10 ∷ 11 ∷ 12 ∷ []
 statuses (Some (run file procedure document fuel arguments)) =
-    0 ∷ 2 ∷ 3 ∷ 5 ∷ 6 ∷ 7 ∷ 8 ∷ 10 ∷ 11 ∷ 12 ∷ []
+    0 ∷ 2 ∷ 3 ∷ 4 ∷ 5 ∷ 6 ∷ 7 ∷ 8 ∷ 10 ∷ 11 ∷ 12 ∷ []
 
 -- a name that the request reads, whose count rose: that of the document only where every test
 -- before its reading passes

@@ -2,5 +2,5 @@ pub mod Answers
 pub mod Books
 pub mod Calls
 pub mod Clauses
-pub mod Groves
 pub mod Numbers
+pub mod Refusals

@@ -1,18 +1,17 @@
 // The books that the words name: what is done with their bytes once they are read.
 ghost use Rattle.std.specs.Prelude.{◌≡◌, ◌≤◌, ◌<◌, ℕ, List, Some, length, IfOk, IsErrOf, MatchOption};
 ghost use Rattle.outside_io.specs.Causes.{Rose, Told};
-ghost use Rattle.model_limits.specs.Limits.{standard_limits};
-ghost use Rattle.domcheck_core.specs.Answers.{CheckAnswer};
+ghost use Rattle.model_limits.specs.Limits.{file_limit, standard_limits};
+ghost use Rattle.domcheck_core.specs.Answers.{CheckAnswer, limit_answer};
 ghost use Rattle.domcheck_core.specs.Books.{ReadFrom};
 ghost use Rattle.domcheck_core.specs.Calls.{FitsCall, IsOpened, CallAnswer};
 
 use crate::calls::Call;
 use crate::checks::check_bytes;
-use crate::replies::{Refusal, Reply, bad_text, reported};
+use crate::replies::{Refusal, Reply, refused};
 use crate::runs::{Opened, open_file, run_document};
-use crate::status::Status;
-use dom_terms::{Text, Texts};
-use fault_report::Report;
+use crate::texts::past;
+use dom_terms::{LimitKind, OutOfMemory, Text, Texts};
 use outside_io::{Library, ReadAllFault, read_all};
 use std::alloc::Global;
 use theory_syntax::Theory;
@@ -39,6 +38,13 @@ fn read_book<L: Library>(
     }
 }
 
+// The answer to a book with more bytes than a file or a document may have.
+fn too_large(alloc: Global) -> Result<Reply, OutOfMemory>
+    ensures { IfOk result (λ r. limit_answer file_limit ≡ (r.status, r.output)) }
+{
+    refused(alloc, past(LimitKind::File))
+}
+
 /// The answer of `check` on the file of this name.
 pub fn check_book<L: Library>(alloc: Global, library: &mut L, file: &Text) -> Result<Reply, Refusal>
     ensures answer { IfOk result (λ r. ReadFrom (L.book library.old file.now)
@@ -51,7 +57,7 @@ pub fn check_book<L: Library>(alloc: Global, library: &mut L, file: &Text) -> Re
 {
     match read_book(alloc, library, file.as_str())? {
         Some(bytes) => Ok(check_bytes(alloc, &bytes)?),
-        None => Ok(bad_text(alloc)?),
+        None => Ok(too_large(alloc)?),
     }
 }
 
@@ -73,7 +79,7 @@ pub fn open_book<L: Library>(
 {
     match read_book(alloc, library, file.as_str())? {
         Some(bytes) => Ok(open_file(alloc, &bytes, procedure, arguments)?),
-        None => Ok(Opened::Answered(bad_text(alloc)?)),
+        None => Ok(Opened::Answered(too_large(alloc)?)),
     }
 }
 
@@ -97,6 +103,6 @@ pub fn run_book<L: Library>(
 {
     match read_book(alloc, library, document.as_str())? {
         Some(bytes) => Ok(run_document(alloc, theory, call, &bytes, fuel)?),
-        None => Ok(reported(alloc, Status::BadText, &Report::BadDocumentText)?),
+        None => Ok(too_large(alloc)?),
     }
 }

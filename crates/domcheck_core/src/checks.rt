@@ -1,29 +1,63 @@
 // Checks of a file, over its bytes.
-ghost use Rattle.std.specs.Prelude.{◌≡◌, ℕ, List, IfOk};
+ghost use Rattle.std.specs.Prelude.{◌≡◌, ◌<◌, ℕ, List, None, Some, IfOk, slice_get};
+ghost use Rattle.model_commands.specs.Theories.{procedures_of, nameless_procedure, nameless_step};
+ghost use Rattle.model_files.specs.Sizes.{TheoryIsSmall};
+ghost use Rattle.model_rules.specs.Gaps.{IsFirstGap};
+ghost use Rattle.model_rules.specs.Checked.{first_unbuilt};
 ghost use Rattle.theory_syntax.specs.Theories.{theory_of};
-ghost use Rattle.model_grammar.specs.Files.{SpellsFile};
-ghost use Rattle.domcheck_core.specs.Answers.{CheckAnswer};
+ghost use Rattle.domcheck_core.specs.Answers.{Verdict, CheckAnswer};
 ghost use Rattle.domcheck_core.specs.Clauses.{IsProved};
 
 use crate::file::read_file;
-use crate::replies::{Reply, accepted, bad_text, reported};
+use crate::replies::{Reply, accepted, refused, reported};
 use crate::status::Status;
-use dom_terms::OutOfMemory;
+use dom_terms::{Copied, OutOfMemory};
 use fault_report::Report;
-use hoare_kernel::is_accepted;
+use hoare_kernel::{Refusal, Unbuilt, check_theory, first_unbuilt};
 use std::alloc::Global;
 use theory_syntax::Theory;
 
-// The answer on the theory that a file spells.
+// The answer where the first bad place is a gap: that step of that procedure, each counted from 1.
+fn gap(alloc: Global, theory: &Theory, procedure: u32, step: u32) -> Result<Reply, OutOfMemory> {
+    let Some(procedure) = theory.procedures.get(procedure as usize - 1) else {
+        unreachable!();
+    };
+    let Some(step) = procedure.proof.get(step as usize - 1) else {
+        unreachable!();
+    };
+    let report = Report::GapLeft {
+        step: step.number,
+        procedure: procedure.name.copy(alloc)?,
+        line: step.line,
+    };
+    reported(alloc, Status::GapLeft, &report)
+}
+
+// The answer on a theory whose rules are all checked.
 fn judge(alloc: Global, theory: &Theory) -> Result<Reply, OutOfMemory>
-    requires { (bytes : List ℕ) × SpellsFile bytes (theory_of theory.now) }
-    ensures { (bytes : List ℕ) → SpellsFile bytes (theory_of theory.now)
-        → IfOk result (λ r. CheckAnswer bytes r.status r.output) }
+    requires small { TheoryIsSmall (theory_of theory.now) }
+    requires built { first_unbuilt (theory_of theory.now) ≡ None }
+    ensures { IfOk result (λ r. Verdict (theory_of theory.now) r.status r.output) }
 {
-    if is_accepted(alloc, theory)? {
-        accepted(alloc, theory)
-    } else {
-        reported(alloc, Status::StepFails, &Report::NotAccepted)
+    match check_theory(alloc, theory) {
+        Ok(counts) => accepted(alloc, counts.procedures, counts.steps),
+        Err(Refusal::Gap { procedure, step }) => gap(alloc, theory, procedure, step),
+        Err(Refusal::NotAccepted) => reported(alloc, Status::StepFails, &Report::NotAccepted),
+        Err(Refusal::OutOfMemory) => Err(OutOfMemory),
+    }
+}
+
+// The answer on the theory of a file.
+fn verdict(alloc: Global, theory: &Theory) -> Result<Reply, OutOfMemory>
+    requires { TheoryIsSmall (theory_of theory.now) }
+    ensures { IfOk result (λ r. Verdict (theory_of theory.now) r.status r.output) }
+{
+    match first_unbuilt(theory) {
+        Some(Unbuilt { procedure, step }) => {
+            let report = Report::Unbuilt { procedure, step };
+            reported(alloc, Status::BadFile, &report)
+        }
+        None => judge(alloc, theory),
     }
 }
 
@@ -37,8 +71,8 @@ pub fn check_bytes(alloc: Global, bytes: &[u8]) -> Result<Reply, OutOfMemory>
     // A yes is a proof.
     ensures soundness_of_yes { IfOk result (λ r. r.status ≡ Status.Done → IsProved bytes.now) }
 {
-    match read_file(alloc, bytes)? {
-        Some(theory) => judge(alloc, &theory),
-        None => bad_text(alloc),
+    match read_file(alloc, bytes) {
+        Ok(theory) => verdict(alloc, &theory),
+        Err(why) => refused(alloc, why),
     }
 }

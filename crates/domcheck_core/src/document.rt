@@ -1,31 +1,38 @@
 // From the bytes of a document to the grove that it spells.
-ghost use Rattle.std.specs.Prelude.{IfOk, MatchOption};
+ghost use Rattle.std.specs.Prelude.{◌≡◌, None, IfOk, IfErr};
+ghost use Rattle.model_limits.specs.Limits.{standard_limits};
+ghost use Rattle.model_text.specs.Nesting.{lexemes_of};
+ghost use Rattle.model_documents.specs.Grammar.{SpellsGrove};
+ghost use Rattle.model_answers.specs.Output.{bad_document_text_line};
+ghost use Rattle.model_answers.specs.Texts.{text_limit};
 ghost use Rattle.logic_text.specs.RawGroves.{raw_forest_of};
-ghost use Rattle.model_answers.specs.Documents.{SpellsDocument};
-ghost use Rattle.domcheck_core.specs.Answers.{NoDocument};
+ghost use Rattle.domcheck_core.specs.Answers.{Unread};
+ghost use Rattle.domcheck_core.specs.Refusals.{IfAnswer};
 
-use dom_terms::{OutOfMemory, limits};
+use crate::replies::Refused;
+use crate::status::Status;
+use crate::texts::tokens_within;
+use dom_terms::limits;
+use fault_report::Report;
 use logic_text::{RawGrove, read_grove};
-use outside_io::MOST_BYTES;
 use std::alloc::Global;
-use text_tokens::{token_limit, token_list};
 use token_readers::TextFault;
 
-/// The grove that the bytes spell, whatever its numbers, or none where they spell no document.
-pub fn read_document(alloc: Global, bytes: &[u8]) -> Result<Option<RawGrove>, OutOfMemory>
-    ensures { IfOk result (λ found. MatchOption found (NoDocument bytes.now)
-        (λ g. SpellsDocument bytes.now (raw_forest_of g))) }
+/// The grove that the bytes of a document spell, whatever its numbers.
+pub fn read_document(alloc: Global, bytes: &[u8]) -> Result<RawGrove, Refused>
+    ensures reads { IfOk result
+        (λ g. text_limit standard_limits.document_nesting bytes.now ≡ None) }
+    ensures spelled { IfOk result (λ g. SpellsGrove (raw_forest_of g) (lexemes_of bytes.now)) }
+    ensures told { IfErr result (λ e. IfAnswer e
+        (Unread SpellsGrove standard_limits.document_nesting bad_document_text_line bytes.now)) }
 {
-    if bytes.len() > MOST_BYTES {
-        return Ok(None);
-    }
-    let tokens = token_list(alloc, bytes)?;
-    if token_limit(&tokens, limits::DOCUMENT_NESTING).is_some() {
-        return Ok(None);
-    }
+    let tokens = tokens_within(alloc, bytes, limits::DOCUMENT_NESTING)?;
     match read_grove(alloc, &tokens) {
-        Ok(grove) => Ok(Some(grove)),
-        Err(TextFault::BadText { .. }) => Ok(None),
-        Err(TextFault::OutOfMemory) => Err(OutOfMemory),
+        Ok(grove) => Ok(grove),
+        Err(TextFault::BadText { token }) => {
+            let report = Report::BadDocumentText { token };
+            Err(Refused::Answer(Status::BadText, report))
+        }
+        Err(TextFault::OutOfMemory) => Err(Refused::OutOfMemory),
     }
 }

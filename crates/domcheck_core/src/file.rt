@@ -1,39 +1,82 @@
 // From the bytes of a file to its theory.
-ghost use Rattle.std.specs.Prelude.{IfOk, MatchOption};
+ghost use Rattle.std.specs.Prelude.{◌≡◌, ℕ, List, None, IfOk, IfErr};
+ghost use Rattle.model_text.specs.Nesting.{lexemes_of};
+ghost use Rattle.model_grammar.specs.Theories.{SpellsTheory};
+ghost use Rattle.model_answers.specs.Texts.{IsFile};
+ghost use Rattle.model_answers.specs.Output.{bad_text_line};
+ghost use Rattle.model_files.specs.Sizes.{TheoryIsSmall};
+ghost use Rattle.model_limits.specs.Limits.{standard_limits};
 ghost use Rattle.theory_syntax.specs.Theories.{theory_of};
-ghost use Rattle.model_grammar.specs.Files.{SpellsFile};
-ghost use Rattle.domcheck_core.specs.Answers.{Unreadable};
+ghost use Rattle.domcheck_core.specs.Answers.{Unread, NoFile, theory_refusal};
+ghost use Rattle.domcheck_core.specs.Refusals.{IfAnswer, IsRefusal};
 
-use crate::form::is_of_form;
-use dom_terms::{OutOfMemory, limits};
-use outside_io::MOST_BYTES;
+use crate::limits::theory_limit;
+use crate::replies::Refused;
+use crate::status::Status;
+use crate::texts::{past, tokens_within};
+use dom_syntax::{ProgramFault, check_program};
+use dom_terms::limits;
+use fault_report::Report;
 use proof_text::read_theory;
 use std::alloc::Global;
-use text_tokens::{token_limit, token_list};
 use theory_syntax::Theory;
 use token_readers::TextFault;
 
-/// The theory that the bytes spell, or none where they spell none of the form that is read.
-pub fn read_file(alloc: Global, bytes: &[u8]) -> Result<Option<Theory>, OutOfMemory>
-    ensures { IfOk result (λ found. MatchOption found (Unreadable bytes.now)
-        (λ t. SpellsFile bytes.now (theory_of t))) }
+// The theory that the bytes spell, whether a file may have it or not.
+fn spelled_theory(alloc: Global, bytes: &[u8]) -> Result<Theory, Refused>
+    ensures reads { IfOk result (λ t. text_limit standard_limits.file_nesting bytes.now ≡ None) }
+    ensures spelled { IfOk result (λ t. SpellsTheory (theory_of t) (lexemes_of bytes.now)) }
+    ensures small { IfOk result (λ t. TheoryIsSmall (theory_of t)) }
+    ensures told { IfErr result (λ e. IfAnswer e
+        (Unread SpellsTheory standard_limits.file_nesting bad_text_line bytes.now)) }
 {
-    if bytes.len() > MOST_BYTES {
-        return Ok(None);
-    }
-    let tokens = token_list(alloc, bytes)?;
-    if token_limit(&tokens, limits::FILE_NESTING).is_some() {
-        return Ok(None);
-    }
+    let tokens = tokens_within(alloc, bytes, limits::FILE_NESTING)?;
     match read_theory(alloc, &tokens) {
-        Ok(theory) => {
-            if is_of_form(alloc, &theory)? {
-                Ok(Some(theory))
-            } else {
-                Ok(None)
-            }
+        Ok(theory) => Ok(theory),
+        Err(TextFault::BadText { token }) => {
+            Err(Refused::Answer(Status::BadText, Report::BadText { token }))
         }
-        Err(TextFault::BadText { .. }) => Ok(None),
-        Err(TextFault::OutOfMemory) => Err(OutOfMemory),
+        Err(TextFault::OutOfMemory) => Err(Refused::OutOfMemory),
     }
+}
+
+// Whether a file may have the theory: it is well formed, and passes no limit.
+fn admit(alloc: Global, theory: &Theory) -> Result<(), Refused>
+    requires { TheoryIsSmall (theory_of theory.now) }
+    ensures passes { IfOk result (λ _. theory_refusal (theory_of theory.now) ≡ None) }
+    ensures told { IfErr result (λ e. IsRefusal e (theory_refusal (theory_of theory.now))) }
+{
+    match check_program(alloc, theory) {
+        Ok(()) => match theory_limit(theory) {
+            Some(kind) => Err(past(kind)),
+            None => Ok(()),
+        },
+        Err(
+            ProgramFault::BadProgram {
+                procedure,
+                step,
+                kind,
+            },
+        ) => {
+            let report = Report::BadFile {
+                procedure,
+                step,
+                kind,
+            };
+            Err(Refused::Answer(Status::BadFile, report))
+        }
+        Err(ProgramFault::OutOfMemory) => Err(Refused::OutOfMemory),
+    }
+}
+
+/// The theory of a file with these bytes: they pass no limit, and spell it, and it is well formed
+/// and passes none. The refusals come in the order in which the definitions have them.
+pub fn read_file(alloc: Global, bytes: &[u8]) -> Result<Theory, Refused>
+    ensures is { IfOk result (λ t. IsFile bytes.now (theory_of t)) }
+    ensures small { IfOk result (λ t. TheoryIsSmall (theory_of t)) }
+    ensures told { IfErr result (λ e. IfAnswer e (NoFile bytes.now)) }
+{
+    let theory = spelled_theory(alloc, bytes)?;
+    admit(alloc, &theory)?;
+    Ok(theory)
 }

@@ -7,70 +7,62 @@ ghost use Rattle.grove_data.specs.Trees.{forest_of};
 ghost use Rattle.logic_text.specs.RawGroves.{raw_forest_of};
 ghost use Rattle.model_terms.specs.TermLimits.{or_else};
 ghost use Rattle.domcheck_core.specs.Answers.{repeat_refusal, size_refusal, refusal};
-ghost use Rattle.domcheck_core.specs.Groves.{IsUnfit};
+ghost use Rattle.domcheck_core.specs.Refusals.{IsRefusal};
 
+use crate::replies::Refused;
 use crate::status::Status;
+use crate::texts::past;
 use dom_terms::{LimitKind, limits};
 use fault_report::Report;
 use grove_data::{Grove, UniqueFault, check_unique, has_at_most};
 use logic_text::{RangeFault, RawGrove, to_grove};
 use std::alloc::Global;
 
-/// Why a run may not start on a grove.
-#[derive(Clone, Copy, Debug, PartialEq, Eq)]
-pub enum Unfit {
-    /// The answer is this one.
-    Refused(Status, Report),
-    /// Memory ran out.
-    OutOfMemory,
-}
-
 // The grove, unless it has too many nodes.
-fn within_nodes(grove: Grove) -> Result<Grove, Unfit>
+fn within_nodes(grove: Grove) -> Result<Grove, Refused>
     ensures same { IfOk result (λ kept. forest_of kept ≡ forest_of grove) }
     ensures passes { IfOk result (λ kept. size_refusal (forest_of grove) ≡ None) }
-    ensures told { IfErr result (λ e. IsUnfit e (size_refusal (forest_of grove))) }
+    ensures told { IfErr result (λ e. IsRefusal e (size_refusal (forest_of grove))) }
 {
     if has_at_most(&grove, limits::NODES) {
         return Ok(grove);
     }
-    let kind = LimitKind::Nodes;
-    Err(Unfit::Refused(Status::Limit(kind), Report::Limit { kind }))
+    Err(past(LimitKind::Nodes))
 }
 
 // The grove, unless a number repeats or it has too many nodes.
-fn without_repeats(alloc: Global, grove: Grove) -> Result<Grove, Unfit>
+fn without_repeats(alloc: Global, grove: Grove) -> Result<Grove, Refused>
     ensures same { IfOk result (λ kept. forest_of kept ≡ forest_of grove) }
     ensures unique { IfOk result (λ kept. first_repeat (forest_of grove) ≡ None) }
     ensures passes { let found = repeat_refusal (forest_of grove) in
         IfOk result (λ kept. or_else found (size_refusal (forest_of grove)) ≡ None) }
     ensures told { let found = repeat_refusal (forest_of grove) in
-        IfErr result (λ e. IsUnfit e (or_else found (size_refusal (forest_of grove)))) }
+        IfErr result (λ e. IsRefusal e (or_else found (size_refusal (forest_of grove)))) }
 {
     match check_unique(alloc, &grove) {
         Ok(()) => within_nodes(grove),
         Err(UniqueFault::Repeated { kind, number }) => {
             let report = Report::Repeated { kind, number };
-            Err(Unfit::Refused(Status::BadDocument, report))
+            Err(Refused::Answer(Status::BadDocument, report))
         }
-        Err(UniqueFault::OutOfMemory) => Err(Unfit::OutOfMemory),
+        Err(UniqueFault::OutOfMemory) => Err(Refused::OutOfMemory),
     }
 }
 
 /// The grove of a document, unless a number is out of range, a number repeats or it has too many
 /// nodes: the first of these, in this order.
-pub fn fit_grove(alloc: Global, raw: &RawGrove) -> Result<Grove, Unfit>
+pub fn fit_grove(alloc: Global, raw: &RawGrove) -> Result<Grove, Refused>
     ensures same { IfOk result (λ kept. forest_of kept ≡ raw_forest_of raw.now) }
     ensures shaped { IfOk result (λ kept. Shaped (shape grove) (raw_forest_of raw.now)) }
     ensures passes { IfOk result (λ kept. refusal (raw_forest_of raw.now) ≡ None) }
-    ensures told { IfErr result (λ e. IsUnfit e (refusal (raw_forest_of raw.now))) }
+    ensures told { IfErr result (λ e. IsRefusal e (refusal (raw_forest_of raw.now))) }
 {
     match to_grove(alloc, raw) {
         Ok(grove) => without_repeats(alloc, grove),
         Err(RangeFault::OutOfRange { kind, number }) => {
             let report = Report::OutOfRange { kind, number };
-            Err(Unfit::Refused(Status::BadDocument, report))
+            Err(Refused::Answer(Status::BadDocument, report))
         }
-        Err(RangeFault::OutOfMemory) => Err(Unfit::OutOfMemory),
+        Err(RangeFault::OutOfMemory) => Err(Refused::OutOfMemory),
     }
 }

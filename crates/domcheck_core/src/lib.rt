@@ -17,12 +17,12 @@ mod calls;
 mod checks;
 mod document;
 mod file;
-mod form;
 mod groves;
 mod limits;
 mod replies;
 mod runs;
 mod status;
+mod texts;
 
 use answers::answer_words;
 pub use checks::check_bytes;

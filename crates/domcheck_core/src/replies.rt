@@ -1,17 +1,15 @@
 // Answers with what is written, and why there is none.
-ghost use Rattle.std.specs.Prelude.{◌≡◌, IfOk, string_bytes};
-ghost use Rattle.model_answers.specs.Output.{line, accepted_text, accepted_line, bad_text_line};
-ghost use Rattle.model_grammar.specs.Files.{IsOfForm};
-ghost use Rattle.theory_syntax.specs.Theories.{theory_of};
+ghost use Rattle.std.specs.Prelude.{◌≡◌, ℕ, List, IfOk, string_bytes};
+ghost use Rattle.model_answers.specs.Output.{line, accepted_text};
 ghost use Rattle.fault_report.specs.Lines.{line_of};
+ghost use Rattle.domcheck_core.specs.Refusals.{IfAnswer};
 ghost use Rattle.domcheck_core.specs.declared.replies.Refusal.TheVariants.{OutOfMemory};
+ghost use Rattle.domcheck_core.specs.declared.replies.Refused.TheVariants.{OutOfMemory as RanOut};
 
-use crate::limits::count_steps;
 use crate::status::Status;
 use dom_terms::{OutOfMemory, Text};
 use fault_report::{Report, status_line};
 use std::alloc::{AllocError, Global};
-use theory_syntax::Theory;
 
 /// An answer with the output that is written.
 #[derive(Drop)]
@@ -20,6 +18,23 @@ pub struct Reply {
     pub status: Status,
     /// What is written.
     pub output: Text,
+}
+
+/// Why there is no value: the answer is this one in its place.
+#[derive(Drop)]
+pub enum Refused {
+    /// The status, with the report that is written.
+    Answer(Status, Report),
+    /// Memory ran out.
+    OutOfMemory,
+}
+
+impl From<OutOfMemory> for Refused {
+    ghost from_gives = { λ _ e. e ≡ RanOut };
+
+    fn from(_e: OutOfMemory) -> Refused {
+        Refused::OutOfMemory
+    }
 }
 
 /// Why there is no answer.
@@ -49,32 +64,29 @@ pub fn reported(alloc: Global, status: Status, report: &Report) -> Result<Reply,
     Ok(Reply { status, output })
 }
 
-/// The answer where the file isn't of the form that is read.
-pub fn bad_text(alloc: Global) -> Result<Reply, OutOfMemory>
-    ensures status { IfOk result (λ r. r.status ≡ Status.BadText) }
-    ensures output { IfOk result (λ r. r.output ≡ bad_text_line) }
+/// The answer to what is refused.
+pub fn refused(alloc: Global, why: Refused) -> Result<Reply, OutOfMemory>
+    ensures { IfOk result (λ r. IfAnswer why (λ s output. (r.status ≡ s) × (r.output ≡ output))) }
 {
-    reported(alloc, Status::BadText, &Report::BadText)
+    match why {
+        Refused::Answer(status, report) => reported(alloc, status, &report),
+        Refused::OutOfMemory => Err(OutOfMemory),
+    }
 }
 
 // The text of the line for an accepted theory.
-fn accepted_text(alloc: Global, procedures: usize, steps: usize) -> Result<String, AllocError>
+fn accepted_text(alloc: Global, procedures: u32, steps: u32) -> Result<String, AllocError>
     ensures { IfOk result (λ s. string_bytes s ≡ accepted_text procedures steps) }
 {
     format!(in alloc; "accepted: {procedures} procedures, {steps} steps")
 }
 
-/// The answer for an accepted theory of the form that is read.
-pub fn accepted(alloc: Global, theory: &Theory) -> Result<Reply, OutOfMemory>
-    requires { IsOfForm (theory_of theory.now) }
+/// The answer for an accepted theory of so many procedures and steps.
+pub fn accepted(alloc: Global, procedures: u32, steps: u32) -> Result<Reply, OutOfMemory>
     ensures status { IfOk result (λ r. r.status ≡ Status.Done) }
-    ensures output { IfOk result (λ r. r.output ≡ accepted_line (theory_of theory.now)) }
+    ensures output { IfOk result (λ r. r.output ≡ line (accepted_text procedures steps)) }
 {
-    let procedures = theory.procedures.as_slice();
-    let Some(steps) = count_steps(procedures) else {
-        unreachable!();
-    };
-    let text = accepted_text(alloc, procedures.len(), steps)?;
+    let text = accepted_text(alloc, procedures, steps)?;
     let mut output = Text::from_str(alloc, text.as_str())?;
     output.push('\n')?;
     let status = Status::Done;

@@ -9,14 +9,15 @@ ghost use Rattle.theory_syntax.specs.declared.theories.Procedure.{Procedure};
 ghost use Rattle.theory_syntax.specs.Theories.{procedure_of, theory_of};
 ghost use Rattle.dom_meaning.specs.Runs.{IsOutcome};
 ghost use Rattle.logic_text.specs.RawGroves.{raw_forest_of};
+ghost use Rattle.model_answers.specs.Texts.{IsFile};
 ghost use Rattle.domcheck_core.specs.Answers.{outcome_answer, grove_answer, RunAnswer};
 ghost use Rattle.domcheck_core.specs.Calls.{FitsCall, IsWhole, IsOpened, CallAnswer};
 
 use crate::calls::{Call, read_call};
 use crate::document::read_document;
 use crate::file::read_file;
-use crate::groves::{Unfit, fit_grove};
-use crate::replies::{Reply, bad_text, reported};
+use crate::groves::fit_grove;
+use crate::replies::{Reply, refused, reported};
 use crate::status::Status;
 use dom_meaning::{Outcome, run_plain, start};
 use dom_terms::{OutOfMemory, ProgVar, Text, Texts, Values};
@@ -35,6 +36,25 @@ pub enum Opened {
     Answered(Reply),
 }
 
+// The call that the words ask for of a theory, or the answer where there is none.
+fn open_theory(
+    alloc: Global,
+    theory: Theory,
+    procedure: &Text,
+    arguments: &Texts,
+) -> Result<Opened, OutOfMemory>
+    ensures { (file : List ℕ) → IsFile file (theory_of theory)
+        → IfOk result (IsOpened file procedure.now arguments.now) }
+{
+    match read_call(alloc, &theory, procedure, arguments)? {
+        Some(call) => Ok(Opened::Called(theory, call)),
+        None => {
+            let reply = reported(alloc, Status::BadWords, &Report::BadWords)?;
+            Ok(Opened::Answered(reply))
+        }
+    }
+}
+
 /// The call that the words ask for of a file with these bytes, or the answer where there is none.
 pub fn open_file(
     alloc: Global,
@@ -44,15 +64,9 @@ pub fn open_file(
 ) -> Result<Opened, OutOfMemory>
     ensures { IfOk result (IsOpened file.now procedure.now arguments.now) }
 {
-    let Some(theory) = read_file(alloc, file)? else {
-        return Ok(Opened::Answered(bad_text(alloc)?));
-    };
-    match read_call(alloc, &theory, procedure, arguments)? {
-        Some(call) => Ok(Opened::Called(theory, call)),
-        None => {
-            let reply = reported(alloc, Status::BadWords, &Report::BadWords)?;
-            Ok(Opened::Answered(reply))
-        }
+    match read_file(alloc, file) {
+        Ok(theory) => open_theory(alloc, theory, procedure, arguments),
+        Err(why) => Ok(Opened::Answered(refused(alloc, why)?)),
     }
 }
 
@@ -94,8 +108,17 @@ fn outcome_reply(
             values,
             grove,
         } => ended(alloc, steps, results, &values, grove),
-        Outcome::Fault { kind, steps, .. } => {
-            reported(alloc, Status::Faulted, &Report::Faulted { kind, steps })
+        Outcome::Fault {
+            kind,
+            steps,
+            command,
+        } => {
+            let report = Report::Faulted {
+                kind,
+                steps,
+                command,
+            };
+            reported(alloc, Status::Faulted, &report)
         }
         Outcome::Spent { .. } => {
             reported(alloc, Status::FuelSpent, &Report::FuelSpent { steps: fuel })
@@ -128,8 +151,7 @@ fn run_on(
             let outcome = run_plain(alloc, theory, config, fuel);
             outcome_reply(alloc, called.results.as_slice(), outcome, fuel)
         }
-        Err(Unfit::Refused(status, report)) => reported(alloc, status, &report),
-        Err(Unfit::OutOfMemory) => Err(OutOfMemory),
+        Err(why) => refused(alloc, why),
     }
 }
 
@@ -144,9 +166,9 @@ pub fn run_document(
     requires { FitsCall theory.now call }
     ensures { IfOk result (λ r. CallAnswer theory.now call fuel document.now r.status r.output) }
 {
-    match read_document(alloc, document)? {
-        Some(raw) => run_on(alloc, theory, call, &raw, fuel),
-        None => reported(alloc, Status::BadText, &Report::BadDocumentText),
+    match read_document(alloc, document) {
+        Ok(raw) => run_on(alloc, theory, call, &raw, fuel),
+        Err(why) => refused(alloc, why),
     }
 }
 

@@ -9,13 +9,16 @@ use dom_terms::LimitKind;
 pub enum Status {
     /// The whole output of the command was written.
     Done,
-    /// A step isn't an instance of its rule, or a proof doesn't end in its procedure's own triple.
+    /// The first bad place is a step that isn't an instance of its rule, or the end of a proof that
+    /// doesn't end in its procedure's own triple.
     StepFails,
     /// The words have none of the forms, or they name no procedure of the file or no arguments for
     /// it.
     BadWords,
-    /// The file isn't of the form that is read, or the document's tokens spell no grove.
+    /// The tokens of the file spell no theory, or those of the document no grove.
     BadText,
+    /// The file reads and isn't well formed, or a step names a rule that isn't checked yet.
+    BadFile,
     /// A number of the document is out of range, or one repeats.
     BadDocument,
     /// The run faults within the fuel.
@@ -24,6 +27,8 @@ pub enum Status {
     FuelSpent,
     /// A counted quantity passes its limit.
     Limit(LimitKind),
+    /// The first bad place of the file is a gap, a step whose reason is left open.
+    GapLeft,
     /// Memory ran out, at any place; nothing was written.
     OutOfMemory,
     /// The library failed while the file or the document was read; nothing was written.
@@ -42,10 +47,12 @@ impl Status {
             Status::StepFails => 1,
             Status::BadWords => 2,
             Status::BadText => 3,
+            Status::BadFile => 4,
             Status::BadDocument => 5,
             Status::Faulted => 6,
             Status::FuelSpent => 7,
             Status::Limit(_) => 8,
+            Status::GapLeft => 9,
             Status::OutOfMemory => 10,
             Status::ReadFault => 11,
             Status::WriteFault => 12,

@@ -1,6 +1,6 @@
 //! The lines that the program prints, but for that of an accepted theory.
 //! Promises that each is the text of the definitions, byte by byte.
-//! Stands on the text of groves and on the machine's faults.
+//! Stands on the text of groves and commands and on the faults of files and of the machine.
 #![tactic(auto)]
 
 mod endings;

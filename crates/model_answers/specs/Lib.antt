@@ -1,4 +1,4 @@
 pub mod Words
 pub mod Arguments
-pub mod Documents
+pub mod Texts
 pub mod Output

@@ -4,6 +4,7 @@ use Rattle.std.specs.Fmt.{decimal, signed_decimal}
 use Rattle.model_shapes.specs.Trees.{Trees}
 use Rattle.model_shapes.specs.Values.{Value, null, nolist, node_number, list_number, int, str, boolean}
 use Rattle.model_terms.specs.Stores.{ProgVar, named}
+use Rattle.model_commands.specs.Commands.{Command}
 use Rattle.model_commands.specs.Theories.{Theory}
 use Rattle.model_machine.specs.Machine.{FaultKind, no_node, no_list, cycle, not_child}
 use Rattle.model_limits.specs.Limits.{LimitKind, file_limit, nesting_limit, text_limit, variables_limit, steps_limit, nodes_limit, identifier_limit, number_limit, depth_limit}
@@ -11,7 +12,9 @@ use Rattle.model_text.specs.Tokens.{newline}
 use Rattle.model_documents.specs.Numbers.{Numbered, node_numbered, list_numbered}
 use Rattle.model_documents.specs.Roots.{sorted_roots}
 use Rattle.model_documents.specs.Printed.{quoted, grove_text}
+use Rattle.model_files.specs.FileFaults.{FileKind, version_kind, twice_kind, unknown_kind, sort_kind, constant_kind, results_kind, scope_kind, rule_kind, number_kind, FileFault}
 use Rattle.model_files.specs.FileLimits.{step_count}
+use Rattle.model_grammar.specs.Writing.{text_of, command_lexemes}
 
 -- a text with the newline that ends it
 abbrev pub line : List ℕ → List ℕ
@@ -34,11 +37,41 @@ not_accepted_line = line (codes "not accepted")
 abbrev pub bad_words_line : List ℕ
 bad_words_line = line (codes "bad words")
 
-abbrev pub bad_text_line : List ℕ
-bad_text_line = line (codes "bad text")
+-- `step K of PROC, line L: gap`
+abbrev pub gap_line : ℕ → List ℕ → ℕ → List ℕ
+gap_line number procedure at = line (codes "step " ++ (decimal number
+    ++ (codes " of " ++ (procedure ++ (codes ", line " ++ (decimal at ++ codes ": gap"))))))
 
-abbrev pub bad_document_text_line : List ℕ
-bad_document_text_line = line (codes "bad document text")
+-- the fault token of a file, and of a document
+abbrev pub bad_text_line : ℕ → List ℕ
+bad_text_line token = line (codes "bad text at token " ++ decimal token)
+
+abbrev pub bad_document_text_line : ℕ → List ℕ
+bad_document_text_line token = line (codes "bad document text at token " ++ decimal token)
+
+-- the name of a kind of fault of a file
+abbrev pub kind_name : FileKind → List ℕ
+kind_name version_kind = codes "version"
+kind_name twice_kind = codes "twice"
+kind_name unknown_kind = codes "unknown"
+kind_name sort_kind = codes "sort"
+kind_name constant_kind = codes "constant"
+kind_name results_kind = codes "results"
+kind_name scope_kind = codes "scope"
+kind_name rule_kind = codes "rule"
+kind_name number_kind = codes "number"
+
+-- `bad file: procedure P, step S: KIND`
+abbrev pub bad_file_line : ℕ → ℕ → List ℕ → List ℕ
+bad_file_line procedure step kind = line (codes "bad file: procedure " ++ (decimal procedure
+    ++ (codes ", step " ++ (decimal step ++ (codes ": " ++ kind)))))
+
+-- of the first fault of a file, and of the first step whose rule isn't checked today
+abbrev pub file_fault_line : FileFault → List ℕ
+file_fault_line fault = bad_file_line fault.procedure fault.step (kind_name fault.kind)
+
+abbrev pub unbuilt_line : ℕ → ℕ → List ℕ
+unbuilt_line procedure step = bad_file_line procedure step (codes "unbuilt")
 
 -- a number of a document that is out of range, and one that repeats
 abbrev pub range_line : Numbered → List ℕ
@@ -78,9 +111,10 @@ fault_name not_child = codes "NotChild"
 abbrev pub after_text : ℕ → List ℕ
 after_text steps = codes " after " ++ (decimal steps ++ codes " steps")
 
--- `fault KIND after K steps`, so many before the one that faults
-abbrev pub fault_line : FaultKind → ℕ → List ℕ
-fault_line kind steps = line (codes "fault " ++ (fault_name kind ++ after_text steps))
+-- `fault KIND after K steps: COMMAND`, so many before the one that faults
+abbrev pub fault_line : FaultKind → ℕ → Command → List ℕ
+fault_line kind steps command = line (codes "fault " ++ (fault_name kind ++ (after_text steps
+    ++ (codes ": " ++ text_of (command_lexemes command)))))
 
 -- `fuel spent after K steps`
 abbrev pub spent_line : ℕ → List ℕ
