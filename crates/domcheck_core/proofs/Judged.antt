@@ -1,8 +1,6 @@
 -- What follows from an answer: the clauses of the calls.
 use Rattle.std.proofs.Common.{◌≡◌, ◌∙◌, inl, ℕ, ◌<◌, Bool, true, List, Option, Some, None, option_map, refl, sym, ap, subst, length, Result, Ok, Err, IfOk}
-use Rattle.std.proofs.lemmas.Bool.{lt-leb}
 use Rattle.model_commands.specs.Theories.{Theory}
-use Rattle.model_text.specs.Nesting.{token_limit, lexemes_of}
 use Rattle.dom_terms.specs.declared.limits.LimitKind as own
 use Rattle.outside_io.specs.Causes.{Told}
 use Rattle.model_rules.proofs.Sound.{accepted_hold}
@@ -10,12 +8,12 @@ use Rattle.model_limits.specs.Limits.{standard_limits}
 use Rattle.model_answers.specs.Words.{Request, check, run}
 use Rattle.model_text.specs.Lexemes.{Lexeme}
 use Rattle.model_limits.specs.Limits.{LimitKind, file_limit}
-use Rattle.model_limits.specs.FirstOf.{or_else, unless}
-use Rattle.model_answers.specs.Texts.{text_limit, IsFile}
+use Rattle.model_answers.specs.Texts.{IsFile}
 use Rattle.domcheck_core.specs.Answers.{Books, Answer, limit_answer, Unread, passes_limit, NoFile, Verdict, is_unbuilt, says_yes, has_gap, says_no, CheckAnswer, no_file, judged, DocumentAnswer, IsCalled, NotCalled, RunAnswer, not_run, not_called, is_called, IsAnswer, checked, ran, IsToldBook, IsTold}
 use Rattle.domcheck_core.specs.Books.{IsReply}
 use Rattle.domcheck_core.specs.Clauses.{OfFile, IsProved, ExactlyWhere, BadWordsExactly, IsAnswered, Wrote}
 use Rattle.outside_io.specs.Pieces.{Took}
+use Rattle.domcheck_core.proofs.Tested.{large_text}
 use Rattle.domcheck_core.proofs.OneAnswer.{not_file, not_both_called, told_of, one_answer}
 use Rattle.domcheck_core.proofs.Statuses.{document_status, all_no_file, is_of_called, speaks, reply_speaks}
 use Rattle.domcheck_core.specs.declared.status.Status.{Status}
@@ -25,9 +23,9 @@ use Rattle.domcheck_core.specs.declared.status.Status.TheVariants as status
 pub too_large : {A : Type 0} (Spells : A → List Lexeme → Type 0) (most : ℕ) (bad_line : ℕ → List ℕ)
     (bytes : List ℕ) (s : Status) (output : List ℕ) → standard_limits.file_bytes < length bytes
     → limit_answer file_limit ≡ (s, output) → Unread Spells most bad_line bytes s output
-too_large Spells most bad_line bytes s output long e = passes_limit
-    (ap (λ (b : Bool). option_map limit_answer (or_else (unless b file_limit)
-    (token_limit most 0 (lexemes_of bytes)))) (lt-leb _ _ long) ∙ ap (λ (z : Answer). Some z) e)
+too_large Spells most bad_line bytes s output long e =
+    passes_limit (ap (λ (z : Option LimitKind). option_map limit_answer z)
+    (large_text most bytes long) ∙ ap (λ (z : Answer). Some z) e)
 
 -- a yes is a proof
 sound_verdict : (bytes : List ℕ) (theory : Theory) (s : Status) (output : List ℕ)

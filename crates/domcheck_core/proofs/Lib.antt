@@ -10,4 +10,3 @@ pub mod Running
 pub mod Counts
 pub mod Spelling
 pub mod Tested
-pub mod Follows
