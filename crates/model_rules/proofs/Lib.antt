@@ -1,3 +1,4 @@
 pub mod Ends
 pub mod Rules
 pub mod Sound
+pub mod Gaps

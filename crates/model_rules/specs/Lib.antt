@@ -1,2 +1,4 @@
 pub mod Rows
 pub mod Accepted
+pub mod Gaps
+pub mod Checked
