@@ -7,7 +7,7 @@ use Rattle.model_limits.specs.FirstOf.{or_else}
 use Rattle.model_formulas.specs.Formulas.{Named}
 use Rattle.model_commands.specs.Theories.{ProcedureOf, Procedure, Step, Theory}
 use Rattle.model_files.specs.FileFaults.{FileFault, first_file_fault}
-use Rattle.model_rules.proofs.Gaps.{accepted_has_no_gap, one_first_gap}
+use Rattle.model_rules.proofs.Gaps.{gap-not-accepted, one-gap}
 use Rattle.model_text.specs.Lexemes.{Lexeme}
 use Rattle.model_text.specs.Nesting.{lexemes_of}
 use Rattle.model_text.specs.FaultTokens.{IsFaultToken}
@@ -117,6 +117,12 @@ one_no_file bytes s t o p (refused u e spelled f) (refused v d spells g) =
     (ap theory_refusal (one_theory (lexemes_of bytes) u v spelled spells) ∙ g)
 
 -- CHECK
+gap_lines : (f g : Procedure) (x y : Step) → f ≡ g → x ≡ y
+    → gap_line x.number f.name x.line ≡ gap_line y.number g.name y.line
+gap_lines f g x y e d = subst (λ (z : Procedure). gap_line x.number f.name x.line
+    ≡ gap_line y.number z.name y.line) e
+    (ap (λ (z : Step). gap_line z.number f.name z.line) d)
+
 one_verdict : (theory : Theory) (s t : Status) (o p : List ℕ) → Verdict theory s o
     → Verdict theory t p → Equal s o t p
 one_verdict theory s t o p (is_unbuilt f n e) (is_unbuilt g m h) =
@@ -129,18 +135,15 @@ one_verdict theory s t o p (is_unbuilt f n e) (says_no h y z) = absurd (some_non
 one_verdict theory s t o p (says_yes e x) (is_unbuilt g m h) = absurd (some_none _ (sym h ∙ e))
 one_verdict theory s t o p (says_yes e x) (says_yes h y) = (refl, refl)
 one_verdict theory s t o p (says_yes e x) (has_gap g y h a) =
-    absurd (accepted_has_no_gap theory g y x a)
+    absurd (gap-not-accepted theory g y a x)
 one_verdict theory s t o p (says_yes e x) (says_no h y z) = absurd (y x)
 one_verdict theory s t o p (has_gap f x e a) (is_unbuilt g m h) =
     absurd (some_none _ (sym h ∙ e))
 one_verdict theory s t o p (has_gap f x e a) (says_yes h y) =
-    absurd (accepted_has_no_gap theory f x y a)
+    absurd (gap-not-accepted theory f x a y)
 one_verdict theory s t o p (has_gap f x e a) (has_gap g y h b) =
-    let same = one_first_gap _ f g x y a b in
-    (refl, ap (λ (z : Procedure × Step). gap_line z.1.number z.0.name z.1.line) (pair same))
-  where
-    pair : (f ≡ g) × (x ≡ y) → (f, x) ≡ (g, y)
-    pair (q, r) = cc
+    let same = one-gap _ f g x y a b in
+    (refl, gap_lines f g x y same.0 same.1)
 one_verdict theory s t o p (has_gap f x e a) (says_no h y z) = absurd (z f x a)
 one_verdict theory s t o p (says_no e x n) (is_unbuilt g m h) = absurd (some_none _ (sym h ∙ e))
 one_verdict theory s t o p (says_no e x n) (says_yes h y) = absurd (x y)

@@ -1,10 +1,9 @@
 // Checks of a file, over its bytes.
-ghost use Rattle.std.specs.Prelude.{◌≡◌, ◌<◌, ℕ, List, None, Some, IfOk, slice_get};
-ghost use Rattle.model_commands.specs.Theories.{procedures_of, nameless_procedure, nameless_step};
+ghost use Rattle.std.specs.Prelude.{◌≡◌, ℕ, List, None, IfOk};
 ghost use Rattle.model_files.specs.Sizes.{TheoryIsSmall};
-ghost use Rattle.model_rules.specs.Gaps.{IsFirstGap};
 ghost use Rattle.model_rules.specs.Checked.{first_unbuilt};
 ghost use Rattle.theory_syntax.specs.Theories.{theory_of};
+ghost use Rattle.hoare_kernel.specs.Refusals.{GapStands};
 ghost use Rattle.domcheck_core.specs.Answers.{Verdict, CheckAnswer};
 ghost use Rattle.domcheck_core.specs.Clauses.{IsProved};
 
