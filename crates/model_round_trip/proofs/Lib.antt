@@ -1,0 +1,3 @@
+pub mod Resorted
+pub mod SameWriting
+pub mod StillWritable
