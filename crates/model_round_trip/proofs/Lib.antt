@@ -1,3 +1,4 @@
 pub mod Resorted
 pub mod SameWriting
 pub mod StillWritable
+pub mod Written
