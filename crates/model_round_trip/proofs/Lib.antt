@@ -2,3 +2,4 @@ pub mod Resorted
 pub mod SameWriting
 pub mod StillWritable
 pub mod Written
+pub mod OneSpelling
