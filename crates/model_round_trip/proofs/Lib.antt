@@ -3,3 +3,6 @@ pub mod SameWriting
 pub mod StillWritable
 pub mod Written
 pub mod OneSpelling
+pub mod Tokens
+pub mod Readable
+pub mod Parts
