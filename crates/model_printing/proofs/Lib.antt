@@ -1,0 +1,4 @@
+pub mod Fronts
+pub mod Alone
+pub mod Ended
+pub mod Reading
