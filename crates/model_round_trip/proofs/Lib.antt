@@ -6,3 +6,4 @@ pub mod OneSpelling
 pub mod Tokens
 pub mod Readable
 pub mod Parts
+pub mod EachLexeme
