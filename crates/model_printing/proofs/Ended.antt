@@ -97,7 +97,7 @@ literal_goes_on false before (c ∷ own) more h = by_test (c == quote) (c == new
     by_test false false h same = same h
 
 -- nothing but a literal begins with a quote
-only_literal : (rest : List ℕ) → (word_length (quote ∷ rest) ≡ 0)
+pub only_literal : (rest : List ℕ) → (word_length (quote ∷ rest) ≡ 0)
     × (logic_length (quote ∷ rest) ≡ 0) × (longest_at_front symbols (quote ∷ rest) ≡ 0)
 unfolding lexing
 only_literal rest = (refl, refl, refl)
