@@ -1,5 +1,5 @@
 -- Each lexeme of a text but a bad one can be printed.
-use Rattle.std.proofs.Common.{◌≡◌, ℕ, zero, suc, ◌+◌, ◌-◌, ◌≤◌, ◌<◌, ◌==◌, Bool, true, false, ◌&&◌, List, [], ◌∷◌, ◌++◌, length, map, take, drop, Some, encode_utf8_all, codes, bytes_eq, nat_le, refl, sym, subst, ◌∙◌, ap, arith, inl, inr}
+use Rattle.std.proofs.Common.{◌≡◌, ℕ, zero, suc, ◌+◌, ◌-◌, ◌≤◌, ◌==◌, Bool, true, false, List, [], ◌∷◌, length, map, take, drop, Some, encode_utf8_all, codes, bytes_eq, nat_le, refl, sym, subst, ◌∙◌, ap, arith, inl, inr}
 use Rattle.std.specs.Prelude.{if◌then◌else◌, ◌⊎◌, slice_get}
 use Rattle.std.proofs.Math.Utf8.{scalars}
 use Rattle.std.proofs.lemmas.Bool.{and_parts}
@@ -9,8 +9,8 @@ use Rattle.std.specs.Char.{is_ascii_digit}
 use Rattle.std.specs.List.{list_all}
 use Rattle.std.specs.Str.Parse.{digits_value}
 use Rattle.model_limits.specs.Limits.{standard_limits}
-use Rattle.model_text.specs.Lexemes.{Lexeme, terminal, step_word, name_lexeme, logic_lexeme, number_lexeme, literal_lexeme, bad_lexeme, lexeme_at, lexeme_of, is_reserved, word_lexeme}
-use Rattle.model_text.specs.Tokens.{Token, TokenKind, word_token, logic_token, number_token, literal_token, symbol_token, bad_token, Piece, gap_piece, token_piece, no_piece, digits_fit, unescaped, piece_at, token_text, characters, place_of, line_of, token_from, bad_token_at, tokens_with, tokens_from, tokens_of}
+use Rattle.model_text.specs.Lexemes.{Lexeme, terminal, step_word, name_lexeme, logic_lexeme, number_lexeme, literal_lexeme, bad_lexeme, lexeme_at, lexeme_of, is_reserved}
+use Rattle.model_text.specs.Tokens.{Token, TokenKind, word_token, logic_token, number_token, literal_token, symbol_token, bad_token, Piece, gap_piece, token_piece, no_piece, digits_fit, unescaped, piece_at, token_text, characters, place_of, line_of, bad_token_at, tokens_with, tokens_from, tokens_of}
 use Rattle.model_text.specs.Nesting.{lexemes_of}
 use Rattle.model_text.specs.FaultTokens.{IsOfToken}
 use Rattle.model_text.proofs.Pieces.{Fits, piece_at-Fits}
@@ -151,8 +151,11 @@ kind_printable number_token own line valid e =
     number_printable (encode_utf8_all own) (digits_fit (encode_utf8_all own)) refl
 kind_printable literal_token own line valid e = inr (
   unescaped false (take (length own - 2) (drop 1 own)),
-  (scalars_unescaped false (take (length own - 2) (drop 1 own))
-  (scalars_take (length own - 2) (drop 1 own) (scalars_drop 1 own valid)), refl),
+  (
+    scalars_unescaped false (take (length own - 2) (drop 1 own))
+        (scalars_take (length own - 2) (drop 1 own) (scalars_drop 1 own valid)),
+    refl,
+  ),
 )
 kind_printable symbol_token own line valid e = inr (lines_kept _ _ e (tt, tt))
 kind_printable bad_token own line valid e = inl refl

@@ -6,3 +6,6 @@ pub mod Scalars
 pub mod Found
 pub mod Numbers
 pub mod Literals
+pub mod Printing
+pub mod Lines
+pub mod Terminals

@@ -1,11 +1,11 @@
 -- A text in quotes, with its quotes, backslashes and newlines escaped, is a token that stands for it.
-use Rattle.std.proofs.Common.{◌≡◌, ℕ, zero, suc, ◌+◌, ◌-◌, ◌≤◌, ◌<◌, ◌==◌, Bool, true, false, ◌&&◌, ◌||◌, List, [], ◌∷◌, ◌++◌, length, take, drop, encode_utf8_all, nat_lt, refl, sym, subst, ◌∙◌, ap, arith, append_assoc, length-append}
-use Rattle.std.specs.Prelude.{if◌then◌else◌, cond, ◌/◌, ◌%◌}
+use Rattle.std.proofs.Common.{◌≡◌, ℕ, suc, ◌+◌, ◌-◌, ◌≤◌, ◌<◌, ◌==◌, Bool, true, false, List, [], ◌∷◌, ◌++◌, length, take, encode_utf8_all, nat_lt, refl, sym, subst, ◌∙◌, ap, arith, append_assoc, length-append}
+use Rattle.std.specs.Prelude.{if◌then◌else◌, cond}
 use Rattle.std.proofs.Math.Utf8.{scalar, scalars, encode}
 use Rattle.std.proofs.lemmas.Bool.{eqb-true, ne_eqb, ltb-true, ltb-false, lt-ltb, le-ltb, and_parts}
 use Rattle.std.proofs.lemmas.List.{append-nil, take_at}
 use Rattle.std.proofs.lemmas.Str.{encodes-append, encode_ascii}
-use Rattle.model_text.specs.Tokens.{TokenKind, word_token, logic_token, literal_token, symbol_token, newline, quote, backslash, letter_n, literal_end, literal_length, word_length, logic_length, symbols, longest_at_front, unescaped, Piece, token_piece, no_piece, piece_length, longer_token, longest_token, piece_at, token_text}
+use Rattle.model_text.specs.Tokens.{TokenKind, word_token, logic_token, literal_token, symbol_token, newline, quote, backslash, letter_n, literal_end, unescaped, Piece, token_piece, no_piece, piece_length, longer_token, longest_token, piece_at, token_text}
 use Rattle.model_text.proofs.Computing.{lexing}
 use Rattle.model_documents.specs.Printed.{escaped_byte, escaped, quoted}
 use Rattle.model_printing.proofs.Alone.{IsToken, other_piece}
@@ -69,7 +69,7 @@ literal_ends : (text more : List ℕ) (before : ℕ)
     → literal_end false before (escaped text ++ quote ∷ more)
     ≡ before + length (escaped text) + 1
 literal_ends [] more before = omega arith
-literal_ends (c ∷ text) more before = 
+literal_ends (c ∷ text) more before =
     let two : literal_end false (before + 1 + 1) (escaped text ++ quote ∷ more)
     ≡ before + suc (suc (length (escaped text))) + 1 =
     literal_ends text more (before + 1 + 1) ∙ omega arith in

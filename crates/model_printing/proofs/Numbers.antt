@@ -1,5 +1,5 @@
 -- A number that fits is written by digits, and they are a token.
-use Rattle.std.proofs.Common.{◌≡◌, ℕ, zero, suc, ◌+◌, ◌≤◌, ◌<◌, ◌^◌, ◌==◌, Bool, true, false, not, ◌&&◌, ◌||◌, List, [], ◌∷◌, ◌++◌, length, take, get_or, encode_utf8_all, codes, bytes_eq, nat_le, refl, sym, subst, ◌∙◌, ap, arith}
+use Rattle.std.proofs.Common.{◌≡◌, ℕ, zero, suc, ◌+◌, ◌≤◌, ◌<◌, ◌^◌, Bool, true, false, not, ◌||◌, List, [], ◌∷◌, length, take, get_or, encode_utf8_all, codes, bytes_eq, nat_le, refl, sym, ◌∙◌, ap, arith}
 use Rattle.std.specs.Prelude.{if◌then◌else◌}
 use Rattle.std.proofs.Math.Utf8.{scalars}
 use Rattle.std.proofs.lemmas.Bool.{and_parts, ne_eqb}
@@ -8,7 +8,7 @@ use Rattle.std.proofs.lemmas.Fmt.{decimal_nonempty, first_decimal, IsAscii-decim
 use Rattle.std.proofs.lemmas.List.{take_all}
 use Rattle.std.proofs.lemmas.Slice.Eq.{bytes_eq-Decides}
 use Rattle.std.proofs.lemmas.Str.{encodes-IsAscii, chars-IsAscii, scalars-chars, IsUtf8-from_ascii}
-use Rattle.std.proofs.lemmas.Str.Parse.{IsDigitsTest, IsNumeralModel, numerals_by_value}
+use Rattle.std.proofs.lemmas.Str.Parse.{IsNumeralModel, numerals_by_value}
 use Rattle.std.specs.Char.{is_ascii_digit}
 use Rattle.std.specs.Fmt.{decimal, digits}
 use Rattle.std.specs.Int.{IsInRange}
@@ -17,8 +17,8 @@ use Rattle.std.specs.Str.{IsAscii}
 use Rattle.std.specs.Str.Parse.{digits_value}
 use Rattle.unicode_ident.specs.Ident.{is_xid_continue}
 use Rattle.model_limits.specs.Limits.{standard_limits}
-use Rattle.model_text.specs.Lexemes.{Lexeme, number_lexeme, bad_lexeme, digits_lexeme}
-use Rattle.model_text.specs.Tokens.{number_token, symbol_token, in_digit_run, digit_run, leading_zero, digits_fit, is_number, Piece, token_piece, no_piece, digits_piece}
+use Rattle.model_text.specs.Lexemes.{number_lexeme, bad_lexeme, digits_lexeme}
+use Rattle.model_text.specs.Tokens.{number_token, symbol_token, in_digit_run, digit_run, leading_zero, digits_fit, is_number, token_piece, no_piece, digits_piece}
 use Rattle.model_printing.proofs.Alone.{IsToken, digit_piece}
 use Rattle.model_printing.proofs.Scalars.{both}
 
@@ -94,7 +94,7 @@ module _ (n : ℕ) (fits : n ≤ standard_limits.integer) where
   pub decimal_fits : digits_fit (decimal n) ≡ true
   decimal_fits = both (list_all is_ascii_digit (decimal n))
       (nat_le (digits_value 10 (decimal n)) standard_limits.integer)
-      (digits_decimal digits_model n below) 
+      (digits_decimal digits_model n below)
       (at_most (digits_value 10 (decimal n)) (omega (arith, value)))
     where
       at_most : (k : ℕ) → k ≤ standard_limits.integer → nat_le k standard_limits.integer ≡ true
