@@ -1,14 +1,13 @@
 -- A token at the front of a text is a token by itself, and stays one before what can't go on it.
-use Rattle.std.proofs.Common.{◌≡◌, ℕ, zero, suc, ◌+◌, ◌<◌, ◌≤◌, max, Bool, true, false, not, ◌&&◌, ◌||◌, ◌==◌, List, [], ◌∷◌, ◌++◌, length, take, drop, nat_eq, nat_lt, codes, bytes_eq, refl, sym, ◌∙◌, ap, subst, arith}
+use Rattle.std.proofs.Common.{◌≡◌, ℕ, ◌≤◌, max, Bool, true, false, not, ◌||◌, ◌==◌, List, [], ◌∷◌, ◌++◌, length, take, nat_eq, nat_lt, codes, bytes_eq, refl, sym, ◌∙◌, ap, subst, arith}
 use Rattle.std.specs.Prelude.{if◌then◌else◌}
-use Rattle.std.proofs.lemmas.Bool.{ltb-true, ltb-false, eqb-true, and_parts}
+use Rattle.std.proofs.lemmas.Bool.{ltb-true, ltb-false, eqb-true}
 use Rattle.std.proofs.lemmas.Bool.Decides.{nat_tests}
 use Rattle.std.proofs.lemmas.List.{take_at, take_all}
 use Rattle.std.proofs.lemmas.List.Folds.{length-prefix_len}
 use Rattle.std.specs.Char.{is_ascii_digit}
-use Rattle.std.specs.List.{list_all, list_any, prefix_len, starts_with}
-use Rattle.unicode_ident.specs.Ident.{is_xid_continue}
-use Rattle.model_text.specs.Tokens.{TokenKind, word_token, logic_token, number_token, literal_token, symbol_token, newline, quote, dollar, backslash, is_blank, starts_word, word_length, logic_length, is_escape, literal_end, literal_length, symbols, length_at_front, longest_at_front, in_digit_run, digit_run, is_number, Piece, gap_piece, token_piece, no_piece, piece_length, digits_piece, longer_token, longest_token, piece_at}
+use Rattle.std.specs.List.{prefix_len, starts_with}
+use Rattle.model_text.specs.Tokens.{TokenKind, word_token, logic_token, number_token, literal_token, symbol_token, newline, is_blank, word_length, logic_length, literal_length, symbols, longest_at_front, in_digit_run, digit_run, is_number, Piece, gap_piece, token_piece, no_piece, piece_length, digits_piece, longer_token, longest_token, piece_at}
 use Rattle.model_text.proofs.Computing.{lexing}
 use Rattle.model_text.proofs.Pieces.{Fits, piece_at-Fits}
 use Rattle.model_printing.proofs.Fronts.{prefix_same, word_same, logic_same, literal_same, longest_same}

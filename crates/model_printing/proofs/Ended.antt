@@ -1,17 +1,16 @@
 -- A token stays one before a character that ends it, as a space or a newline does.
-use Rattle.std.proofs.Common.{◌≡◌, ℕ, zero, suc, ◌+◌, ◌<◌, ◌≤◌, max, Bool, true, false, not, ◌&&◌, ◌||◌, ◌==◌, List, [], ◌∷◌, ◌++◌, length, take, drop, nat_eq, nat_lt, refl, sym, ◌∙◌, ap, subst, arith}
+use Rattle.std.proofs.Common.{◌≡◌, ℕ, ◌+◌, ◌<◌, ◌≤◌, Bool, true, false, not, ◌&&◌, ◌==◌, List, [], ◌∷◌, ◌++◌, length, take, drop, nat_eq, nat_lt, refl, sym, ◌∙◌, ap, arith}
 use Rattle.std.specs.Prelude.{if◌then◌else◌}
 use Rattle.std.proofs.lemmas.Bool.{eqb-true, and_parts, or_parts}
-use Rattle.std.proofs.lemmas.Bool.Decides.{nat_tests}
-use Rattle.std.proofs.lemmas.List.{take_at, take_all}
+use Rattle.std.proofs.lemmas.List.{take_all}
 use Rattle.std.proofs.lemmas.List.Folds.{length-prefix_len}
 use Rattle.std.specs.Char.{is_ascii_digit}
 use Rattle.std.specs.List.{list_all, list_any, prefix_len, starts_with}
 use Rattle.unicode_ident.specs.Ident.{is_xid_continue}
-use Rattle.model_text.specs.Tokens.{TokenKind, newline, quote, dollar, backslash, starts_word, word_length, logic_length, is_escape, literal_end, literal_length, symbols, length_at_front, longest_at_front, in_digit_run, digit_run, Piece, gap_piece, token_piece, no_piece, piece_length, digits_piece, longest_token, piece_at}
+use Rattle.model_text.specs.Tokens.{TokenKind, newline, quote, dollar, backslash, starts_word, word_length, logic_length, is_escape, literal_end, literal_length, symbols, length_at_front, longest_at_front, in_digit_run, digit_run, token_piece, piece_length, digits_piece, longest_token, piece_at}
 use Rattle.model_text.proofs.Computing.{lexing}
-use Rattle.model_printing.proofs.Fronts.{prefix_same, literal_end_same}
-use Rattle.model_printing.proofs.Alone.{IsToken, IsPlain, Starts, with_digit, with_other, starts, digit_piece, other_piece, longest_length, longest_token_same, digits_length, run_is_own}
+use Rattle.model_printing.proofs.Fronts.{prefix_same}
+use Rattle.model_printing.proofs.Alone.{IsToken, Starts, with_digit, with_other, starts, digit_piece, other_piece, longest_length, longest_token_same, digits_length, run_is_own}
 
 -- the character isn't in a symbol but for its first place
 abbrev pub goes_on_no_symbol : ℕ → List ℕ → Bool
@@ -97,7 +96,7 @@ literal_goes_on false before (c ∷ own) more h = by_test (c == quote) (c == new
     by_test false false h same = same h
 
 -- nothing but a literal begins with a quote
-only_literal : (rest : List ℕ) → (word_length (quote ∷ rest) ≡ 0)
+pub only_literal : (rest : List ℕ) → (word_length (quote ∷ rest) ≡ 0)
     × (logic_length (quote ∷ rest) ≡ 0) × (longest_at_front symbols (quote ∷ rest) ≡ 0)
 unfolding lexing
 only_literal rest = (refl, refl, refl)
@@ -132,8 +131,11 @@ symbol_end [] rest (x ∷ symbol) c none e =
     let not_here : nat_eq x c ≡ false = (or_parts (nat_eq x c) _ none).0 in
     absurd cc
 symbol_end (y ∷ own) rest (x ∷ symbol) c none e =
-    omega (arith, symbol_end own rest symbol c (or_parts (nat_eq x c) _ none).1
-    (and_parts (nat_eq x y) _ e).1)
+    omega (
+      arith,
+      symbol_end own rest symbol c (or_parts (nat_eq x c) _ none).1
+          (and_parts (nat_eq x y) _ e).1,
+    )
 
 front_stops : (first : ℕ) (own rest symbol : List ℕ) (c : ℕ) → goes_on_no_symbol c symbol ≡ true
     → length_at_front (first ∷ (own ++ c ∷ rest)) symbol ≤ length (first ∷ own)
@@ -148,8 +150,11 @@ front_stops first own rest (x ∷ symbol) c none =
     by_test : (b : Bool)
         → starts_with nat_eq (first ∷ (own ++ c ∷ rest)) (x ∷ symbol) ≡ b
         → (if b then length (x ∷ symbol) else 0) ≤ length (first ∷ own)
-    by_test true e = omega (arith, symbol_end own rest symbol c (is_false _ none)
-        (and_parts (nat_eq x first) _ e).1)
+    by_test true e = omega (
+      arith,
+      symbol_end own rest symbol c (is_false _ none)
+          (and_parts (nat_eq x first) _ e).1,
+    )
     by_test false e = omega arith
 
 symbol_stops : (all : List (List ℕ)) (first : ℕ) (own rest : List ℕ) (c : ℕ)
@@ -158,8 +163,11 @@ symbol_stops : (all : List (List ℕ)) (first : ℕ) (own rest : List ℕ) (c : 
 symbol_stops [] first own rest c none = omega arith
 symbol_stops (symbol ∷ all) first own rest c none =
     let parts = and_parts (goes_on_no_symbol c symbol) (list_all (goes_on_no_symbol c) all) none in
-    omega (arith, front_stops first own rest symbol c parts.0,
-    symbol_stops all first own rest c parts.1)
+    omega (
+      arith,
+      front_stops first own rest symbol c parts.0,
+      symbol_stops all first own rest c parts.1,
+    )
 
 -- THE SAME TOKEN
 pub digits_before : (kind : TokenKind) (first : ℕ) (own rest : List ℕ) (c : ℕ)

@@ -1,10 +1,10 @@
 -- What stands at the front of a text is told by its own characters alone, where it is no longer.
-use Rattle.std.proofs.Common.{◌≡◌, ℕ, zero, suc, ◌+◌, ◌<◌, ◌≤◌, max, Bool, true, false, not, ◌&&◌, ◌||◌, ◌==◌, List, [], ◌∷◌, ◌++◌, length, take, nat_eq, nat_lt, refl, sym, ◌∙◌, ap, arith, length-append}
+use Rattle.std.proofs.Common.{◌≡◌, ℕ, suc, ◌+◌, ◌≤◌, max, Bool, true, false, ◌&&◌, ◌==◌, List, [], ◌∷◌, ◌++◌, length, nat_eq, nat_lt, refl, sym, ap, arith}
 use Rattle.std.specs.Prelude.{if◌then◌else◌}
 use Rattle.std.proofs.lemmas.Bool.Decides.{nat_tests}
-use Rattle.std.specs.List.{list_all, list_any, prefix_len, starts_with}
+use Rattle.std.specs.List.{prefix_len, starts_with}
 use Rattle.unicode_ident.specs.Ident.{is_xid_continue}
-use Rattle.model_text.specs.Tokens.{newline, quote, dollar, backslash, starts_word, word_length, logic_length, is_escape, literal_end, literal_length, symbols, length_at_front, longest_at_front}
+use Rattle.model_text.specs.Tokens.{newline, quote, dollar, backslash, starts_word, word_length, logic_length, is_escape, literal_end, literal_length, length_at_front, longest_at_front}
 
 -- THE SAME WITHOUT WHAT FOLLOWS
 pub prefix_same : (p : ℕ → Bool) (own more : List ℕ) → prefix_len p (own ++ more) ≤ length own

@@ -1,5 +1,5 @@
 -- The lexemes of characters, piece by piece: each forgets what stood before it, but for its line.
-use Rattle.std.proofs.Common.{◌≡◌, ℕ, zero, suc, ◌+◌, ◌-◌, ◌<◌, ◌≤◌, ◌==◌, Bool, true, false, List, [], ◌∷◌, ◌++◌, length, map, take, drop, codes, bytes_eq, encode_utf8_all, refl, sym, ◌∙◌, ap, subst, arith, length-append}
+use Rattle.std.proofs.Common.{◌≡◌, ℕ, zero, suc, ◌+◌, ◌-◌, ◌<◌, ◌==◌, Bool, true, false, List, [], ◌∷◌, ◌++◌, length, map, take, drop, codes, bytes_eq, encode_utf8_all, refl, sym, ◌∙◌, ap, subst, arith, length-append}
 use Rattle.std.specs.Prelude.{if◌then◌else◌}
 use Rattle.std.proofs.Math.Seq.{take-append_seam, drop-append_seam, take-length, take-add}
 use Rattle.std.proofs.Math.Nat.{add_assoc, add-zero, zero-add}
@@ -8,8 +8,7 @@ use Rattle.std.proofs.lemmas.Bool.Decides.{nat_tests}
 use Rattle.std.proofs.lemmas.List.{take_at, drop-drop}
 use Rattle.std.proofs.lemmas.Str.{chars-encodes, encodes-append, utf8_valid_len-IsUtf8}
 use Rattle.std.specs.Str.{chars}
-use Rattle.std.specs.Str.Lossy.{utf8_valid_len}
-use Rattle.model_text.specs.Lexemes.{Lexeme, lexeme_at, lexeme_of, is_reserved, word_lexeme, terminal, name_lexeme, step_word}
+use Rattle.model_text.specs.Lexemes.{Lexeme, lexeme_at, lexeme_of, is_reserved, terminal, name_lexeme, step_word}
 use Rattle.model_text.specs.Tokens.{Token, TokenKind, word_token, logic_token, number_token, literal_token, symbol_token, bad_token, Piece, gap_piece, token_piece, no_piece, piece_at, token_text, characters, place_of, line_of, token_from, bad_token_at, tokens_with, tokens_from, tokens_of}
 use Rattle.model_text.specs.Nesting.{lexemes_of}
 use Rattle.model_text.proofs.Computing.{lexing}
