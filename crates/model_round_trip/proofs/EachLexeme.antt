@@ -1,5 +1,5 @@
 -- What holds of each lexeme that can be written holds of those of formulas, commands and theories.
-use Rattle.std.proofs.Common.{ℕ, suc, ◌≤◌, List, [], ◌∷◌, ◌++◌, ◌≡◌, true, false, refl, map, pos, negsuc, bytes_eq, codes, arith}
+use Rattle.std.proofs.Common.{ℕ, suc, ◌≤◌, List, [], ◌∷◌, ◌++◌, ◌≡◌, true, false, refl, map, pos, negsuc, bytes_eq, codes}
 use Rattle.std.specs.List.{list_any}
 use Rattle.model_limits.specs.Limits.{standard_limits}
 use Rattle.model_shapes.specs.Sorts.{ValueSort, node_sort, list_sort, int_sort, str_sort, bool_sort, DataSort, tree, forest, grove, Sort, value, shape, context}
@@ -10,14 +10,12 @@ use Rattle.model_terms.specs.Stores.{ProgVar, named}
 use Rattle.model_terms.specs.Conditions.{Cond, cond_true, cond_false, cond_variable, cond_equal, cond_at_most, cond_not, cond_and, cond_or}
 use Rattle.model_formulas.specs.Formulas.{Named, Side, whole, hole_left, hole_right, truth, falsity, conjunction, disjunction, implication, negation, existential, universal, equality, at_most, empty, bare_hole, node_formula, one_tree, one_root, concatenation, grove_sum, grove_sum_hole, application, hole_adjoint, context_adjoint, same_as, length_is, value_meets}
 use Rattle.model_commands.specs.Commands.{Command, skip, block, assign, create_node, node_name, child_nodes, parent_node, list_item, append_child, remove_child, if_else, while_do, local, call, Block, stop, ◌then◌}
-use Rattle.model_commands.specs.Theories.{JudgementOf, entails, triple, Reason, auto, by_rule, StepOf, ProcedureOf, Theory}
-use Rattle.model_text.specs.Lexemes.{Lexeme, terminal, step_word, name_lexeme, logic_lexeme, number_lexeme, literal_lexeme}
+use Rattle.model_text.specs.Lexemes.{Lexeme, terminal, name_lexeme, logic_lexeme, number_lexeme, literal_lexeme}
 use Rattle.model_text.proofs.OfTokens.{terminals}
 use Rattle.model_text.proofs.Computing.{lexing}
 use Rattle.model_grammar.specs.Words.{the, ◌⌢◌}
 use Rattle.model_grammar.specs.Terms.{Place, in_formula, in_command}
-use Rattle.model_grammar.specs.Writing.{name_lexemes, var_lexemes, term_lexemes, bracketed, empty_sign, hole_sign, star_sign, at_sign, into_sign, formula_lexemes, cond_lexemes, value_sort_lexemes, behind_commas, listed, in_brackets, command_lexemes, block_lexemes, further_commands, data_sort_lexemes, sort_lexemes, declaration_lexemes, number_lexemes, argument_lexemes, judgement_lexemes, Each, IsName, IsLogicName, IsWritableName, IsLogic, IsLogicTerm, IsWritableTerm, IsWritable, IsWritableCondition, IsWritableCommand, IsWritableBlock, AreWritable}
-use Rattle.model_round_trip.specs.Writable.{IsNumeral, IsShapeSort, IsWritableJudgement}
+use Rattle.model_grammar.specs.Writing.{name_lexemes, var_lexemes, term_lexemes, bracketed, hole_sign, star_sign, at_sign, into_sign, formula_lexemes, cond_lexemes, value_sort_lexemes, behind_commas, listed, in_brackets, command_lexemes, block_lexemes, further_commands, data_sort_lexemes, sort_lexemes, Each, IsName, IsLogicName, IsWritableName, IsLogic, IsLogicTerm, IsWritableTerm, IsWritable, IsWritableCondition, IsWritableCommand, IsWritableBlock, AreWritable}
 use Rattle.model_round_trip.proofs.Parts.{each_append}
 
 -- it holds of the words and symbols of the grammar, of names and numbers, and of any literal
@@ -100,9 +98,11 @@ module _ (Can : Lexeme → Type 0) (holds : HoldsOfWritten Can) where
 
   in_round : (left sign right : List Lexeme) → Each Can left → Each Can sign → Each Can right
       → Each Can (bracketed left sign right)
-  in_round left sign right h k l =
-      (word (codes "(") refl, beside left _ h (beside sign _ k (beside right _ l
-      ((word (codes ")") refl, tt)))))
+  in_round left sign right h k l = (
+    word (codes "(") refl,
+    beside left _ h (beside sign _ k (beside right _ l
+        ((word (codes ")") refl, tt)))),
+  )
 
   -- ---- terms
 
@@ -117,9 +117,14 @@ module _ (Can : Lexeme → Type 0) (holds : HoldsOfWritten Can) where
   braces_hold : (sign : List ℕ) → list_any (bytes_eq sign) terminals ≡ true
       → (left right : List Lexeme) → Each Can left → Each Can right
       → Each Can (the "{" ⌢ left ⌢ (terminal sign ∷ []) ⌢ right ⌢ the "}")
-  braces_hold sign e left right h k =
-      (word (codes "{") refl, beside left _ h ((word sign e, beside right _ k
-      ((word (codes "}") refl, tt)))))
+  braces_hold sign e left right h k = (
+    word (codes "{") refl,
+    beside left _ h ((
+      word sign e,
+      beside right _ k
+          ((word (codes "}") refl, tt)),
+    )),
+  )
 
   pub term_holds : (place : Place) (a : Term) → IsWritableTerm place a → Each Can (term_lexemes a)
   term_holds place (literal null) h = (word (codes "null") refl, tt)
@@ -171,9 +176,14 @@ module _ (Can : Lexeme → Type 0) (holds : HoldsOfWritten Can) where
   binder_holds : (kind : List ℕ) → list_any (bytes_eq kind) terminals ≡ true → (x : Var)
       → IsLogic x → (inner : List Lexeme) → Each Can inner
       → Each Can (the "(" ⌢ (terminal kind ∷ []) ⌢ var_lexemes x ⌢ the "." ⌢ inner ⌢ the ")")
-  binder_holds kind e x h inner k =
-      (word (codes "(") refl, ((word kind e, beside (var_lexemes x) _ (logic_holds x h)
-      ((word (codes ".") refl, beside inner _ k ((word (codes ")") refl, tt)))))))
+  binder_holds kind e x h inner k = (
+    word (codes "(") refl,
+    ((
+      word kind e,
+      beside (var_lexemes x) _ (logic_holds x h)
+          ((word (codes ".") refl, beside inner _ k ((word (codes ")") refl, tt)))),
+    )),
+  )
 
   logic_term_holds : (a : Term) → IsLogicTerm a → Each Can (term_lexemes a)
   logic_term_holds (variable x) h = logic_holds x h
@@ -197,9 +207,14 @@ module _ (Can : Lexeme → Type 0) (holds : HoldsOfWritten Can) where
   formula_holds (implication p q) h =
       in_round (formula_lexemes p) (the "->") (formula_lexemes q) (formula_holds p h.0)
       ((word (codes "->") refl, tt)) (formula_holds q h.1)
-  formula_holds (negation p) h =
-      (word (codes "(") refl, ((word (codes "not") refl, beside (formula_lexemes p) _
-      (formula_holds p h) ((word (codes ")") refl, tt)))))
+  formula_holds (negation p) h = (
+    word (codes "(") refl,
+    ((
+      word (codes "not") refl,
+      beside (formula_lexemes p) _
+          (formula_holds p h) ((word (codes ")") refl, tt)),
+    )),
+  )
   formula_holds (existential x p) h =
       binder_holds (codes "exists") refl x h.0 _ (formula_holds p h.1)
   formula_holds (universal x p) h =
@@ -212,12 +227,16 @@ module _ (Can : Lexeme → Type 0) (holds : HoldsOfWritten Can) where
   formula_holds (bare_hole k) h = hole_holds k
   formula_holds (node_formula a b p c) h =
       beside (term_lexemes a) _ (term_holds in_formula a h.0) ((word (codes "#") refl, beside (term_lexemes b) _ (term_holds in_formula b h.1) ((word (codes "[") refl, beside (formula_lexemes p) _ (formula_holds p h.2) ((word (codes "]") refl, ((word (codes "%") refl, term_holds in_formula c h.3))))))))
-  formula_holds (one_tree p) h =
-      (word (codes "<") refl, beside (formula_lexemes p) _ (formula_holds p h)
-      ((word (codes ">") refl, tt)))
-  formula_holds (one_root p) h =
-      (word (codes "[") refl, beside (formula_lexemes p) _ (formula_holds p h)
-      ((word (codes "]") refl, tt)))
+  formula_holds (one_tree p) h = (
+    word (codes "<") refl,
+    beside (formula_lexemes p) _ (formula_holds p h)
+        ((word (codes ">") refl, tt)),
+  )
+  formula_holds (one_root p) h = (
+    word (codes "[") refl,
+    beside (formula_lexemes p) _ (formula_holds p h)
+        ((word (codes "]") refl, tt)),
+  )
   formula_holds (concatenation side p q) h =
       in_round (formula_lexemes p) (star_sign side) (formula_lexemes q) (formula_holds p h.0)
       (star_holds side) (formula_holds q h.1)
@@ -250,9 +269,14 @@ module _ (Can : Lexeme → Type 0) (holds : HoldsOfWritten Can) where
   condition_holds (cond_variable x) h = name_holds x h
   condition_holds (cond_equal a b) h = comparison_holds (codes "=") refl in_command a b h.0 h.1
   condition_holds (cond_at_most a b) h = comparison_holds (codes "<=") refl in_command a b h.0 h.1
-  condition_holds (cond_not d) h =
-      (word (codes "(") refl, ((word (codes "not") refl, beside (cond_lexemes d) _
-      (condition_holds d h) ((word (codes ")") refl, tt)))))
+  condition_holds (cond_not d) h = (
+    word (codes "(") refl,
+    ((
+      word (codes "not") refl,
+      beside (cond_lexemes d) _
+          (condition_holds d h) ((word (codes ")") refl, tt)),
+    )),
+  )
   condition_holds (cond_and d e) h =
       in_round (cond_lexemes d) (the "and") (cond_lexemes e) (condition_holds d h.0)
       ((word (codes "and") refl, tt)) (condition_holds e h.1)
@@ -301,9 +325,11 @@ module _ (Can : Lexeme → Type 0) (holds : HoldsOfWritten Can) where
     list_holds (x ∷ xs) h = beside (lexemes x) _ (one x h.0) (further_hold xs h.1)
 
     pub brackets_hold : (xs : List A) → Each Good xs → Each Can (in_brackets (map lexemes xs))
-    brackets_hold xs h =
-        (word (codes "(") refl, beside (listed (map lexemes xs)) _ (list_holds xs h)
-        ((word (codes ")") refl, tt)))
+    brackets_hold xs h = (
+      word (codes "(") refl,
+      beside (listed (map lexemes xs)) _ (list_holds xs h)
+          ((word (codes ")") refl, tt)),
+    )
 
   -- ---- commands
 
@@ -334,27 +360,37 @@ module _ (Can : Lexeme → Type 0) (holds : HoldsOfWritten Can) where
         (word (codes "appendChild") refl, terms_hold in_command (a ∷ b ∷ []) (h.0, (h.1, tt)))
     command_holds (remove_child a b) h =
         (word (codes "removeChild") refl, terms_hold in_command (a ∷ b ∷ []) (h.0, (h.1, tt)))
-    command_holds (if_else d a b) h =
-        (word (codes "if") refl, beside (cond_lexemes d) _ (condition_holds d h.0)
-        (beside (block_lexemes a) _ (block_holds a h.1) ((word (codes "else") refl, block_holds b h.2))))
-    command_holds (while_do d b) h =
-        (word (codes "while") refl, beside (cond_lexemes d) _ (condition_holds d h.0)
-        (block_holds b h.1))
+    command_holds (if_else d a b) h = (
+      word (codes "if") refl,
+      beside (cond_lexemes d) _ (condition_holds d h.0)
+          (beside (block_lexemes a) _ (block_holds a h.1) ((word (codes "else") refl, block_holds b h.2))),
+    )
+    command_holds (while_do d b) h = (
+      word (codes "while") refl,
+      beside (cond_lexemes d) _ (condition_holds d h.0)
+          (block_holds b h.1),
+    )
     command_holds (local (named name s) b) h =
         (word (codes "local") refl, (holds.of_name name h.0, (word (codes ":") refl, beside (value_sort_lexemes s) _ (value_sort_holds s) (block_holds b h.1))))
-    command_holds (call xs name es) h =
-        (word (codes "call") refl, beside (in_brackets (map name_lexemes xs)) _
-        (brackets_hold IsWritableName name_lexemes name_holds xs h.0)
-        ((word (codes ":=") refl, (holds.of_name name h.1, terms_hold in_command es h.2))))
+    command_holds (call xs name es) h = (
+      word (codes "call") refl,
+      beside (in_brackets (map name_lexemes xs)) _
+          (brackets_hold IsWritableName name_lexemes name_holds xs h.0)
+          ((word (codes ":=") refl, (holds.of_name name h.1, terms_hold in_command es h.2))),
+    )
 
     block_holds : (b : Block) → IsWritableBlock b → Each Can (block_lexemes b)
     block_holds stop h = absurd h
-    block_holds (d then b) h =
-        (word (codes "{") refl, beside (command_lexemes d) _ (command_holds d h.0)
-        (beside (further_commands b) _ (commands_hold b h.1) ((word (codes "}") refl, tt))))
+    block_holds (d then b) h = (
+      word (codes "{") refl,
+      beside (command_lexemes d) _ (command_holds d h.0)
+          (beside (further_commands b) _ (commands_hold b h.1) ((word (codes "}") refl, tt))),
+    )
 
     commands_hold : (b : Block) → AreWritable b → Each Can (further_commands b)
     commands_hold stop h = tt
-    commands_hold (d then b) h =
-        (word (codes ";") refl, beside (command_lexemes d) _ (command_holds d h.0)
-        (commands_hold b h.1))
+    commands_hold (d then b) h = (
+      word (codes ";") refl,
+      beside (command_lexemes d) _ (command_holds d h.0)
+          (commands_hold b h.1),
+    )

@@ -7,3 +7,4 @@ pub mod Tokens
 pub mod Readable
 pub mod Parts
 pub mod EachLexeme
+pub mod Printed

@@ -1,16 +1,15 @@
 -- What lexemes of tokens spell can be written.
-use Rattle.std.proofs.Common.{ℕ, List, [], ◌∷◌, ◌++◌, ◌≡◌, true, refl, sym, subst, map}
-use Rattle.model_shapes.specs.Sorts.{ValueSort, DataSort, Sort, value, shape, context, is_sort}
+use Rattle.std.proofs.Common.{ℕ, List, [], ◌∷◌, ◌≡◌, true, refl, sym, subst, map}
+use Rattle.model_shapes.specs.Sorts.{Sort, value, shape, context, is_sort}
 use Rattle.model_terms.specs.Terms.{Term}
-use Rattle.model_terms.specs.Variables.{Var, logic, var_sort}
-use Rattle.model_terms.specs.Stores.{ProgVar, named}
+use Rattle.model_terms.specs.Variables.{Var, logic}
+use Rattle.model_terms.specs.Stores.{ProgVar}
 use Rattle.model_terms.specs.Conditions.{Cond}
 use Rattle.model_formulas.specs.Formulas.{Named}
-use Rattle.model_commands.specs.Commands.{Command, Block, stop, ◌then◌}
+use Rattle.model_commands.specs.Commands.{Command, Block}
 use Rattle.model_commands.specs.Theories.{JudgementOf, Reason, StepOf, ProcedureOf, Theory}
-use Rattle.model_text.specs.Lexemes.{Lexeme, name_lexeme, logic_lexeme}
-use Rattle.model_text.specs.FaultTokens.{IsOfToken, AreOfTokens}
-use Rattle.model_grammar.specs.Words.{the, ◌⌢◌}
+use Rattle.model_text.specs.Lexemes.{Lexeme}
+use Rattle.model_text.specs.FaultTokens.{AreOfTokens}
 use Rattle.model_grammar.specs.Terms as t
 use Rattle.model_grammar.specs.Terms.{Place, in_formula, in_command, used_logic, SpellsName, a_name, SpellsLogicName, a_logic_name, SpellsSort, SpellsShapeSort, SpellsTerm}
 use Rattle.model_grammar.specs.Formulas as g
@@ -19,7 +18,6 @@ use Rattle.model_grammar.specs.Commands as c
 use Rattle.model_grammar.specs.Commands.{Listed, Bracketed, SpellsVariable, SpellsCondition, SpellsCommand, SpellsBlock, SpellsCommands}
 use Rattle.model_grammar.specs.Theories as files
 use Rattle.model_grammar.specs.Theories.{SpellsAnyWord, SpellsNumber, SpellsDeclaration, SpellsArguments, SpellsReason, SpellsJudgement, SpellsStep, SpellsSteps, SpellsProcedure, SpellsProcedures, SpellsLogicLine, SpellsLogicLines, SpellsRaw, SpellsTheory}
-use Rattle.model_grammar.specs.Sorts.{with_sorts}
 use Rattle.model_grammar.specs.Writing.{Each, IsName, IsLogicName, IsWritableName, IsWritableTerm, IsWritable, IsWritableCondition, IsWritableCommand, IsWritableBlock, AreWritable}
 use Rattle.model_round_trip.specs.Writable.{IsWord, IsNumeral, IsDeclarable, IsShapeSort, IsWritableReason, IsWritableJudgement, IsWritableStep, IsWritableProcedure, HasOne, IsWritableTheory}
 use Rattle.model_round_trip.proofs.Parts.{each_append}
