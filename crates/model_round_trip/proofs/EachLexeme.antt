@@ -1,22 +1,24 @@
 -- What holds of each lexeme that can be written holds of those of formulas, commands and theories.
-use Rattle.std.proofs.Common.{ℕ, suc, ◌≤◌, List, [], ◌∷◌, ◌++◌, ◌≡◌, true, false, refl, map, pos, negsuc, bytes_eq, codes}
+use Rattle.std.proofs.Common.{ℕ, suc, ◌≤◌, List, [], ◌∷◌, ◌++◌, ◌≡◌, true, false, refl, map, pos, negsuc, bytes_eq, codes, arith}
 use Rattle.std.specs.List.{list_any}
 use Rattle.model_limits.specs.Limits.{standard_limits}
 use Rattle.model_shapes.specs.Sorts.{ValueSort, node_sort, list_sort, int_sort, str_sort, bool_sort, DataSort, tree, forest, grove, Sort, value, shape, context}
 use Rattle.model_shapes.specs.Values.{null, nolist, node_number, list_number, int, str, boolean}
-use Rattle.model_terms.specs.Variables.{Var, prog, logic, bound}
+use Rattle.model_terms.specs.Variables.{Var, prog, logic, bound, var_sort}
 use Rattle.model_terms.specs.Terms.{Term, literal, variable, sum, difference, appended}
 use Rattle.model_terms.specs.Stores.{ProgVar, named}
 use Rattle.model_terms.specs.Conditions.{Cond, cond_true, cond_false, cond_variable, cond_equal, cond_at_most, cond_not, cond_and, cond_or}
 use Rattle.model_formulas.specs.Formulas.{Named, Side, whole, hole_left, hole_right, truth, falsity, conjunction, disjunction, implication, negation, existential, universal, equality, at_most, empty, bare_hole, node_formula, one_tree, one_root, concatenation, grove_sum, grove_sum_hole, application, hole_adjoint, context_adjoint, same_as, length_is, value_meets}
 use Rattle.model_commands.specs.Commands.{Command, skip, block, assign, create_node, node_name, child_nodes, parent_node, list_item, append_child, remove_child, if_else, while_do, local, call, Block, stop, ◌then◌}
+use Rattle.model_commands.specs.Theories.{JudgementOf, entails, triple, ProcedureOf}
 use Rattle.model_text.specs.Lexemes.{Lexeme, terminal, name_lexeme, logic_lexeme, number_lexeme, literal_lexeme}
 use Rattle.model_text.proofs.OfTokens.{terminals}
 use Rattle.model_text.proofs.Computing.{lexing}
 use Rattle.model_grammar.specs.Words.{the, ◌⌢◌}
 use Rattle.model_grammar.specs.Terms.{Place, in_formula, in_command}
-use Rattle.model_grammar.specs.Writing.{name_lexemes, var_lexemes, term_lexemes, bracketed, hole_sign, star_sign, at_sign, into_sign, formula_lexemes, cond_lexemes, value_sort_lexemes, behind_commas, listed, in_brackets, command_lexemes, block_lexemes, further_commands, data_sort_lexemes, sort_lexemes, Each, IsName, IsLogicName, IsWritableName, IsLogic, IsLogicTerm, IsWritableTerm, IsWritable, IsWritableCondition, IsWritableCommand, IsWritableBlock, AreWritable}
-use Rattle.model_round_trip.proofs.Parts.{each_append}
+use Rattle.model_grammar.specs.Writing.{name_lexemes, var_lexemes, term_lexemes, bracketed, hole_sign, star_sign, at_sign, into_sign, formula_lexemes, cond_lexemes, value_sort_lexemes, behind_commas, listed, in_brackets, command_lexemes, block_lexemes, further_commands, data_sort_lexemes, sort_lexemes, declaration_lexemes, number_lexemes, argument_lexemes, judgement_lexemes, logic_line, all_lexemes, Each, IsName, IsLogicName, IsWritableName, IsLogic, IsLogicTerm, IsWritableTerm, IsWritable, IsWritableCondition, IsWritableCommand, IsWritableBlock, AreWritable}
+use Rattle.model_round_trip.specs.Writable.{IsNumeral, IsDeclarable, IsWritableJudgement, IsWritableProcedure}
+use Rattle.model_round_trip.proofs.Parts.{each_append, header_lines}
 
 -- it holds of the words and symbols of the grammar, of names and numbers, and of any literal
 pub record HoldsOfWritten (Can : Lexeme → Type 0) : Type 0 where
@@ -394,3 +396,90 @@ module _ (Can : Lexeme → Type 0) (holds : HoldsOfWritten Can) where
       beside (command_lexemes d) _ (command_holds d h.0)
           (commands_hold b h.1),
     )
+
+  -- ---- parts of theories
+
+  pub number_holds : (n : ℕ) → IsNumeral n → Each Can (number_lexemes n)
+  number_holds n h = (holds.of_number n (omega arith), tt)
+
+  declaration_holds : (x : ProgVar) → IsWritableName x → Each Can (declaration_lexemes x)
+  declaration_holds (named name s) h =
+      (holds.of_name name h, (word (codes ":") refl, value_sort_holds s))
+
+  pub arguments_hold : (es : List Term) → Each (IsWritableTerm in_formula) es
+      → Each Can (argument_lexemes es)
+  arguments_hold [] h = tt
+  arguments_hold (a ∷ es) h = (word (codes "with") refl, terms_hold in_formula (a ∷ es) h)
+
+  pub judgement_holds : (w : JudgementOf Named) → IsWritableJudgement w
+      → Each Can (judgement_lexemes w)
+  judgement_holds (entails p q s) h =
+      beside (formula_lexemes p) _ (formula_holds p h.0) (
+        word (codes "entails") refl,
+        beside (formula_lexemes q) _ (formula_holds q h.1) (word (codes "at") refl, sort_holds s),
+      )
+  judgement_holds (triple p d q k) h = (
+    word (codes "pre") refl,
+    beside (formula_lexemes p) _ (formula_holds p h.0) (
+      word (codes "do") refl,
+      beside (command_lexemes d) _ (command_holds d h.1) (
+        word (codes "post") refl,
+        beside (formula_lexemes q) _ (formula_holds q h.2)
+            (word (codes "at") refl, data_sort_holds k),
+      ),
+    ),
+  )
+
+  declarations_hold : (xs : List ProgVar) → Each IsWritableName xs
+      → Each Can (in_brackets (map declaration_lexemes xs))
+  declarations_hold = brackets_hold IsWritableName declaration_lexemes declaration_holds
+
+  pub header_holds : (f : ProcedureOf Named) → IsWritableProcedure f
+      → Each (Each Can) (header_lines f)
+  header_holds f h = (
+    (
+      word (codes "proc") refl,
+      (
+        holds.of_name f.name h.name,
+        beside (in_brackets (map declaration_lexemes f.params)) _ (declarations_hold f.params h.params) (
+          word (codes "returns") refl,
+          beside (in_brackets (map declaration_lexemes f.results)) _
+              (declarations_hold f.results h.results) (word (codes "sort") refl, data_sort_holds f.sort),
+        ),
+      ),
+    ),
+    (
+      (word (codes "requires") refl, formula_holds f.pre h.pre),
+      (
+        (word (codes "ensures") refl, formula_holds f.post h.post),
+        (
+          (word (codes "body") refl, command_holds f.body h.body),
+          ((word (codes "proof") refl, tt), tt),
+        ),
+      ),
+    ),
+  )
+
+  pub end_holds : Each Can (the "end")
+  end_holds = (word (codes "end") refl, tt)
+
+  logic_line_holds : (x : Var) → IsDeclarable x → Each Can (logic_line x)
+  logic_line_holds x h = (
+    word (codes "logic") refl,
+    beside (sort_lexemes (var_sort x)) _ (sort_holds (var_sort x))
+        (beside (var_lexemes x) _ (logic_holds x h.0) (word (codes ";") refl, tt)),
+  )
+
+  pub logic_lines_hold : (xs : List Var) → Each IsDeclarable xs
+      → Each (Each Can) (map logic_line xs)
+  logic_lines_hold [] h = tt
+  logic_lines_hold (x ∷ xs) h = (logic_line_holds x h.0, logic_lines_hold xs h.1)
+
+  pub version_holds : (n : ℕ) → IsNumeral n → Each Can (the "domlogic" ⌢ number_lexemes n)
+  version_holds n h = (word (codes "domlogic") refl, number_holds n h)
+
+  -- the lexemes of lines
+  pub all_hold : (lines : List (List Lexeme)) → Each (Each Can) lines
+      → Each Can (all_lexemes lines)
+  all_hold [] h = tt
+  all_hold (line ∷ lines) h = beside line _ h.0 (all_hold lines h.1)

@@ -1,5 +1,5 @@
 -- The lexemes of a theory that can be written spell it, but for the sorts of its variables.
-use Rattle.std.proofs.Common.{ℕ, List, [], ◌∷◌, ◌++◌, ◌≡◌, Bool, true, false, refl, sym, ap, ◌∙◌, subst, map, append_assoc, append-nil, map-id, codes, bytes_eq}
+use Rattle.std.proofs.Common.{ℕ, List, [], ◌∷◌, ◌≡◌, Bool, true, false, refl, sym, ap, ◌∙◌, subst, map, append_assoc, append-nil, map-id, codes, bytes_eq}
 use Rattle.std.specs.Prelude.{if◌then◌else◌}
 use Rattle.std.proofs.lemmas.Slice.Eq.{bytes_eq-Decides}
 use Rattle.model_shapes.specs.Sorts.{ValueSort, node_sort, list_sort, int_sort, str_sort, bool_sort, DataSort, tree, forest, grove, Sort, value, shape, context, is_sort}
@@ -15,10 +15,11 @@ use Rattle.model_grammar.specs.Terms.{Place, in_formula, in_command, SpellsName,
 use Rattle.model_grammar.specs.Commands.{Listed, last_item, more_items, Bracketed, no_item, some_items}
 use Rattle.model_grammar.specs.Theories as files
 use Rattle.model_grammar.specs.Theories.{SpellsAnyWord, SpellsNumber, small_number, SpellsDeclaration, declaration, SpellsArguments, SpellsReason, SpellsJudgement, SpellsStep, SpellsSteps, SpellsProcedure, SpellsProcedures, SpellsLogicLines, SpellsRaw, SpellsTheory}
-use Rattle.model_grammar.specs.Sorts.{sorted_term, sorted_reason, sorted_judgement, sorted_step, with_sorts}
+use Rattle.model_grammar.specs.Sorts.{sorted_formula, sorted_command, sorted_term, sorted_reason, sorted_judgement, sorted_step, with_sorts}
 use Rattle.model_grammar.specs.Writing.{undeclared, formula_lexemes, command_lexemes, term_lexemes, value_sort_lexemes, behind_commas, in_brackets, data_sort_lexemes, sort_lexemes, declaration_lexemes, number_lexemes, word_lexemes, argument_lexemes, reason_lexemes, judgement_lexemes, logic_line, step_line, procedure_lines, procedures_lines, theory_lines, all_lexemes, Each, IsWritableName, IsWritableTerm}
 use Rattle.model_grammar.proofs.Spelled.{term_spelled, formula_spelled, command_spelled}
 use Rattle.model_round_trip.specs.Writable.{IsNumeral, IsDeclarable, IsShapeSort, IsWritableReason, IsWritableJudgement, IsWritableStep, IsWritableProcedure, HasOne, IsWritableTheory}
+use Rattle.model_round_trip.proofs.Parts.{all_append, header_lines, in_a_row}
 use Rattle.model_round_trip.proofs.Resorted.{procedure_with, theory_with, theory_resorted}
 
 -- ---- words
@@ -86,21 +87,21 @@ module _ {A B : Type 0} (Spells : B → List Lexeme → Type 0) (Can : A → Typ
 -- of parts that are as they are
 module _ {A : Type 0} (Spells : A → List Lexeme → Type 0) (Can : A → Type 0)
     (lexemes : A → List Lexeme) (spelled : (x : A) → Can x → Spells x (lexemes x)) where
-  same_spelled : (xs : List A) → Each Can xs → Bracketed Spells xs (in_brackets (map lexemes xs))
+  pub same_spelled : (xs : List A) → Each Can xs → Bracketed Spells xs (in_brackets (map lexemes xs))
   same_spelled xs h =
       subst (λ (z : List A). Bracketed Spells z (in_brackets (map lexemes xs))) (map-id xs)
       (brackets_spelled Spells Can (λ x. x) lexemes spelled xs h)
 
 -- ---- steps
 
-number_spelled : (n : ℕ) → IsNumeral n → SpellsNumber n (number_lexemes n)
+pub number_spelled : (n : ℕ) → IsNumeral n → SpellsNumber n (number_lexemes n)
 number_spelled n h = small_number n h
 
 declaration_spelled : (x : ProgVar) → IsWritableName x
     → SpellsDeclaration x (declaration_lexemes x)
 declaration_spelled (named name s) h = declaration (a_name name) (value_sort_spelled s)
 
-arguments_spelled : (es : List Term) → Each (IsWritableTerm in_formula) es
+pub arguments_spelled : (es : List Term) → Each (IsWritableTerm in_formula) es
     → SpellsArguments (map (sorted_term undeclared) es) (argument_lexemes es)
 arguments_spelled [] h = files.no_argument
 arguments_spelled (a ∷ es) h =
@@ -115,7 +116,7 @@ reason_spelled (by_rule name premises arguments) h =
     (same_spelled SpellsNumber IsNumeral number_lexemes number_spelled premises h.1)
     (arguments_spelled arguments h.2)
 
-judgement_spelled : (w : JudgementOf Named) → IsWritableJudgement w
+pub judgement_spelled : (w : JudgementOf Named) → IsWritableJudgement w
     → SpellsJudgement (sorted_judgement undeclared w) (judgement_lexemes w)
 judgement_spelled (entails p q s) h =
     files.entailment (formula_spelled p h.0) (formula_spelled q h.1) (shape_sort_spelled s h.2)
@@ -137,31 +138,61 @@ steps_spelled (step ∷ steps) h =
 
 -- ---- procedures and theories
 
-pub all_append : (lines others : List (List Lexeme))
-    → all_lexemes (lines ++ others) ≡ all_lexemes lines ⌢ all_lexemes others
-all_append [] others = refl
-all_append (line ∷ lines) others =
-    ap (λ (z : List Lexeme). line ⌢ z) (all_append lines others)
-    ∙ sym (append_assoc line (all_lexemes lines) (all_lexemes others))
+-- the procedure with these for its steps
+abbrev pub raw_procedure : ProcedureOf Named → List (StepOf Named) → ProcedureOf Named
+raw_procedure f steps = record {
+  name = f.name;
+  params = f.params;
+  results = f.results;
+  sort = f.sort;
+  pre = sorted_formula undeclared f.pre;
+  post = sorted_formula undeclared f.post;
+  body = sorted_command undeclared f.body;
+  proof = steps;
+}
 
-procedure_spelled : (f : ProcedureOf Named) → IsWritableProcedure f
-    → SpellsProcedure (procedure_with undeclared f) (all_lexemes (procedure_lines f))
-procedure_spelled f h =
-    subst (SpellsProcedure (procedure_with undeclared f)) (sym (in_a_row f))
+-- the header as one list of lexemes and as several
+header_apart : (params results sort pre post body rest : List Lexeme) (name : Lexeme)
+    → the "proc" ⌢ name ∷ [] ⌢ params ⌢ the "returns" ⌢ results ⌢ the "sort" ⌢ sort
+    ⌢ the "requires" ⌢ pre ⌢ the "ensures" ⌢ post ⌢ the "body" ⌢ body ⌢ the "proof" ⌢ rest
+    ≡ all_lexemes ((the "proc" ⌢ name ∷ [] ⌢ params ⌢ the "returns" ⌢ results ⌢ the "sort" ⌢ sort)
+    ∷ (the "requires" ⌢ pre) ∷ (the "ensures" ⌢ post) ∷ (the "body" ⌢ body) ∷ the "proof" ∷ [])
+    ⌢ rest
+header_apart params results sort pre post body rest name =
+    sym (apart (the "proc" ⌢ name ∷ [] ⌢ params ⌢ the "returns" ⌢ results ⌢ the "sort" ⌢ sort)
+    (the "requires" ⌢ pre) (the "ensures" ⌢ post) (the "body" ⌢ body)
+    ∙ (λ j. the "proc" ⌢ name ∷ [] ⌢ first (the "requires" ⌢ pre ⌢ the "ensures" ⌢ post
+    ⌢ the "body" ⌢ body ⌢ the "proof" ⌢ rest) j)) where
+      apart : (a b c d : List Lexeme)
+          → (a ⌢ b ⌢ c ⌢ d ⌢ the "proof") ⌢ rest ≡ a ⌢ b ⌢ c ⌢ d ⌢ the "proof" ⌢ rest
+      apart a b c d = simp append_assoc refl
+
+      first : (more : List Lexeme) → (params ⌢ the "returns" ⌢ results ⌢ the "sort" ⌢ sort) ⌢ more
+          ≡ params ⌢ the "returns" ⌢ results ⌢ the "sort" ⌢ sort ⌢ more
+      first more = simp append_assoc refl
+
+pub procedure_around : (f : ProcedureOf Named) → IsWritableProcedure f
+    → {steps : List (StepOf Named)} {proof : List Lexeme} → SpellsSteps steps proof
+    → SpellsProcedure (raw_procedure f steps) (all_lexemes (header_lines f) ⌢ proof ⌢ the "end")
+procedure_around f h {steps} {proof} l =
+    subst (SpellsProcedure (raw_procedure f steps))
+    (header_apart (in_brackets (map declaration_lexemes f.params))
+    (in_brackets (map declaration_lexemes f.results)) (data_sort_lexemes f.sort)
+    (formula_lexemes f.pre) (formula_lexemes f.post) (command_lexemes f.body)
+    (proof ⌢ the "end") (name_lexeme f.name))
     (files.procedure (a_name f.name)
     (same_spelled SpellsDeclaration IsWritableName declaration_lexemes declaration_spelled f.params
     h.params)
     (same_spelled SpellsDeclaration IsWritableName declaration_lexemes declaration_spelled
     f.results h.results)
     (data_sort_spelled f.sort) (formula_spelled f.pre h.pre) (formula_spelled f.post h.post)
-    (command_spelled f.body h.body) (steps_spelled f.proof h.proof)) where
-      in_a_row : (f : ProcedureOf Named) → all_lexemes (procedure_lines f) ≡
-          the "proc" ⌢ name_lexeme f.name ∷ [] ⌢ in_brackets (map declaration_lexemes f.params)
-          ⌢ the "returns" ⌢ in_brackets (map declaration_lexemes f.results) ⌢ the "sort"
-          ⌢ data_sort_lexemes f.sort ⌢ the "requires" ⌢ formula_lexemes f.pre
-          ⌢ the "ensures" ⌢ formula_lexemes f.post ⌢ the "body" ⌢ command_lexemes f.body
-          ⌢ the "proof" ⌢ all_lexemes (map step_line f.proof) ⌢ the "end"
-      in_a_row f = simp (append_assoc, all_append) refl
+    (command_spelled f.body h.body) l)
+
+procedure_spelled : (f : ProcedureOf Named) → IsWritableProcedure f
+    → SpellsProcedure (procedure_with undeclared f) (all_lexemes (procedure_lines f))
+procedure_spelled f h =
+    subst (SpellsProcedure (procedure_with undeclared f)) (sym (in_a_row f))
+    (procedure_around f h (steps_spelled f.proof h.proof))
 
 procedures_spelled : (fs : List (ProcedureOf Named)) → HasOne fs → Each IsWritableProcedure fs
     → SpellsProcedures (map (procedure_with undeclared) fs) (all_lexemes (procedures_lines fs))
@@ -182,7 +213,7 @@ logic_spelled (logic name s) xs h l =
 logic_spelled (prog name s) xs h l = absurd h.0
 logic_spelled (bound i s) xs h l = absurd h.0
 
-logics_spelled : (xs : List Var) → Each IsDeclarable xs
+pub logics_spelled : (xs : List Var) → Each IsDeclarable xs
     → SpellsLogicLines xs (all_lexemes (map logic_line xs))
 logics_spelled [] h = files.no_line
 logics_spelled (x ∷ xs) h = logic_spelled x xs h.0 (logics_spelled xs h.1)
