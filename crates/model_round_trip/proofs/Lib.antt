@@ -8,3 +8,4 @@ pub mod Readable
 pub mod Parts
 pub mod EachLexeme
 pub mod Printed
+pub mod OtherLines

@@ -55,7 +55,7 @@ sort_spelled (shape k) h = t.shape_sort_word (shape_sort_spelled (shape k) h)
 sort_spelled (context j k) h = t.shape_sort_word (shape_sort_spelled (context j k) h)
 
 -- any word
-word_spelled : (word : List ℕ) → SpellsAnyWord word (word_lexemes word)
+pub word_spelled : (word : List ℕ) → SpellsAnyWord word (word_lexemes word)
 word_spelled word =
     by_tests (bytes_eq word (codes "step")) (is_reserved word) refl refl where
       by_tests : (step reserved : Bool) → bytes_eq word (codes "step") ≡ step
