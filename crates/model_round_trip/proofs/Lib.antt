@@ -9,3 +9,5 @@ pub mod Parts
 pub mod EachLexeme
 pub mod Printed
 pub mod OtherLines
+pub mod ReadTexts
+pub mod Laws

@@ -1,21 +1,24 @@
 -- What spells a formula or a command are the lexemes that are written for it, and no others.
 use Rattle.std.proofs.Common.{ℕ, List, [], ◌∷◌, ◌≡◌, refl, sym, ◌∙◌, map, append_assoc, append-nil}
-use Rattle.model_shapes.specs.Sorts.{ValueSort}
+use Rattle.model_shapes.specs.Sorts.{ValueSort, DataSort, Sort}
 use Rattle.model_terms.specs.Terms.{Term}
 use Rattle.model_terms.specs.Variables.{Var}
 use Rattle.model_terms.specs.Stores.{ProgVar}
 use Rattle.model_terms.specs.Conditions.{Cond}
 use Rattle.model_formulas.specs.Formulas.{Named}
 use Rattle.model_commands.specs.Commands.{Command, Block}
+use Rattle.model_commands.specs.Theories.{JudgementOf}
 use Rattle.model_text.specs.Lexemes.{Lexeme, name_lexeme, logic_lexeme}
 use Rattle.model_grammar.specs.Words.{the, ◌⌢◌}
 use Rattle.model_grammar.specs.Terms as t
-use Rattle.model_grammar.specs.Terms.{Place, in_command, used_logic, SpellsName, a_name, SpellsLogicName, a_logic_name, SpellsValueSort, SpellsTerm}
+use Rattle.model_grammar.specs.Terms.{Place, in_command, used_logic, SpellsName, a_name, SpellsLogicName, a_logic_name, SpellsValueSort, SpellsDataSort, SpellsShapeSort, SpellsSort, in_formula, SpellsTerm}
 use Rattle.model_grammar.specs.Formulas as g
 use Rattle.model_grammar.specs.Formulas.{SpellsFormula}
 use Rattle.model_grammar.specs.Commands as c
 use Rattle.model_grammar.specs.Commands.{Listed, Bracketed, SpellsVariable, SpellsCondition, SpellsCommand, SpellsBlock, SpellsCommands}
-use Rattle.model_grammar.specs.Writing.{name_lexemes, term_lexemes, braced, bracketed, quantified, formula_lexemes, cond_lexemes, value_sort_lexemes, behind_commas, listed, in_brackets, command_lexemes, block_lexemes, further_commands}
+use Rattle.model_grammar.specs.Theories as files
+use Rattle.model_grammar.specs.Theories.{SpellsNumber, SpellsDeclaration, SpellsArguments, SpellsJudgement}
+use Rattle.model_grammar.specs.Writing.{data_sort_lexemes, sort_lexemes, declaration_lexemes, number_lexemes, argument_lexemes, judgement_lexemes, name_lexemes, term_lexemes, braced, bracketed, quantified, formula_lexemes, cond_lexemes, value_sort_lexemes, behind_commas, listed, in_brackets, command_lexemes, block_lexemes, further_commands}
 
 -- ---- terms
 
@@ -239,3 +242,63 @@ mutual
       λ j. the ";" ⌢ (append-nil (command_lexemes d) ∙ command_written l) j
   further_written (c.more_commands l ls) =
       λ j. the ";" ⌢ command_written l j ⌢ further_written ls j
+
+-- ---- parts of theories
+
+pub data_sort_written : {k : DataSort} {s : List Lexeme} → SpellsDataSort k s
+    → data_sort_lexemes k ≡ s
+data_sort_written t.tree_word = refl
+data_sort_written t.forest_word = refl
+data_sort_written t.grove_word = refl
+
+shape_sort_written : {k : Sort} {s : List Lexeme} → SpellsShapeSort k s → sort_lexemes k ≡ s
+shape_sort_written (t.data_sort l) = data_sort_written l
+shape_sort_written t.tree_in_tree = refl
+shape_sort_written t.tree_in_forest = refl
+shape_sort_written t.tree_in_grove = refl
+shape_sort_written t.forest_in_tree = refl
+shape_sort_written t.forest_in_forest = refl
+shape_sort_written t.forest_in_grove = refl
+shape_sort_written t.grove_in_grove = refl
+
+pub sort_written : {k : Sort} {s : List Lexeme} → SpellsSort k s → sort_lexemes k ≡ s
+sort_written (t.value_sort_word l) = value_sort_written l
+sort_written (t.shape_sort_word l) = shape_sort_written l
+
+declaration_written : {x : ProgVar} {s : List Lexeme} → SpellsDeclaration x s
+    → declaration_lexemes x ≡ s
+declaration_written (files.declaration l m) =
+    λ j. name_written l j ⌢ the ":" ⌢ value_sort_written m j
+
+pub declarations_written : {xs : List ProgVar} {s : List Lexeme} → Bracketed SpellsDeclaration xs s
+    → in_brackets (map declaration_lexemes xs) ≡ s
+declarations_written =
+    brackets_written SpellsDeclaration declaration_lexemes (λ x s l. declaration_written l)
+
+number_written : {n : ℕ} {s : List Lexeme} → SpellsNumber n s → number_lexemes n ≡ s
+number_written (files.small_number n h) = refl
+
+pub numbers_written : {ns : List ℕ} {s : List Lexeme} → Bracketed SpellsNumber ns s
+    → in_brackets (map number_lexemes ns) ≡ s
+numbers_written = brackets_written SpellsNumber number_lexemes (λ n s l. number_written l)
+
+pub arguments_written : {es : List Term} {s : List Lexeme} → SpellsArguments es s
+    → argument_lexemes es ≡ s
+arguments_written files.no_argument = refl
+arguments_written (files.some_arguments ls) =
+    some_written ls ∙ (λ j. the "with" ⌢ the "("
+    ⌢ list_written (SpellsTerm in_formula) term_lexemes (λ a s l. term_written l) ls j ⌢ the ")")
+  where
+    some_written : {es : List Term} {s : List Lexeme} → Listed (SpellsTerm in_formula) es s
+        → argument_lexemes es ≡ the "with" ⌢ in_brackets (map term_lexemes es)
+    some_written (c.last_item l) = refl
+    some_written (c.more_items l ls) = refl
+
+pub judgement_written : {w : JudgementOf Named} {s : List Lexeme} → SpellsJudgement w s
+    → judgement_lexemes w ≡ s
+judgement_written (files.entailment l m n) =
+    λ j. formula_written l j ⌢ the "entails" ⌢ formula_written m j ⌢ the "at"
+    ⌢ shape_sort_written n j
+judgement_written (files.a_triple l m n k) =
+    λ j. the "pre" ⌢ formula_written l j ⌢ the "do" ⌢ command_written m j ⌢ the "post"
+    ⌢ formula_written n j ⌢ the "at" ⌢ data_sort_written k j

@@ -28,7 +28,7 @@ logic_of_token name h = printable (logic_lexeme name) h (λ e. cc)
 
 -- ---- words, reserved or not
 
-abbrev word_by : Bool → Bool → List ℕ → ℕ → Lexeme
+abbrev pub word_by : Bool → Bool → List ℕ → ℕ → Lexeme
 word_by step reserved text line =
     if step then step_word line else (if reserved then terminal text else name_lexeme text)
 
