@@ -1,0 +1,13 @@
+pub mod Resorted
+pub mod SameWriting
+pub mod StillWritable
+pub mod Written
+pub mod OneSpelling
+pub mod Tokens
+pub mod Readable
+pub mod Parts
+pub mod EachLexeme
+pub mod Printed
+pub mod OtherLines
+pub mod ReadTexts
+pub mod Laws

@@ -1,0 +1,3 @@
+pub mod Writable
+pub mod Literals
+pub mod ReadBack
