@@ -7,5 +7,6 @@ pub mod Found
 pub mod Numbers
 pub mod Literals
 pub mod Printing
+pub mod Backwards
 pub mod Lines
 pub mod Terminals
