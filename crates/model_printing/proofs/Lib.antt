@@ -10,3 +10,6 @@ pub mod Printing
 pub mod Backwards
 pub mod Lines
 pub mod Terminals
+pub mod Parts
+pub mod GroveLexemes
+pub mod Groves

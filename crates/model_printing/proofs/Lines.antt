@@ -1,21 +1,16 @@
 -- Lexemes that are printed with a space between each two, and lines of them, read back.
-use Rattle.std.proofs.Common.{◌≡◌, ℕ, true, List, [], ◌∷◌, ◌++◌, length, map, encode_utf8_all, refl, sym, subst, ◌∙◌, ap, append_assoc}
-use Rattle.std.proofs.Math.Utf8.{scalars}
+use Rattle.std.proofs.Common.{◌≡◌, ℕ, List, [], ◌∷◌, ◌++◌, length, map, refl, sym, subst, ◌∙◌, ap, append_assoc}
 use Rattle.std.proofs.lemmas.List.{append-nil, map-append}
-use Rattle.std.proofs.lemmas.Str.{encodes-append}
 use Rattle.model_text.specs.Lexemes.{Lexeme, terminal, step_word, name_lexeme, logic_lexeme, number_lexeme, literal_lexeme, bad_lexeme}
 use Rattle.model_text.specs.Tokens.{TokenKind, newline, piece_at, token_piece}
 use Rattle.model_text.specs.Nesting.{lexemes_of}
-use Rattle.model_text.proofs.Computing.{lexing}
 use Rattle.model_grammar.specs.Writing.{Each, printed, spaced, text_of, text_of_lines, all_lexemes}
 use Rattle.model_printing.specs.Printable.{IsPrintable, ArePrintable, HasNoLine, without_line}
 use Rattle.model_printing.proofs.Alone.{IsToken}
 use Rattle.model_printing.proofs.Ended.{EndsTokens, space_ends, newline_ends, token_before}
-use Rattle.model_printing.proofs.Reading.{lexemes_in, nothing_in, gap_in, token_in, lexemes_of_characters}
-use Rattle.model_printing.proofs.Scalars.{scalars_both}
 use Rattle.model_printing.proofs.Found.{lines_kept}
 use Rattle.model_printing.proofs.Printing.{printable_token}
-use Rattle.model_printing.proofs.Backwards.{Reads, First, ReadsFrom, IsGap, nothing_reads, token_reads, gap_reads, read_back}
+use Rattle.model_printing.proofs.Backwards.{Reads, First, ReadsFrom, space_is_gap, newline_is_gap, nothing_reads, token_reads, gap_reads, read_back}
 
 before_rest : (kind : TokenKind) (own rest : List ℕ) → IsToken kind own → First EndsTokens rest
     → piece_at (own ++ rest) ≡ token_piece kind (length own)
@@ -29,14 +24,6 @@ printed_reads : (lexeme : Lexeme) (bytes : List ℕ) (lexemes : List Lexeme) →
 printed_reads lexeme bytes lexemes can behind = let so = printable_token lexeme can in
     token_reads so behind.reads
     (before_rest so.kind so.own behind.reads.own so.token behind.first)
-
-space_is_gap : IsGap 32
-unfolding lexing
-space_is_gap = record { valid = refl; byte = refl; piece = λ rest. refl }
-
-newline_is_gap : IsGap newline
-unfolding lexing
-newline_is_gap = record { valid = refl; byte = refl; piece = λ rest. refl }
 
 -- A LINE
 spaced_reads : (line : List Lexeme) (bytes : List ℕ) (lexemes : List Lexeme) → ArePrintable line
