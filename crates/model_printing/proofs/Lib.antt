@@ -10,6 +10,8 @@ pub mod Printing
 pub mod Backwards
 pub mod Lines
 pub mod Terminals
+pub mod WorkedPrinting
 pub mod Parts
 pub mod GroveLexemes
+pub mod GroveTokens
 pub mod Groves

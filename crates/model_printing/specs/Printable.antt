@@ -7,7 +7,7 @@ use Rattle.model_shapes.specs.Trees.{Trees, none, node, hole}
 use Rattle.model_text.specs.Lexemes.{Lexeme, terminal, step_word, name_lexeme, logic_lexeme, number_lexeme, literal_lexeme, bad_lexeme, reserved_words}
 use Rattle.model_text.specs.Tokens.{symbols}
 use Rattle.model_text.specs.Nesting.{lexemes_of}
-use Rattle.model_grammar.specs.Writing.{Each}
+use Rattle.model_grammar.specs.Writing.{Each, IsName, IsLogicName}
 
 -- a number fits, the text of a literal is UTF-8, and a word or a symbol is its own only token
 abbrev pub IsPrintable : Lexeme → Type 0
@@ -16,8 +16,8 @@ IsPrintable (literal_lexeme text) = IsUtf8 text
 IsPrintable (step_word line) = Unit
 IsPrintable bad_lexeme = ⊥
 IsPrintable (terminal text) = lexemes_of text ≡ terminal text ∷ []
-IsPrintable (name_lexeme name) = lexemes_of name ≡ name_lexeme name ∷ []
-IsPrintable (logic_lexeme name) = lexemes_of name ≡ logic_lexeme name ∷ []
+IsPrintable (name_lexeme name) = IsName name
+IsPrintable (logic_lexeme name) = IsLogicName name
 
 -- each of them can be printed
 abbrev pub ArePrintable : List Lexeme → Type 0
