@@ -38,7 +38,8 @@ pub any_first : (own : List ℕ) → First Any own
 any_first [] = tt
 any_first (c ∷ own) = tt
 
-pub any : {bytes : List ℕ} {lexemes : List Lexeme} → Reads bytes lexemes → ReadsFrom Any bytes lexemes
+pub any : {bytes : List ℕ} {lexemes : List Lexeme} → Reads bytes lexemes
+    → ReadsFrom Any bytes lexemes
 any so = record { reads = so; first = any_first so.own }
 
 -- TOKENS BEFORE WHAT FOLLOWS
@@ -51,8 +52,8 @@ digits_rest kind (c ∷ own) [] digits token first = ap piece_at (append-nil (c 
 digits_rest kind (c ∷ own) (d ∷ rest) digits token first =
     digits_before kind c own rest d first (and_parts (is_ascii_digit c) _ digits).0 token
 
-pub number_reads : (n : ℕ) → n ≤ standard_limits.integer → {bytes : List ℕ} → {lexemes : List Lexeme}
-    → ReadsFrom NoDigit bytes lexemes → Reads (decimal n ++ bytes) (number_lexeme n ∷ lexemes)
+pub number_reads : (n : ℕ) → n ≤ standard_limits.integer → {bytes : List ℕ}
+    → {lexemes : List Lexeme} → ReadsFrom NoDigit bytes lexemes → Reads (decimal n ++ bytes) (number_lexeme n ∷ lexemes)
 number_reads n fits rest = token_reads (number_has_token n fits) rest.reads
     (digits_rest number_token (decimal n) rest.reads.own (decimal_digits n fits)
     (decimal_is_token n fits) rest.first)
@@ -91,9 +92,11 @@ symbol_reads so Is is rest = record {
   first = is;
 }
 
--- where the character is this one
+-- where the next character is this one
 before_this : (c next : ℕ)
-    → ((rest : List ℕ) → piece_at (c ∷ next ∷ rest) ≡ token_piece symbol_token 1) → piece_at (c ∷ []) ≡ token_piece symbol_token 1 → (rest : List ℕ) → First (λ x. next ≡ x) rest
+    → ((rest : List ℕ) → piece_at (c ∷ next ∷ rest) ≡ token_piece symbol_token 1)
+    → piece_at (c ∷ []) ≡ token_piece symbol_token 1
+    → (rest : List ℕ) → First (λ x. next ≡ x) rest
     → piece_at (c ∷ rest) ≡ token_piece symbol_token 1
 before_this c next some last [] first = last
 before_this c next some last (x ∷ rest) first =
