@@ -53,7 +53,8 @@ digits_rest kind (c ∷ own) (d ∷ rest) digits token first =
     digits_before kind c own rest d first (and_parts (is_ascii_digit c) _ digits).0 token
 
 pub number_reads : (n : ℕ) → n ≤ standard_limits.integer → {bytes : List ℕ}
-    → {lexemes : List Lexeme} → ReadsFrom NoDigit bytes lexemes → Reads (decimal n ++ bytes) (number_lexeme n ∷ lexemes)
+    → {lexemes : List Lexeme} → ReadsFrom NoDigit bytes lexemes
+    → Reads (decimal n ++ bytes) (number_lexeme n ∷ lexemes)
 number_reads n fits rest = token_reads (number_has_token n fits) rest.reads
     (digits_rest number_token (decimal n) rest.reads.own (decimal_digits n fits)
     (decimal_is_token n fits) rest.first)
