@@ -156,8 +156,8 @@ token_alone kind (first ∷ own) more e =
         let all : prefix_len in_digit_run (first ∷ (own ++ more)) ≡ length (first ∷ own) =
         sym (length-prefix_len in_digit_run (first ∷ (own ++ more)))
         ∙ digits_length (digit_run (first ∷ (own ++ more))) kind (length (first ∷ own)) e in
-        digit_piece first own digit
-        ∙ ap digits_piece (run_alone (first ∷ own) more all ∙ sym (run_is_own (first ∷ own) more all))
-        ∙ e
+        let run : digit_run (first ∷ own) ≡ digit_run (first ∷ (own ++ more)) =
+        run_alone (first ∷ own) more all ∙ sym (run_is_own (first ∷ own) more all) in
+        digit_piece first own digit ∙ ap digits_piece run ∙ e
     by_start (with_other plain e) = other_piece first own plain
         ∙ longest_token_same (first ∷ own) more (omega (arith, ap piece_length e)) ∙ e

@@ -1,5 +1,5 @@
 -- Each lexeme of a text but a bad one can be printed.
-use Rattle.std.proofs.Common.{◌≡◌, ℕ, zero, suc, ◌+◌, ◌-◌, ◌≤◌, ◌==◌, Bool, true, false, List, [], ◌∷◌, length, map, take, drop, Some, encode_utf8_all, codes, bytes_eq, nat_le, refl, sym, subst, ◌∙◌, ap, arith, inl, inr}
+use Rattle.std.proofs.Common.{◌≡◌, ◌≢◌, ℕ, zero, suc, ◌+◌, ◌-◌, ◌≤◌, ◌==◌, Bool, true, false, List, [], ◌∷◌, length, map, take, drop, Some, encode_utf8_all, codes, bytes_eq, nat_le, refl, sym, subst, ◌∙◌, ap, arith, inl, inr}
 use Rattle.std.specs.Prelude.{if◌then◌else◌, ◌⊎◌, slice_get}
 use Rattle.std.proofs.Math.Utf8.{scalars}
 use Rattle.std.proofs.lemmas.Bool.{and_parts}
@@ -14,7 +14,7 @@ use Rattle.model_text.specs.Tokens.{Token, TokenKind, word_token, logic_token, n
 use Rattle.model_text.specs.Nesting.{lexemes_of}
 use Rattle.model_text.specs.FaultTokens.{IsOfToken}
 use Rattle.model_text.proofs.Pieces.{Fits, piece_at-Fits}
-use Rattle.model_grammar.specs.Writing.{Each}
+use Rattle.model_grammar.specs.Writing.{Each, IsName, IsLogicName}
 use Rattle.model_printing.specs.Printable.{IsPrintable, HasNoLine, without_line}
 use Rattle.model_printing.proofs.Alone.{IsToken, token_alone}
 use Rattle.model_printing.proofs.Reading.{lexemes_in, token_in, nothing_in, lexemes_of_characters}
@@ -169,3 +169,18 @@ found_printable lexeme (inr so) = subst CanBePrinted (sym so.is)
 
 pub token_printable : (lexeme : Lexeme) → IsOfToken lexeme → CanBePrinted lexeme
 token_printable lexeme so = found_printable lexeme (token_found lexeme so)
+
+pub good_printable : (lexeme : Lexeme) → lexeme ≢ bad_lexeme → IsOfToken lexeme
+    → IsPrintable lexeme
+good_printable lexeme good so = by_case (token_printable lexeme so)
+  where
+    by_case : CanBePrinted lexeme → IsPrintable lexeme
+    by_case (inl bad) = absurd (good bad)
+    by_case (inr can) = can
+
+-- a name in a text is one, and so is one of the logic
+pub name_of_token : (name : List ℕ) → IsOfToken (name_lexeme name) → IsName name
+name_of_token name so = good_printable (name_lexeme name) (λ e. cc) so
+
+pub logic_of_token : (name : List ℕ) → IsOfToken (logic_lexeme name) → IsLogicName name
+logic_of_token name so = good_printable (logic_lexeme name) (λ e. cc) so

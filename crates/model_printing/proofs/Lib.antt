@@ -7,5 +7,11 @@ pub mod Found
 pub mod Numbers
 pub mod Literals
 pub mod Printing
+pub mod Backwards
 pub mod Lines
 pub mod Terminals
+pub mod WorkedPrinting
+pub mod Parts
+pub mod GroveLexemes
+pub mod GroveTokens
+pub mod Groves

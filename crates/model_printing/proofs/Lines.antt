@@ -1,103 +1,44 @@
 -- Lexemes that are printed with a space between each two, and lines of them, read back.
-use Rattle.std.proofs.Common.{◌≡◌, ℕ, true, List, [], ◌∷◌, ◌++◌, length, map, encode_utf8_all, refl, sym, subst, ◌∙◌, ap, append_assoc}
-use Rattle.std.proofs.Math.Utf8.{scalars}
+use Rattle.std.proofs.Common.{◌≡◌, ℕ, List, [], ◌∷◌, ◌++◌, length, map, refl, sym, subst, ◌∙◌, ap, append_assoc}
 use Rattle.std.proofs.lemmas.List.{append-nil, map-append}
-use Rattle.std.proofs.lemmas.Str.{encodes-append}
 use Rattle.model_text.specs.Lexemes.{Lexeme, terminal, step_word, name_lexeme, logic_lexeme, number_lexeme, literal_lexeme, bad_lexeme}
 use Rattle.model_text.specs.Tokens.{TokenKind, newline, piece_at, token_piece}
 use Rattle.model_text.specs.Nesting.{lexemes_of}
-use Rattle.model_text.proofs.Computing.{lexing}
 use Rattle.model_grammar.specs.Writing.{Each, printed, spaced, text_of, text_of_lines, all_lexemes}
 use Rattle.model_printing.specs.Printable.{IsPrintable, ArePrintable, HasNoLine, without_line}
 use Rattle.model_printing.proofs.Alone.{IsToken}
 use Rattle.model_printing.proofs.Ended.{EndsTokens, space_ends, newline_ends, token_before}
-use Rattle.model_printing.proofs.Reading.{lexemes_in, nothing_in, gap_in, token_in, lexemes_of_characters}
-use Rattle.model_printing.proofs.Scalars.{scalars_both}
 use Rattle.model_printing.proofs.Found.{lines_kept}
 use Rattle.model_printing.proofs.Printing.{printable_token}
+use Rattle.model_printing.proofs.Backwards.{Reads, First, ReadsFrom, space_is_gap, newline_is_gap, nothing_reads, token_reads, gap_reads, read_back}
 
--- nothing follows, or a character that no token goes on with
-abbrev Ends : List ℕ → Type 0
-Ends [] = Unit
-Ends (c ∷ rest) = EndsTokens c
-
--- the bytes have these lexemes, on no line
-record Reads (bytes : List ℕ) (lexemes : List Lexeme) : Type 0 where
-  own : List ℕ
-  valid : scalars own ≡ true
-  spelled : encode_utf8_all own ≡ bytes
-  seen : lexemes_in own ≡ lexemes
-
--- and no token before them goes on in them
-record ReadsBehind (bytes : List ℕ) (lexemes : List Lexeme) : Type 0 where
-  reads : Reads bytes lexemes
-  ends : Ends reads.own
-
-nothing_reads : ReadsBehind [] []
-nothing_reads = record {
-  reads = record { own = []; valid = refl; spelled = refl; seen = nothing_in };
-  ends = tt;
-}
-
-before_rest : (kind : TokenKind) (own rest : List ℕ) → IsToken kind own → Ends rest
+before_rest : (kind : TokenKind) (own rest : List ℕ) → IsToken kind own → First EndsTokens rest
     → piece_at (own ++ rest) ≡ token_piece kind (length own)
 before_rest kind own [] token ends = ap piece_at (append-nil own) ∙ token
 before_rest kind own (c ∷ rest) token ends = token_before kind own rest c ends token
 
--- a lexeme before them
+-- a lexeme before what no token goes on with
 printed_reads : (lexeme : Lexeme) (bytes : List ℕ) (lexemes : List Lexeme) → IsPrintable lexeme
-    → ReadsBehind bytes lexemes → Reads (printed lexeme ++ bytes) (without_line lexeme ∷ lexemes)
+    → ReadsFrom EndsTokens bytes lexemes
+    → Reads (printed lexeme ++ bytes) (without_line lexeme ∷ lexemes)
 printed_reads lexeme bytes lexemes can behind = let so = printable_token lexeme can in
-    let rest = behind.reads in record {
-      own = so.own ++ rest.own;
-      valid = scalars_both so.own rest.own so.valid rest.valid;
-      spelled = encodes-append so.own rest.own ∙ (λ i. so.bytes i ++ rest.spelled i);
-      seen = token_in so.kind so.own rest.own
-          (before_rest so.kind so.own rest.own so.token behind.ends)
-          ∙ (λ i. so.seen i ∷ rest.seen i);
-    }
-
--- a space or a newline before them
-space_reads : (bytes : List ℕ) (lexemes : List Lexeme) → Reads bytes lexemes
-    → ReadsBehind (32 ∷ bytes) lexemes
-unfolding lexing
-space_reads bytes lexemes rest = record {
-  reads = record {
-    own = 32 ∷ rest.own;
-    valid = rest.valid;
-    spelled = ap (λ other. 32 ∷ other) rest.spelled;
-    seen = gap_in (32 ∷ []) rest.own refl ∙ rest.seen;
-  };
-  ends = space_ends;
-}
-
-newline_reads : (bytes : List ℕ) (lexemes : List Lexeme) → Reads bytes lexemes
-    → ReadsBehind (newline ∷ bytes) lexemes
-unfolding lexing
-newline_reads bytes lexemes rest = record {
-  reads = record {
-    own = newline ∷ rest.own;
-    valid = rest.valid;
-    spelled = ap (λ other. newline ∷ other) rest.spelled;
-    seen = gap_in (newline ∷ []) rest.own refl ∙ rest.seen;
-  };
-  ends = newline_ends;
-}
+    token_reads so behind.reads
+    (before_rest so.kind so.own behind.reads.own so.token behind.first)
 
 -- A LINE
 spaced_reads : (line : List Lexeme) (bytes : List ℕ) (lexemes : List Lexeme) → ArePrintable line
-    → ReadsBehind bytes lexemes
-    → ReadsBehind (spaced line ++ bytes) (map without_line line ++ lexemes)
+    → ReadsFrom EndsTokens bytes lexemes
+    → ReadsFrom EndsTokens (spaced line ++ bytes) (map without_line line ++ lexemes)
 spaced_reads [] bytes lexemes can behind = behind
 spaced_reads (first ∷ line) bytes lexemes can behind =
-    space_reads ((printed first ++ spaced line) ++ bytes) _
+    gap_reads EndsTokens 32 space_is_gap space_ends
     (subst (λ text. Reads text (without_line first ∷ (map without_line line ++ lexemes)))
     (sym (append_assoc (printed first) (spaced line) bytes))
     (printed_reads first (spaced line ++ bytes) (map without_line line ++ lexemes) can.0
     (spaced_reads line bytes lexemes can.1 behind)))
 
 line_reads : (line : List Lexeme) (bytes : List ℕ) (lexemes : List Lexeme) → ArePrintable line
-    → ReadsBehind bytes lexemes
+    → ReadsFrom EndsTokens bytes lexemes
     → Reads (text_of line ++ bytes) (map without_line line ++ lexemes)
 line_reads [] bytes lexemes can behind = behind.reads
 line_reads (first ∷ line) bytes lexemes can behind =
@@ -109,31 +50,24 @@ line_reads (first ∷ line) bytes lexemes can behind =
 -- LINES
 lines_read : (lines : List (List Lexeme)) → Each ArePrintable lines
     → Reads (text_of_lines lines) (map without_line (all_lexemes lines))
-lines_read [] can = nothing_reads.reads
+lines_read [] can = (nothing_reads {Is = EndsTokens}).reads
 lines_read (line ∷ rest) can =
     subst (Reads (text_of line ++ newline ∷ text_of_lines rest))
     (sym (map-append without_line line (all_lexemes rest)))
     (line_reads line (newline ∷ text_of_lines rest) (map without_line (all_lexemes rest)) can.0
-    (newline_reads (text_of_lines rest) (map without_line (all_lexemes rest))
-    (lines_read rest can.1)))
+    (gap_reads EndsTokens newline newline_is_gap newline_ends (lines_read rest can.1)))
 
 -- WHAT IS READ
-read_back : (bytes : List ℕ) (lexemes : List Lexeme) → Reads bytes lexemes
-    → map without_line (lexemes_of bytes) ≡ lexemes
-read_back bytes lexemes so = ap (λ text. map without_line (lexemes_of text)) (sym so.spelled)
-    ∙ lexemes_of_characters so.own so.valid ∙ so.seen
-
 pub lines_read_back : (lines : List (List Lexeme)) → Each ArePrintable lines
     → map without_line (lexemes_of (text_of_lines lines))
     ≡ map without_line (all_lexemes lines)
-lines_read_back lines can = read_back (text_of_lines lines) _ (lines_read lines can)
+lines_read_back lines can = read_back (lines_read lines can)
 
 pub text_reads_back : (lexemes : List Lexeme) → ArePrintable lexemes
     → map without_line (lexemes_of (text_of lexemes)) ≡ map without_line lexemes
 text_reads_back lexemes can = ap (λ text. map without_line (lexemes_of text))
     (sym (append-nil (text_of lexemes)))
-    ∙ read_back (text_of lexemes ++ []) (map without_line lexemes ++ [])
-    (line_reads lexemes [] [] can nothing_reads)
+    ∙ read_back (line_reads lexemes [] [] can nothing_reads)
     ∙ append-nil (map without_line lexemes)
 
 -- without a line nothing is lost

@@ -1,4 +1,4 @@
--- A text in quotes, with its quotes, backslashes and newlines escaped, is a token that stands for it.
+-- A text in quotes, each quote, backslash and newline of it escaped, is a token that stands for it.
 use Rattle.std.proofs.Common.{◌≡◌, ℕ, suc, ◌+◌, ◌-◌, ◌≤◌, ◌<◌, ◌==◌, Bool, true, false, List, [], ◌∷◌, ◌++◌, length, take, encode_utf8_all, nat_lt, refl, sym, subst, ◌∙◌, ap, arith, append_assoc, length-append}
 use Rattle.std.specs.Prelude.{if◌then◌else◌, cond}
 use Rattle.std.proofs.Math.Utf8.{scalar, scalars, encode}

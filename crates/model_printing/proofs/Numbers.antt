@@ -91,10 +91,13 @@ module _ (n : ℕ) (fits : n ≤ standard_limits.integer) where
   value : digits_value 10 (decimal n) ≡ n
   value = digits_value-decimal digits_model n below
 
+  pub decimal_digits : list_all is_ascii_digit (decimal n) ≡ true
+  decimal_digits = digits_decimal digits_model n below
+
   pub decimal_fits : digits_fit (decimal n) ≡ true
   decimal_fits = both (list_all is_ascii_digit (decimal n))
       (nat_le (digits_value 10 (decimal n)) standard_limits.integer)
-      (digits_decimal digits_model n below)
+      decimal_digits
       (at_most (digits_value 10 (decimal n)) (omega (arith, value)))
     where
       at_most : (k : ℕ) → k ≤ standard_limits.integer → nat_le k standard_limits.integer ≡ true

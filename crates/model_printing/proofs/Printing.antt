@@ -94,7 +94,7 @@ step_token line = record {
   seen = refl;
 }
 
-number_has_token : (n : ℕ) → IsPrintable (number_lexeme n) → HasToken (number_lexeme n)
+abbrev pub number_has_token : (n : ℕ) → IsPrintable (number_lexeme n) → HasToken (number_lexeme n)
 number_has_token n fits = record {
   kind = number_token;
   own = decimal n;
@@ -104,7 +104,7 @@ number_has_token n fits = record {
   seen = ap without_line (decimal_seen n fits);
 }
 
-literal_has_token : (text : List ℕ) → IsUtf8 text → HasToken (literal_lexeme text)
+abbrev pub literal_has_token : (text : List ℕ) → IsUtf8 text → HasToken (literal_lexeme text)
 literal_has_token text (own, (valid, bytes)) = record {
   kind = literal_token;
   own = quoted own;

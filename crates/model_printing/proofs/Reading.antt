@@ -57,7 +57,8 @@ cancels : (a m n : ℕ) → (a + m == a + n) ≡ (m == n)
 cancels a m n = grind (arith, nat_tests)
 
 module _ (own text : List ℕ) (number : ℕ) where
-  same_end : (place_of (own ++ text) (length own + number) == length (encode_utf8_all (own ++ text)))
+  same_end : (place_of (own ++ text) (length own + number)
+      == length (encode_utf8_all (own ++ text)))
       ≡ (place_of text number == length (encode_utf8_all text))
   same_end = let place : place_of (own ++ text) (length own + number)
       ≡ length (encode_utf8_all own) + place_of text number =

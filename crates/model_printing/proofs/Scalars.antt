@@ -49,15 +49,15 @@ scalars_unescaped false (c ∷ text) e = let parts = and_parts (scalar c) (scala
     by_test false here behind plain = both (scalar c) (scalars (unescaped false text)) here plain
 
 -- the longest front that is UTF-8 is
-by_test : (bytes : List ℕ) (n m : ℕ) (b : Bool) → (b ≡ true → IsUtf8 (take n bytes))
+by_validity : (bytes : List ℕ) (n m : ℕ) (b : Bool) → (b ≡ true → IsUtf8 (take n bytes))
     → IsUtf8 (take m bytes) → IsUtf8 (take (if b then n else m) bytes)
-by_test bytes n m true whole less = whole refl
-by_test bytes n m false whole less = less
+by_validity bytes n m true whole less = whole refl
+by_validity bytes n m false whole less = less
 
 valid_up_to : (bytes : List ℕ) (n : ℕ) → IsUtf8 (take (valid_len_up_to bytes n) bytes)
 valid_up_to bytes zero = IsUtf8-nil
 valid_up_to bytes (suc n) =
-    by_test bytes (suc n) (valid_len_up_to bytes n) (is_utf8 (take (suc n) bytes))
+    by_validity bytes (suc n) (valid_len_up_to bytes n) (is_utf8 (take (suc n) bytes))
     (IsUtf8-from_is_utf8 (take (suc n) bytes)) (valid_up_to bytes n)
 
 valid_front : (bytes : List ℕ) → IsUtf8 (take (utf8_valid_len bytes) bytes)

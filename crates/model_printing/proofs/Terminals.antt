@@ -1,14 +1,14 @@
 -- The symbols and the reserved words can be printed.
-use Rattle.std.proofs.Common.{◌≡◌, ℕ, Bool, true, false, List, [], ◌∷◌, map, refl, sym, subst, bytes_eq, inl, inr}
-use Rattle.std.specs.Prelude.{◌||◌, ◌⊎◌}
+use Rattle.std.proofs.Common.{◌≡◌, ℕ, Bool, true, false, List, [], ◌∷◌, map, refl, sym, subst, bytes_eq}
+use Rattle.std.specs.Prelude.{◌||◌}
 use Rattle.std.specs.List.{list_any}
 use Rattle.std.proofs.lemmas.Slice.Eq.{bytes_eq-Decides}
-use Rattle.model_text.specs.Lexemes.{terminal, bad_lexeme}
+use Rattle.model_text.specs.Lexemes.{terminal}
 use Rattle.model_text.specs.Nesting.{lexemes_of}
 use Rattle.model_text.proofs.Computing.{lexing}
 use Rattle.model_text.proofs.OfTokens.{terminals, is_seen}
 use Rattle.model_printing.specs.Printable.{IsPrintable, terminal_texts}
-use Rattle.model_printing.proofs.Found.{token_printable}
+use Rattle.model_printing.proofs.Found.{good_printable}
 
 -- each is its own only lexeme
 abbrev AreAlone : List (List ℕ) → Type 0
@@ -37,9 +37,4 @@ terminal_printable text e = among terminal_texts text terminals_alone e
 -- by the list of terminals that computes with nothing unfolded
 pub seen_printable : (text : List ℕ) → list_any (bytes_eq text) terminals ≡ true
     → IsPrintable (terminal text)
-seen_printable text e = not_bad (token_printable (terminal text) (is_seen text e))
-  where
-    not_bad : (terminal text ≡ bad_lexeme) ⊎ IsPrintable (terminal text)
-        → IsPrintable (terminal text)
-    not_bad (inl bad) = absurd cc
-    not_bad (inr can) = can
+seen_printable text e = good_printable (terminal text) (λ bad. cc) (is_seen text e)

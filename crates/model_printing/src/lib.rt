@@ -6,12 +6,15 @@
 
 ghost use Rattle.std.specs.Prelude.{◌≡◌, ◌⊎◌, ℕ, true, List, map, bytes_eq};
 ghost use Rattle.std.specs.List.{list_any};
+ghost use Rattle.model_shapes.specs.Trees.{Trees};
 ghost use Rattle.model_text.specs.Lexemes.{Lexeme, terminal, bad_lexeme};
 ghost use Rattle.model_text.specs.Nesting.{lexemes_of};
 ghost use Rattle.model_text.specs.FaultTokens.{IsOfToken};
+ghost use Rattle.model_documents.specs.Grammar.{SpellsGrove};
+ghost use Rattle.model_documents.specs.Printed.{grove_text};
 ghost use Rattle.model_grammar.specs.Writing.{Each, text_of, text_of_lines, all_lexemes};
 ghost use Rattle.model_printing.specs.Printable.{IsPrintable, ArePrintable, HasNoLine};
-ghost use Rattle.model_printing.specs.Printable.{without_line, terminal_texts};
+ghost use Rattle.model_printing.specs.Printable.{without_line, terminal_texts, ArePrintableTrees};
 
 /// Each symbol and each reserved word but `step` can be printed.
 pub fn terminals_are_printable()
@@ -38,4 +41,10 @@ pub fn printed_lines_read_back()
     ensures { (lines : List (List Lexeme)) → Each ArePrintable lines
         → map without_line (lexemes_of (text_of_lines lines))
         ≡ map without_line (all_lexemes lines) }
+{}
+
+/// The lexemes of the text of a grove spell it.
+pub fn printed_groves_read_back()
+    ensures { (grove : Trees) → ArePrintableTrees grove
+        → SpellsGrove grove (lexemes_of (grove_text grove)) }
 {}

@@ -94,6 +94,9 @@ module _ (Can : Lexeme → Type 0) (holds : HoldsOfWritten Can) where
   word : (text : List ℕ) → list_any (bytes_eq text) terminals ≡ true → Can (terminal text)
   word = holds.of_terminal
 
+  one : (text : List ℕ) → list_any (bytes_eq text) terminals ≡ true → Each Can (terminal text ∷ [])
+  one text e = (word text e, tt)
+
   -- two lists of lexemes
   beside : (front rest : List Lexeme) → Each Can front → Each Can rest → Each Can (front ++ rest)
   beside = each_append Can
@@ -102,8 +105,7 @@ module _ (Can : Lexeme → Type 0) (holds : HoldsOfWritten Can) where
       → Each Can (bracketed left sign right)
   in_round left sign right h k l = (
     word (codes "(") refl,
-    beside left _ h (beside sign _ k (beside right _ l
-        ((word (codes ")") refl, tt)))),
+    beside left _ h (beside sign _ k (beside right _ l (one (codes ")") refl))),
   )
 
   -- ---- terms
@@ -121,24 +123,23 @@ module _ (Can : Lexeme → Type 0) (holds : HoldsOfWritten Can) where
       → Each Can (the "{" ⌢ left ⌢ (terminal sign ∷ []) ⌢ right ⌢ the "}")
   braces_hold sign e left right h k = (
     word (codes "{") refl,
-    beside left _ h ((
+    beside left _ h (
       word sign e,
-      beside right _ k
-          ((word (codes "}") refl, tt)),
-    )),
+      beside right _ k (one (codes "}") refl),
+    ),
   )
 
   pub term_holds : (place : Place) (a : Term) → IsWritableTerm place a → Each Can (term_lexemes a)
-  term_holds place (literal null) h = (word (codes "null") refl, tt)
-  term_holds place (literal nolist) h = (word (codes "nolist") refl, tt)
+  term_holds place (literal null) h = one (codes "null") refl
+  term_holds place (literal nolist) h = one (codes "nolist") refl
   term_holds place (literal (node_number n)) h = absurd h
   term_holds place (literal (list_number n)) h = absurd h
   term_holds place (literal (int (pos n))) h = (holds.of_number n h, tt)
   term_holds place (literal (int (negsuc n))) h =
       (word (codes "-") refl, (holds.of_number (suc n) h, tt))
   term_holds place (literal (str text)) h = (holds.of_literal text, tt)
-  term_holds place (literal (boolean true)) h = (word (codes "yes") refl, tt)
-  term_holds place (literal (boolean false)) h = (word (codes "no") refl, tt)
+  term_holds place (literal (boolean true)) h = one (codes "yes") refl
+  term_holds place (literal (boolean false)) h = one (codes "no") refl
   term_holds place (variable (prog name s)) h = (holds.of_name name h, tt)
   term_holds in_formula (variable (logic name s)) h = (holds.of_logic name h, tt)
   term_holds in_command (variable (logic name s)) h = absurd h
@@ -156,35 +157,35 @@ module _ (Can : Lexeme → Type 0) (holds : HoldsOfWritten Can) where
   -- ---- formulas
 
   hole_holds : (k : DataSort) → Each Can (hole_sign k)
-  hole_holds tree = (word (codes "?t") refl, tt)
-  hole_holds forest = (word (codes "?f") refl, tt)
-  hole_holds grove = (word (codes "?g") refl, tt)
+  hole_holds tree = one (codes "?t") refl
+  hole_holds forest = one (codes "?f") refl
+  hole_holds grove = one (codes "?g") refl
 
   at_holds : (k : DataSort) → Each Can (at_sign k)
-  at_holds tree = (word (codes "@t") refl, tt)
-  at_holds forest = (word (codes "@f") refl, tt)
-  at_holds grove = (word (codes "@g") refl, tt)
+  at_holds tree = one (codes "@t") refl
+  at_holds forest = one (codes "@f") refl
+  at_holds grove = one (codes "@g") refl
 
   into_holds : (k : DataSort) → Each Can (into_sign k)
-  into_holds tree = (word (codes "o-t") refl, tt)
-  into_holds forest = (word (codes "o-f") refl, tt)
-  into_holds grove = (word (codes "o-g") refl, tt)
+  into_holds tree = one (codes "o-t") refl
+  into_holds forest = one (codes "o-f") refl
+  into_holds grove = one (codes "o-g") refl
 
   star_holds : (side : Side) → Each Can (star_sign side)
-  star_holds whole = (word (codes "*") refl, tt)
-  star_holds hole_left = (word (codes ".*") refl, tt)
-  star_holds hole_right = (word (codes "*.") refl, tt)
+  star_holds whole = one (codes "*") refl
+  star_holds hole_left = one (codes ".*") refl
+  star_holds hole_right = one (codes "*.") refl
 
   binder_holds : (kind : List ℕ) → list_any (bytes_eq kind) terminals ≡ true → (x : Var)
       → IsLogic x → (inner : List Lexeme) → Each Can inner
       → Each Can (the "(" ⌢ (terminal kind ∷ []) ⌢ var_lexemes x ⌢ the "." ⌢ inner ⌢ the ")")
   binder_holds kind e x h inner k = (
     word (codes "(") refl,
-    ((
+    (
       word kind e,
       beside (var_lexemes x) _ (logic_holds x h)
-          ((word (codes ".") refl, beside inner _ k ((word (codes ")") refl, tt)))),
-    )),
+          (word (codes ".") refl, beside inner _ k (one (codes ")") refl)),
+    ),
   )
 
   logic_term_holds : (a : Term) → IsLogicTerm a → Each Can (term_lexemes a)
@@ -195,27 +196,26 @@ module _ (Can : Lexeme → Type 0) (holds : HoldsOfWritten Can) where
       (a b : Term) → IsWritableTerm place a → IsWritableTerm place b
       → Each Can (term_lexemes a ⌢ (terminal sign ∷ []) ⌢ term_lexemes b)
   comparison_holds sign e place a b h k =
-      beside (term_lexemes a) _ (term_holds place a h) ((word sign e, term_holds place b k))
+      beside (term_lexemes a) _ (term_holds place a h) (word sign e, term_holds place b k)
 
   pub formula_holds : (p : Named) → IsWritable p → Each Can (formula_lexemes p)
-  formula_holds truth h = (word (codes "true") refl, tt)
-  formula_holds falsity h = (word (codes "false") refl, tt)
+  formula_holds truth h = one (codes "true") refl
+  formula_holds falsity h = one (codes "false") refl
   formula_holds (conjunction p q) h =
       in_round (formula_lexemes p) (the "and") (formula_lexemes q) (formula_holds p h.0)
-      ((word (codes "and") refl, tt)) (formula_holds q h.1)
+      (one (codes "and") refl) (formula_holds q h.1)
   formula_holds (disjunction p q) h =
       in_round (formula_lexemes p) (the "or") (formula_lexemes q) (formula_holds p h.0)
-      ((word (codes "or") refl, tt)) (formula_holds q h.1)
+      (one (codes "or") refl) (formula_holds q h.1)
   formula_holds (implication p q) h =
       in_round (formula_lexemes p) (the "->") (formula_lexemes q) (formula_holds p h.0)
-      ((word (codes "->") refl, tt)) (formula_holds q h.1)
+      (one (codes "->") refl) (formula_holds q h.1)
   formula_holds (negation p) h = (
     word (codes "(") refl,
-    ((
+    (
       word (codes "not") refl,
-      beside (formula_lexemes p) _
-          (formula_holds p h) ((word (codes ")") refl, tt)),
-    )),
+      beside (formula_lexemes p) _ (formula_holds p h) (one (codes ")") refl),
+    ),
   )
   formula_holds (existential x p) h =
       binder_holds (codes "exists") refl x h.0 _ (formula_holds p h.1)
@@ -224,36 +224,41 @@ module _ (Can : Lexeme → Type 0) (holds : HoldsOfWritten Can) where
   formula_holds (equality a b) h = comparison_holds (codes "=") refl in_formula a b h.0 h.1
   formula_holds (at_most a b) h = comparison_holds (codes "<=") refl in_formula a b h.0 h.1
   formula_holds (empty tree) h = absurd h
-  formula_holds (empty forest) h = (word (codes "0f") refl, tt)
-  formula_holds (empty grove) h = (word (codes "0g") refl, tt)
+  formula_holds (empty forest) h = one (codes "0f") refl
+  formula_holds (empty grove) h = one (codes "0g") refl
   formula_holds (bare_hole k) h = hole_holds k
   formula_holds (node_formula a b p c) h =
-      beside (term_lexemes a) _ (term_holds in_formula a h.0) ((word (codes "#") refl, beside (term_lexemes b) _ (term_holds in_formula b h.1) ((word (codes "[") refl, beside (formula_lexemes p) _ (formula_holds p h.2) ((word (codes "]") refl, ((word (codes "%") refl, term_holds in_formula c h.3))))))))
+      beside (term_lexemes a) _ (term_holds in_formula a h.0) (
+        word (codes "#") refl,
+        beside (term_lexemes b) _ (term_holds in_formula b h.1) (
+          word (codes "[") refl,
+          beside (formula_lexemes p) _ (formula_holds p h.2)
+              (word (codes "]") refl, (word (codes "%") refl, term_holds in_formula c h.3)),
+        ),
+      )
   formula_holds (one_tree p) h = (
     word (codes "<") refl,
-    beside (formula_lexemes p) _ (formula_holds p h)
-        ((word (codes ">") refl, tt)),
+    beside (formula_lexemes p) _ (formula_holds p h) (one (codes ">") refl),
   )
   formula_holds (one_root p) h = (
     word (codes "[") refl,
-    beside (formula_lexemes p) _ (formula_holds p h)
-        ((word (codes "]") refl, tt)),
+    beside (formula_lexemes p) _ (formula_holds p h) (one (codes "]") refl),
   )
   formula_holds (concatenation side p q) h =
       in_round (formula_lexemes p) (star_sign side) (formula_lexemes q) (formula_holds p h.0)
       (star_holds side) (formula_holds q h.1)
   formula_holds (grove_sum p q) h =
       in_round (formula_lexemes p) (the "+") (formula_lexemes q) (formula_holds p h.0)
-      ((word (codes "+") refl, tt)) (formula_holds q h.1)
+      (one (codes "+") refl) (formula_holds q h.1)
   formula_holds (grove_sum_hole p q) h =
       in_round (formula_lexemes p) (the ".+") (formula_lexemes q) (formula_holds p h.0)
-      ((word (codes ".+") refl, tt)) (formula_holds q h.1)
+      (one (codes ".+") refl) (formula_holds q h.1)
   formula_holds (application k p q) h =
       in_round (formula_lexemes p) (at_sign k) (formula_lexemes q) (formula_holds p h.0)
       (at_holds k) (formula_holds q h.1)
   formula_holds (hole_adjoint p q) h =
       in_round (formula_lexemes p) (the "-o") (formula_lexemes q) (formula_holds p h.0)
-      ((word (codes "-o") refl, tt)) (formula_holds q h.1)
+      (one (codes "-o") refl) (formula_holds q h.1)
   formula_holds (context_adjoint k p q) h =
       in_round (formula_lexemes p) (into_sign k) (formula_lexemes q) (formula_holds p h.0)
       (into_holds k) (formula_holds q h.1)
@@ -261,30 +266,29 @@ module _ (Can : Lexeme → Type 0) (holds : HoldsOfWritten Can) where
   formula_holds (length_is a) h = (word (codes "len") refl, term_holds in_formula a h)
   formula_holds (value_meets s a p) h =
       in_round (term_lexemes a) (the "is") (formula_lexemes p) (logic_term_holds a h.0)
-      ((word (codes "is") refl, tt)) (formula_holds p h.1)
+      (one (codes "is") refl) (formula_holds p h.1)
 
   -- ---- conditions
 
   condition_holds : (d : Cond) → IsWritableCondition d → Each Can (cond_lexemes d)
-  condition_holds cond_true h = (word (codes "true") refl, tt)
-  condition_holds cond_false h = (word (codes "false") refl, tt)
+  condition_holds cond_true h = one (codes "true") refl
+  condition_holds cond_false h = one (codes "false") refl
   condition_holds (cond_variable x) h = name_holds x h
   condition_holds (cond_equal a b) h = comparison_holds (codes "=") refl in_command a b h.0 h.1
   condition_holds (cond_at_most a b) h = comparison_holds (codes "<=") refl in_command a b h.0 h.1
   condition_holds (cond_not d) h = (
     word (codes "(") refl,
-    ((
+    (
       word (codes "not") refl,
-      beside (cond_lexemes d) _
-          (condition_holds d h) ((word (codes ")") refl, tt)),
-    )),
+      beside (cond_lexemes d) _ (condition_holds d h) (one (codes ")") refl),
+    ),
   )
   condition_holds (cond_and d e) h =
       in_round (cond_lexemes d) (the "and") (cond_lexemes e) (condition_holds d h.0)
-      ((word (codes "and") refl, tt)) (condition_holds e h.1)
+      (one (codes "and") refl) (condition_holds e h.1)
   condition_holds (cond_or d e) h =
       in_round (cond_lexemes d) (the "or") (cond_lexemes e) (condition_holds d h.0)
-      ((word (codes "or") refl, tt)) (condition_holds e h.1)
+      (one (codes "or") refl) (condition_holds e h.1)
 
   -- ---- words for sorts
 
@@ -316,21 +320,20 @@ module _ (Can : Lexeme → Type 0) (holds : HoldsOfWritten Can) where
   -- ---- lists
 
   module _ {A : Type 0} (Good : A → Type 0) (lexemes : A → List Lexeme)
-      (one : (x : A) → Good x → Each Can (lexemes x)) where
+      (holds_of : (x : A) → Good x → Each Can (lexemes x)) where
     further_hold : (xs : List A) → Each Good xs → Each Can (behind_commas (map lexemes xs))
     further_hold [] h = tt
     further_hold (x ∷ xs) h =
-        (word (codes ",") refl, beside (lexemes x) _ (one x h.0) (further_hold xs h.1))
+        (word (codes ",") refl, beside (lexemes x) _ (holds_of x h.0) (further_hold xs h.1))
 
     list_holds : (xs : List A) → Each Good xs → Each Can (listed (map lexemes xs))
     list_holds [] h = tt
-    list_holds (x ∷ xs) h = beside (lexemes x) _ (one x h.0) (further_hold xs h.1)
+    list_holds (x ∷ xs) h = beside (lexemes x) _ (holds_of x h.0) (further_hold xs h.1)
 
     pub brackets_hold : (xs : List A) → Each Good xs → Each Can (in_brackets (map lexemes xs))
     brackets_hold xs h = (
       word (codes "(") refl,
-      beside (listed (map lexemes xs)) _ (list_holds xs h)
-          ((word (codes ")") refl, tt)),
+      beside (listed (map lexemes xs)) _ (list_holds xs h) (one (codes ")") refl),
     )
 
   -- ---- commands
@@ -341,44 +344,59 @@ module _ (Can : Lexeme → Type 0) (holds : HoldsOfWritten Can) where
 
   set_holds : (x : ProgVar) → IsWritableName x → (right : List Lexeme) → Each Can right
       → Each Can (name_lexemes x ⌢ the ":=" ⌢ right)
-  set_holds x h right k = beside (name_lexemes x) _ (name_holds x h) ((word (codes ":=") refl, k))
+  set_holds x h right k = beside (name_lexemes x) _ (name_holds x h) (word (codes ":=") refl, k)
+
+  query_holds : (query : List ℕ) → list_any (bytes_eq query) terminals ≡ true → (x : ProgVar)
+      (a : Term) → IsWritableName x → IsWritableTerm in_command a
+      → Each Can (name_lexemes x ⌢ the ":=" ⌢ (terminal query ∷ [])
+      ⌢ in_brackets (term_lexemes a ∷ []))
+  query_holds query e x a h k =
+      set_holds x h _ (word query e, terms_hold in_command (a ∷ []) (k, tt))
+
+  two_hold : (a b : Term) → IsWritableTerm in_command a → IsWritableTerm in_command b
+      → Each Can (in_brackets (term_lexemes a ∷ term_lexemes b ∷ []))
+  two_hold a b h k = terms_hold in_command (a ∷ b ∷ []) (h, (k, tt))
 
   mutual
     pub command_holds : (d : Command) → IsWritableCommand d → Each Can (command_lexemes d)
-    command_holds skip h = (word (codes "skip") refl, tt)
+    command_holds skip h = one (codes "skip") refl
     command_holds (block b) h = block_holds b h
     command_holds (assign x a) h = set_holds x h.0 _ (term_holds in_command a h.1)
-    command_holds (create_node x a) h =
-        set_holds x h.0 _ ((word (codes "createNode") refl, terms_hold in_command (a ∷ []) (h.1, tt)))
-    command_holds (node_name x a) h =
-        set_holds x h.0 _ ((word (codes "nodeName") refl, terms_hold in_command (a ∷ []) (h.1, tt)))
-    command_holds (child_nodes x a) h =
-        set_holds x h.0 _ ((word (codes "childNodes") refl, terms_hold in_command (a ∷ []) (h.1, tt)))
-    command_holds (parent_node x a) h =
-        set_holds x h.0 _ ((word (codes "parentNode") refl, terms_hold in_command (a ∷ []) (h.1, tt)))
+    command_holds (create_node x a) h = query_holds (codes "createNode") refl x a h.0 h.1
+    command_holds (node_name x a) h = query_holds (codes "nodeName") refl x a h.0 h.1
+    command_holds (child_nodes x a) h = query_holds (codes "childNodes") refl x a h.0 h.1
+    command_holds (parent_node x a) h = query_holds (codes "parentNode") refl x a h.0 h.1
     command_holds (list_item x a b) h =
-        set_holds x h.0 _ ((word (codes "item") refl, terms_hold in_command (a ∷ b ∷ []) (h.1, (h.2, tt))))
+        set_holds x h.0 _ (word (codes "item") refl, two_hold a b h.1 h.2)
     command_holds (append_child a b) h =
-        (word (codes "appendChild") refl, terms_hold in_command (a ∷ b ∷ []) (h.0, (h.1, tt)))
+        (word (codes "appendChild") refl, two_hold a b h.0 h.1)
     command_holds (remove_child a b) h =
-        (word (codes "removeChild") refl, terms_hold in_command (a ∷ b ∷ []) (h.0, (h.1, tt)))
+        (word (codes "removeChild") refl, two_hold a b h.0 h.1)
     command_holds (if_else d a b) h = (
       word (codes "if") refl,
       beside (cond_lexemes d) _ (condition_holds d h.0)
-          (beside (block_lexemes a) _ (block_holds a h.1) ((word (codes "else") refl, block_holds b h.2))),
+          (beside (block_lexemes a) _ (block_holds a h.1)
+          (word (codes "else") refl, block_holds b h.2)),
     )
     command_holds (while_do d b) h = (
       word (codes "while") refl,
-      beside (cond_lexemes d) _ (condition_holds d h.0)
-          (block_holds b h.1),
+      beside (cond_lexemes d) _ (condition_holds d h.0) (block_holds b h.1),
     )
-    command_holds (local (named name s) b) h =
-        (word (codes "local") refl, (holds.of_name name h.0, (word (codes ":") refl, beside (value_sort_lexemes s) _ (value_sort_holds s) (block_holds b h.1))))
+    command_holds (local (named name s) b) h = (
+      word (codes "local") refl,
+      (
+        holds.of_name name h.0,
+        (
+          word (codes ":") refl,
+          beside (value_sort_lexemes s) _ (value_sort_holds s) (block_holds b h.1),
+        ),
+      ),
+    )
     command_holds (call xs name es) h = (
       word (codes "call") refl,
       beside (in_brackets (map name_lexemes xs)) _
           (brackets_hold IsWritableName name_lexemes name_holds xs h.0)
-          ((word (codes ":=") refl, (holds.of_name name h.1, terms_hold in_command es h.2))),
+          (word (codes ":=") refl, (holds.of_name name h.1, terms_hold in_command es h.2)),
     )
 
     block_holds : (b : Block) → IsWritableBlock b → Each Can (block_lexemes b)
@@ -386,15 +404,14 @@ module _ (Can : Lexeme → Type 0) (holds : HoldsOfWritten Can) where
     block_holds (d then b) h = (
       word (codes "{") refl,
       beside (command_lexemes d) _ (command_holds d h.0)
-          (beside (further_commands b) _ (commands_hold b h.1) ((word (codes "}") refl, tt))),
+          (beside (further_commands b) _ (commands_hold b h.1) (one (codes "}") refl)),
     )
 
     commands_hold : (b : Block) → AreWritable b → Each Can (further_commands b)
     commands_hold stop h = tt
     commands_hold (d then b) h = (
       word (codes ";") refl,
-      beside (command_lexemes d) _ (command_holds d h.0)
-          (commands_hold b h.1),
+      beside (command_lexemes d) _ (command_holds d h.0) (commands_hold b h.1),
     )
 
   -- ---- parts of theories
@@ -434,40 +451,48 @@ module _ (Can : Lexeme → Type 0) (holds : HoldsOfWritten Can) where
       → Each Can (in_brackets (map declaration_lexemes xs))
   declarations_hold = brackets_hold IsWritableName declaration_lexemes declaration_holds
 
+  first_holds : (f : ProcedureOf Named) → IsWritableProcedure f
+      → Each Can (the "proc" ⌢ name_lexeme f.name ∷ []
+      ⌢ in_brackets (map declaration_lexemes f.params) ⌢ the "returns"
+      ⌢ in_brackets (map declaration_lexemes f.results) ⌢ the "sort" ⌢ data_sort_lexemes f.sort)
+  first_holds f h = (
+    word (codes "proc") refl,
+    (
+      holds.of_name f.name h.name,
+      beside (in_brackets (map declaration_lexemes f.params)) _
+          (declarations_hold f.params h.params) (
+            word (codes "returns") refl,
+            beside (in_brackets (map declaration_lexemes f.results)) _
+                (declarations_hold f.results h.results)
+                (word (codes "sort") refl, data_sort_holds f.sort),
+          ),
+    ),
+  )
+
   pub header_holds : (f : ProcedureOf Named) → IsWritableProcedure f
       → Each (Each Can) (header_lines f)
   header_holds f h = (
-    (
-      word (codes "proc") refl,
-      (
-        holds.of_name f.name h.name,
-        beside (in_brackets (map declaration_lexemes f.params)) _ (declarations_hold f.params h.params) (
-          word (codes "returns") refl,
-          beside (in_brackets (map declaration_lexemes f.results)) _
-              (declarations_hold f.results h.results) (word (codes "sort") refl, data_sort_holds f.sort),
-        ),
-      ),
-    ),
+    first_holds f h,
     (
       (word (codes "requires") refl, formula_holds f.pre h.pre),
       (
         (word (codes "ensures") refl, formula_holds f.post h.post),
         (
           (word (codes "body") refl, command_holds f.body h.body),
-          ((word (codes "proof") refl, tt), tt),
+          (one (codes "proof") refl, tt),
         ),
       ),
     ),
   )
 
   pub end_holds : Each Can (the "end")
-  end_holds = (word (codes "end") refl, tt)
+  end_holds = one (codes "end") refl
 
   logic_line_holds : (x : Var) → IsDeclarable x → Each Can (logic_line x)
   logic_line_holds x h = (
     word (codes "logic") refl,
     beside (sort_lexemes (var_sort x)) _ (sort_holds (var_sort x))
-        (beside (var_lexemes x) _ (logic_holds x h.0) (word (codes ";") refl, tt)),
+        (beside (var_lexemes x) _ (logic_holds x h.0) (one (codes ";") refl)),
   )
 
   pub logic_lines_hold : (xs : List Var) → Each IsDeclarable xs

@@ -11,3 +11,6 @@ pub mod Printed
 pub mod OtherLines
 pub mod ReadTexts
 pub mod Laws
+pub mod Fronts
+pub mod LinesAndSorts
+pub mod SameText

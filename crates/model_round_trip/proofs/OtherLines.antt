@@ -1,34 +1,25 @@
 -- Lexemes that are those of a theory, but for the lines of `step`, spell it, but for them.
 use Rattle.std.proofs.Common.{ℕ, List, [], ◌∷◌, ◌++◌, ◌≡◌, refl, sym, ap, ◌∙◌, subst, map, codes, append_assoc, append-nil}
-use Rattle.model_terms.specs.Variables.{Var}
 use Rattle.model_formulas.specs.Formulas.{Named}
 use Rattle.model_commands.specs.Theories.{Reason, auto, by_rule, StepOf, ProcedureOf, Theory}
 use Rattle.model_text.specs.Lexemes.{Lexeme, terminal, step_word, name_lexeme, word_lexeme}
 use Rattle.model_grammar.specs.Words.{the, ◌⌢◌}
 use Rattle.model_grammar.specs.Theories as files
 use Rattle.model_grammar.specs.Theories.{SpellsAnyWord, SpellsNumber, SpellsReason, SpellsStep, SpellsSteps, SpellsProcedure, SpellsProcedures, SpellsRaw, SpellsTheory}
-use Rattle.model_grammar.specs.Sorts.{Declared, declared_in, sorted_formula, sorted_command, sorted_reason, sorted_judgement, sorted_step, sorted_procedure, with_sorts}
+use Rattle.model_grammar.specs.Sorts.{sorted_reason, sorted_judgement, sorted_step, with_sorts}
 use Rattle.model_grammar.specs.Writing.{undeclared, in_brackets, number_lexemes, argument_lexemes, reason_lexemes, judgement_lexemes, logic_line, step_line, procedure_lines, procedures_lines, theory_lines, all_lexemes, Each}
 use Rattle.model_printing.specs.Printable.{HasNoLine, without_line}
 use Rattle.model_round_trip.specs.Writable.{IsNumeral, IsWritableReason, IsWritableStep, IsWritableProcedure, HasOne, IsWritableTheory}
 use Rattle.model_round_trip.specs.ReadBack.{step_without_line, procedure_without_lines, without_lines}
 use Rattle.model_round_trip.proofs.EachLexeme.{number_holds, brackets_hold, arguments_hold, judgement_holds, header_holds, logic_lines_hold, version_holds, all_hold}
+use Rattle.model_round_trip.proofs.Fronts.{Alike, Behind, both, same_lexeme, same_front, first_there, a_step_word}
+use Rattle.model_round_trip.proofs.LinesAndSorts.{theory_lines_sorts}
 use Rattle.model_round_trip.proofs.Parts.{each_append, all_append, header_lines, in_a_row}
 use Rattle.model_round_trip.proofs.Printed.{no_line}
 use Rattle.model_round_trip.proofs.Resorted.{procedure_with, theory_resorted}
 use Rattle.model_round_trip.proofs.Written.{raw, raw_procedure, procedure_around, number_spelled, arguments_spelled, judgement_spelled, logics_spelled, same_spelled, word_spelled}
 
--- the second is the first, but for lines
-abbrev Alike : List Lexeme → List Lexeme → Type 0
-Alike lexemes others = map without_line others ≡ map without_line lexemes
-
--- The lexemes are a front and something behind it that is the rest, but for lines.
-record Behind (front rest lexemes : List Lexeme) : Type 0 where
-  behind : List Lexeme
-  whole : lexemes ≡ front ++ behind
-  alike : Alike rest behind
-
--- A front of them spells a value that is the given one, but for what is forgotten.
+-- A front of the lexemes spells a value that is the given one, but for what is forgotten.
 record Spelled {A : Type 0} (Spells : A → List Lexeme → Type 0) (forget : A → A) (given : A)
     (rest lexemes : List Lexeme) : Type 0 where
   value : A
@@ -36,43 +27,6 @@ record Spelled {A : Type 0} (Spells : A → List Lexeme → Type 0) (forget : A 
   spells : Spells value front
   same : forget value ≡ forget given
   found : Behind front rest lexemes
-
-same_lexeme : (x y : Lexeme) → HasNoLine x → without_line y ≡ without_line x → y ≡ x
-same_lexeme (step_word n) y h e = absurd h
-same_lexeme x (step_word n) h e = absurd cc
-same_lexeme x y h e = e
-
--- a front with no line stands in the lexemes as it is
-same_front : (front rest lexemes : List Lexeme) → Each HasNoLine front
-    → Alike (front ++ rest) lexemes → Behind front rest lexemes
-same_front [] rest lexemes h e = record { behind = lexemes; whole = refl; alike = e }
-same_front (x ∷ front) rest [] h e = absurd cc
-same_front (x ∷ front) rest (y ∷ lexemes) h e =
-    let first : without_line y ≡ without_line x = cc in
-    let more = same_front front rest lexemes h.1 cc in record {
-      behind = more.behind;
-      whole = λ j. same_lexeme x y h.0 first j ∷ more.whole j;
-      alike = more.alike;
-    }
-
--- the word `step` stands there with some line
-a_step_word : (y : Lexeme) → without_line y ≡ step_word 0 → (line : ℕ) × (y ≡ step_word line)
-a_step_word (step_word line) e = (line, refl)
-a_step_word y e = absurd cc
-
--- the first of the lexemes, and the others
-record First (x : Lexeme) (rest lexemes : List Lexeme) : Type 0 where
-  first : Lexeme
-  behind : List Lexeme
-  whole : lexemes ≡ first ∷ behind
-  here : without_line first ≡ without_line x
-  alike : Alike rest behind
-
-first_of_all : (x : Lexeme) (rest lexemes : List Lexeme) → Alike (x ∷ rest) lexemes
-    → First x rest lexemes
-first_of_all x rest [] e = absurd cc
-first_of_all x rest (y ∷ lexemes) e =
-    record { first = y; behind = lexemes; whole = refl; here = cc; alike = cc }
 
 -- ---- steps
 
@@ -104,24 +58,20 @@ reason_again (by_rule name ns es) rest lexemes h e =
     let arguments : List Lexeme = argument_lexemes es in
     let others : List Lexeme = (premises ++ arguments) ++ rest in
     let a = same_front (the "by") (word_lexeme name 0 ∷ others) lexemes (tt, tt) e in
-    let w = first_of_all (word_lexeme name 0) others a.behind a.alike in
+    let w = first_there (word_lexeme name 0) others a.behind a.alike in
     let plain : Each HasNoLine (premises ++ arguments) =
     each_append HasNoLine premises arguments
     (brackets_hold HasNoLine no_line IsNumeral number_lexemes
     (number_holds HasNoLine no_line) ns h.1)
     (arguments_hold HasNoLine no_line es h.2) in
-    let t = same_front (premises ++ arguments) rest w.behind plain w.alike in record {
+    let t = same_front (premises ++ arguments) rest w.found.behind plain w.found.alike in record {
       value = sorted_reason undeclared (by_rule name ns es);
       front = the "by" ⌢ (w.first ∷ []) ⌢ premises ⌢ arguments;
       spells = files.by_word (word_again w.first (word_spelled name) w.here)
           (same_spelled SpellsNumber IsNumeral number_lexemes number_spelled ns h.1)
           (arguments_spelled es h.2);
       same = refl;
-      found = record {
-        behind = t.behind;
-        whole = a.whole ∙ (λ j. the "by" ⌢ (w.whole ∙ (λ i. w.first ∷ t.whole i)) j);
-        alike = t.alike;
-      };
+      found = both a (both w.found t);
     }
 
 step_again : (step : StepOf Named) (rest lexemes : List Lexeme) → IsWritableStep step
@@ -134,14 +84,18 @@ step_again step rest lexemes h e =
       each_append HasNoLine (judgement_lexemes step.judgement) (the ";")
           (judgement_holds HasNoLine no_line step.judgement h.judgement) (tt, tt),
     ) in
-    let others : List Lexeme = (reason_lexemes step.reason ++ judged) ++ rest in
-    let a = first_of_all (step_word step.line) (number_lexemes step.number ++ others) lexemes e in
+    let reasoned : List Lexeme = (reason_lexemes step.reason ++ judged) ++ rest in
+    let others : List Lexeme = number_lexemes step.number ++ reasoned in
+    let a = first_there (step_word step.line) others lexemes e in
     let line = a_step_word a.first a.here in
-    let n = same_front (number_lexemes step.number) others a.behind (tt, tt) a.alike in
+    let word : Behind (step_word line.0 ∷ []) others lexemes =
+    subst (λ (z : Lexeme). Behind (z ∷ []) others lexemes) line.1 a.found in
+    let n = same_front (number_lexemes step.number) reasoned word.behind (tt, tt) word.alike in
     let r = reason_again step.reason (judged ++ rest) n.behind h.reason
     (subst (λ (z : List Lexeme). Alike z n.behind)
     (append_assoc (reason_lexemes step.reason) judged rest) n.alike) in
-    let t = same_front judged rest r.found.behind plain r.found.alike in record {
+    let t = same_front judged rest r.found.behind plain r.found.alike in
+    let behind_number : Behind (r.front ++ judged) rest n.behind = both r.found t in record {
       value = record {
         number = step.number;
         line = line.0;
@@ -149,7 +103,8 @@ step_again step rest lexemes h e =
         judgement = sorted_judgement undeclared step.judgement;
       };
       front = step_word line.0 ∷ (number_lexemes step.number ⌢ r.front ⌢ judged);
-      spells = files.a_step line.0 (number_spelled step.number h.number) r.spells
+      spells = files.a_step line.0 {r = r.value} {reason = r.front}
+          (number_spelled step.number h.number) r.spells
           (judgement_spelled step.judgement h.judgement);
       same = λ j. record {
         number = step.number;
@@ -157,13 +112,7 @@ step_again step rest lexemes h e =
         reason = r.same j;
         judgement = sorted_judgement undeclared step.judgement;
       };
-      found = record {
-        behind = t.behind;
-        whole = a.whole ∙ (λ j. line.1 j ∷ (n.whole ∙ (λ i. number_lexemes step.number ⌢
-            (r.found.whole ∙ ((λ k. r.front ++ t.whole k)
-            ∙ sym (append_assoc r.front judged t.behind))) i)) j);
-        alike = t.alike;
-      };
+      found = both word (both n behind_number);
     }
 
 steps_again : (steps : List (StepOf Named)) (rest lexemes : List Lexeme)
@@ -185,12 +134,7 @@ steps_again (step ∷ steps) rest lexemes h e =
       front = a.front ++ b.front;
       spells = files.one_step a.spells b.spells;
       same = λ j. a.same j ∷ b.same j;
-      found = record {
-        behind = b.found.behind;
-        whole = a.found.whole ∙ ((λ j. a.front ++ b.found.whole j)
-            ∙ sym (append_assoc a.front b.front b.found.behind));
-        alike = b.found.alike;
-      };
+      found = both a.found b.found;
     }
 
 -- ---- procedures and theories
@@ -214,12 +158,7 @@ procedure_again f rest lexemes h e =
       front = header ⌢ b.front ⌢ the "end";
       spells = procedure_around f h b.spells;
       same = λ j. raw_procedure f (b.same j);
-      found = record {
-        behind = c.behind;
-        whole = a.whole ∙ ((λ j. header ++ (b.found.whole ∙ (λ i. b.front ++ c.whole i)) j)
-            ∙ sym (three_parts header b.front (the "end") c.behind));
-        alike = c.alike;
-      };
+      found = both a (both b.found c);
     }
 
 first_again : (f : ProcedureOf Named) (fs : List (ProcedureOf Named)) (rest lexemes : List Lexeme)
@@ -253,17 +192,15 @@ procedures_again (f ∷ g ∷ fs) rest lexemes one h e =
       front = a.front ++ b.front;
       spells = files.more_procedures a.spells b.spells;
       same = λ j. a.same j ∷ b.same j;
-      found = record {
-        behind = b.found.behind;
-        whole = a.found.whole ∙ ((λ j. a.front ++ b.found.whole j)
-            ∙ sym (append_assoc a.front b.front b.found.behind));
-        alike = b.found.alike;
-      };
+      found = both a.found b.found;
     }
 
-nothing_left : (lexemes : List Lexeme) → Alike [] lexemes → lexemes ≡ []
-nothing_left [] e = refl
-nothing_left (x ∷ lexemes) e = absurd cc
+nothing_behind : {front lexemes : List Lexeme} → Behind front [] lexemes → lexemes ≡ front
+nothing_behind {front} a =
+    a.whole ∙ ((λ j. front ++ none a.behind a.alike j) ∙ append-nil front) where
+      none : (behind : List Lexeme) → Alike [] behind → behind ≡ []
+      none [] e = refl
+      none (x ∷ behind) e = absurd cc
 
 -- the raw theory that the lexemes spell
 record RawAgain (theory : Theory) (lexemes : List Lexeme) : Type 0 where
@@ -286,9 +223,8 @@ raw_again theory lexemes h e =
     (logic_lines_hold HasNoLine no_line theory.logic h.logic)) a.alike in
     let c = procedures_again theory.procedures [] b.behind h.some h.procedures
     (subst (λ (z : List Lexeme). Alike z b.behind) (sym (append-nil others)) b.alike) in
-    let end : c.found.behind ≡ [] = nothing_left c.found.behind c.found.alike in
-    let all : b.behind ≡ c.front =
-    c.found.whole ∙ ((λ j. c.front ++ end j) ∙ append-nil c.front) in record {
+    let all : Behind (version ++ (logics ++ c.front)) [] lexemes = both a (both b c.found) in
+    record {
       value = record {
         version = theory.version;
         logic = theory.logic;
@@ -298,7 +234,7 @@ raw_again theory lexemes h e =
         version = theory.version;
         logic = theory.logic;
         procedures = c.value;
-      })) (sym (a.whole ∙ (λ j. version ++ (b.whole ∙ (λ i. logics ++ all i)) j)))
+      })) (sym (nothing_behind all))
           (files.theory (number_spelled theory.version h.version)
           (logics_spelled theory.logic h.logic) c.spells);
       same = λ j. record {
@@ -307,40 +243,6 @@ raw_again theory lexemes h e =
         procedures = c.same j;
       };
     }
-
--- ---- sorts and lines
-
-step_lines_sorts : (d : Declared) (steps : List (StepOf Named))
-    → map step_without_line (map (sorted_step d) steps)
-    ≡ map (sorted_step d) (map step_without_line steps)
-step_lines_sorts d [] = refl
-step_lines_sorts d (step ∷ steps) =
-    λ j. step_without_line (sorted_step d step) ∷ step_lines_sorts d steps j
-
-lines_sorts : (logics : List Var) (fs : List (ProcedureOf Named))
-    → map procedure_without_lines (map (sorted_procedure logics) fs)
-    ≡ map (sorted_procedure logics) (map procedure_without_lines fs)
-lines_sorts logics [] = refl
-lines_sorts logics (f ∷ fs) =
-    let d : Declared = declared_in logics f in
-    λ j. record {
-      name = f.name;
-      params = f.params;
-      results = f.results;
-      sort = f.sort;
-      pre = sorted_formula d f.pre;
-      post = sorted_formula d f.post;
-      body = sorted_command d f.body;
-      proof = step_lines_sorts d f.proof j;
-    } ∷ lines_sorts logics fs j
-
-theory_lines_sorts : (theory : Theory)
-    → without_lines (with_sorts theory) ≡ with_sorts (without_lines theory)
-theory_lines_sorts theory = λ j. record {
-  version = theory.version;
-  logic = theory.logic;
-  procedures = lines_sorts theory.logic theory.procedures j;
-}
 
 pub theory_again : (theory : Theory) (lexemes : List Lexeme) → IsWritableTheory theory
     → with_sorts theory ≡ theory → Alike (all_lexemes (theory_lines theory)) lexemes

@@ -9,7 +9,7 @@ use Rattle.model_text.specs.FaultTokens.{IsOfToken, AreOfTokens}
 use Rattle.model_grammar.specs.Words.{the, ◌⌢◌}
 use Rattle.model_grammar.specs.Theories as files
 use Rattle.model_grammar.specs.Theories.{SpellsReason, SpellsStep, SpellsSteps, SpellsProcedure, SpellsProcedures, SpellsLogicLine, SpellsLogicLines, SpellsRaw, SpellsTheory}
-use Rattle.model_grammar.specs.Writing.{in_brackets, number_lexemes, sort_lexemes, argument_lexemes, reason_lexemes, judgement_lexemes, declaration_lexemes, logic_line, step_line, procedure_lines, procedures_lines, theory_lines, Each}
+use Rattle.model_grammar.specs.Writing.{data_sort_lexemes, in_brackets, number_lexemes, sort_lexemes, argument_lexemes, reason_lexemes, judgement_lexemes, declaration_lexemes, logic_line, step_line, procedure_lines, procedures_lines, theory_lines, Each}
 use Rattle.model_round_trip.specs.Literals.{LiteralIsUtf8, LiteralsAreUtf8}
 use Rattle.model_round_trip.proofs.OneSpelling.{formula_written, command_written, data_sort_written, sort_written, declarations_written, numbers_written, arguments_written, judgement_written}
 use Rattle.model_round_trip.proofs.Parts.{each_append}
@@ -93,7 +93,9 @@ procedure_read (files.procedure {xs = xs} {ys = ys} {k = k} {steps = steps} {nam
     let g = both_seen sort _ d.1.1 in
     let e = both_seen pre _ g.1.1 in
     let i = both_seen post _ e.1.1 in
-    let j = both_seen body _ i.1.1 in (
+    let j = both_seen body _ i.1.1 in
+    let last : LiteralsAreUtf8 (the "sort" ⌢ data_sort_lexemes k) =
+    (tt, as_read (data_sort_written lk) g.0) in (
       (
         tt,
         (
@@ -102,7 +104,7 @@ procedure_read (files.procedure {xs = xs} {ys = ys} {k = k} {steps = steps} {nam
               (as_read (declarations_written lxs) b.0) (
                 tt,
                 two_read (in_brackets (map declaration_lexemes ys)) _
-                    (as_read (declarations_written lys) d.0) (tt, as_read (data_sort_written lk) g.0),
+                    (as_read (declarations_written lys) d.0) last,
               ),
         ),
       ),

@@ -55,7 +55,8 @@ term_readable (t.text_literal text) h = tt
 term_readable (t.number_literal n le) h = le
 term_readable (t.negative_literal n le) h = le
 term_readable {place} (t.constant l) h = constant_readable place l
-term_readable {place} (t.operation {a = a} {b = b} {left = left} {sign = sign} {right = right} l lo m) h =
+term_readable {place} (t.operation {a = a} {b = b} {left = left} {sign = sign} {right = right}
+    l lo m) h =
     let x = both_seen left _ h.1 in
     let y = both_seen right _ (both_seen sign _ x.1).1 in
     operation_readable place lo a b (term_readable l x.0) (term_readable m y.0)

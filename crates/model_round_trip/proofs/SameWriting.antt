@@ -99,7 +99,8 @@ module _ (d : Declared) where
     command_kept (parent_node x a) =
         λ j. left_set (name_kept x j) (the "parentNode" ⌢ in_brackets (term_kept a j ∷ []))
     command_kept (list_item x a b) =
-        λ j. left_set (name_kept x j) (the "item" ⌢ in_brackets (term_kept a j ∷ term_kept b j ∷ []))
+        λ j. left_set (name_kept x j)
+        (the "item" ⌢ in_brackets (term_kept a j ∷ term_kept b j ∷ []))
     command_kept (append_child a b) =
         λ j. the "appendChild" ⌢ in_brackets (term_kept a j ∷ term_kept b j ∷ [])
     command_kept (remove_child a b) =

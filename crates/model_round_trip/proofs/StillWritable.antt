@@ -42,6 +42,10 @@ module _ (d : Declared) where
   term_sorted place (difference a b) h = (term_sorted place a h.0, term_sorted place b h.1)
   term_sorted place (appended a b) h = (term_sorted place a h.0, term_sorted place b h.1)
 
+  terms_sorted : (place : Place) (es : List Term) → Each (IsWritableTerm place) es
+      → Each (IsWritableTerm place) (map (sorted_term d) es)
+  terms_sorted place = each_kept (IsWritableTerm place) (sorted_term d) (term_sorted place)
+
   formula_sorted : (p : Named) → IsWritable p → IsWritable (sorted_formula d p)
   formula_sorted truth h = tt
   formula_sorted falsity h = tt
@@ -107,7 +111,7 @@ module _ (d : Declared) where
     command_sorted (call results name arguments) h = (
       each_kept IsWritableName (sorted_name d) name_sorted results h.0,
       h.1,
-      each_kept (IsWritableTerm in_command) (sorted_term d) (term_sorted in_command) arguments h.2,
+      terms_sorted in_command arguments h.2,
     )
 
     block_sorted : (b : Block) → IsWritableBlock b → IsWritableBlock (sorted_block d b)
@@ -121,7 +125,7 @@ module _ (d : Declared) where
   reason_sorted : (r : Reason) → IsWritableReason r → IsWritableReason (sorted_reason d r)
   reason_sorted auto h = h
   reason_sorted (by_rule name premises arguments) h =
-      (h.0, h.1, each_kept (IsWritableTerm in_formula) (sorted_term d) (term_sorted in_formula) arguments h.2)
+      (h.0, h.1, terms_sorted in_formula arguments h.2)
 
   judgement_sorted : (w : JudgementOf Named) → IsWritableJudgement w
       → IsWritableJudgement (sorted_judgement d w)

@@ -80,7 +80,8 @@ reserved_is_word name e h =
     by_step (bytes_eq name (codes "step")) refl (printable (terminal name) h (λ f. cc)) where
       by_step : (b : Bool) → bytes_eq name (codes "step") ≡ b → lexemes_of name ≡ terminal name ∷ []
           → IsWord name
-      by_step true f k = subst IsWord (sym ((bytes_eq-Decides name (codes "step")).0 f)) step_is_word
+      by_step true f k =
+          subst IsWord (sym ((bytes_eq-Decides name (codes "step")).0 f)) step_is_word
       by_step false f k = k ∙ sym (λ j. word_by (f j) (e j) name 1 ∷ [])
 
 pub both_seen : (a b : List Lexeme) → AreOfTokens (a ++ b) → AreOfTokens a × AreOfTokens b

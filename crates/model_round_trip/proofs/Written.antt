@@ -87,7 +87,8 @@ module _ {A B : Type 0} (Spells : B → List Lexeme → Type 0) (Can : A → Typ
 -- of parts that are as they are
 module _ {A : Type 0} (Spells : A → List Lexeme → Type 0) (Can : A → Type 0)
     (lexemes : A → List Lexeme) (spelled : (x : A) → Can x → Spells x (lexemes x)) where
-  pub same_spelled : (xs : List A) → Each Can xs → Bracketed Spells xs (in_brackets (map lexemes xs))
+  pub same_spelled : (xs : List A) → Each Can xs
+      → Bracketed Spells xs (in_brackets (map lexemes xs))
   same_spelled xs h =
       subst (λ (z : List A). Bracketed Spells z (in_brackets (map lexemes xs))) (map-id xs)
       (brackets_spelled Spells Can (λ x. x) lexemes spelled xs h)

@@ -20,6 +20,7 @@ ghost use Rattle.model_grammar.specs.Writing.{Each, IsWritable, IsWritableComman
 ghost use Rattle.model_round_trip.specs.Writable.{IsWritableTheory};
 ghost use Rattle.model_round_trip.specs.Literals.{LiteralsAreUtf8};
 ghost use Rattle.model_round_trip.specs.ReadBack.{SpellsFormulaAt, SpellsCommandAt, ReadsAs};
+ghost use Rattle.model_round_trip.specs.ReadBack.{without_lines};
 
 /// What lexemes of tokens spell can be written, and its literals are UTF-8.
 pub fn read_formulas_are_writable()
@@ -93,4 +94,9 @@ pub fn printed_theories_read_back()
         → Each LiteralsAreUtf8 (theory_lines t) → ReadsAs t (theory_text t) }
     ensures again { (t : Theory) (bytes : List ℕ) → SpellsTheory t (lexemes_of bytes)
         → ReadsAs t (theory_text t) }
+{}
+
+/// The text of a theory has nothing of the lines of its steps: what is read of it has the same.
+pub fn lines_are_not_printed()
+    ensures { (t u : Theory) → without_lines t ≡ without_lines u → theory_text t ≡ theory_text u }
 {}
