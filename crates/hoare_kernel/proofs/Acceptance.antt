@@ -22,6 +22,7 @@ use Rattle.hoare_kernel.proofs.Decisions.{same_is, is_same}
 use Rattle.hoare_kernel.proofs.InstanceLaws.{instance_of, test_of, triple_is, triple_parts, sort_test, command_test}
 
 -- ANSWERS IN ORDER
+-- nothing is bad at some places and then at later ones
 both-accepted : (a b : Answer) → and_later a b ≡ accepted → (a ≡ accepted) × (b ≡ accepted)
 both-accepted accepted b e = (refl, e)
 both-accepted (gap p s) b e = absurd cc
@@ -42,6 +43,7 @@ passed-on a b c e f = rw e f
 gap-kept : (a b : Answer) (p s : ℕ) → a ≡ gap p s → and_later a b ≡ gap p s
 gap-kept a b p s e = rw e refl
 
+-- a place that is no gap: it passes its test, or is bad
 passed : (b : Bool) → fine_where b ≡ accepted → b ≡ true
 passed true e = refl
 passed false e = absurd cc
@@ -51,6 +53,7 @@ no-gap true p s e = absurd cc
 no-gap false p s e = absurd cc
 
 -- STEPS
+-- one step: it is an instance, or a gap
 module _ (p : ℕ) (earlier : List (StepOf Named)) (step : StepOf Named) where
   step-passed : step_answer p earlier step ≡ accepted → instance_test earlier step ≡ true
   step-passed e = by_gap (is_gap step.reason) e
@@ -99,6 +102,7 @@ more-one : (earlier : List (StepOf Named)) (step : StepOf Named) (steps : List S
 more-one earlier step steps h =
     subst (λ z. AllInstances z steps) (map-append nameless_step earlier (step ∷ [])) h
 
+-- each step
 all_of : (p : ℕ) (steps earlier : List (StepOf Named)) → steps_answer p earlier steps ≡ accepted
     → AllInstances (map nameless_step earlier) (map nameless_step steps)
 all_of p [] earlier e = tt
@@ -165,7 +169,8 @@ proved_of n f e =
     let x = own_some f (last_step f.proof) (passed (own_last f (last_step f.proof)) h.1) in
     record {
       steps = all_of n f.proof [] h.0;
-      ends = last_is f.proof ∙ ap (option_map nameless_judgement) x.1 ∙ ap Some (own_of f x.0 x.2);
+      ends = last_is f.proof ∙ ap (option_map nameless_judgement) x.1
+          ∙ ap Some (own_of f x.0 x.2);
     }
 
 of_proved : (n : ℕ) (f : ProcedureOf Named) → IsProved (nameless_procedure f)
@@ -182,8 +187,8 @@ accepted_of n [] e = tt
 accepted_of n (f ∷ fs) e = let h = both-accepted (procedure_answer n f) _ e in
     (proved_of n f h.0, accepted_of (n + 1) fs h.1)
 
-pub of_accepted : (n : ℕ) (fs : List (ProcedureOf Named)) → Each IsProved (map nameless_procedure fs)
-    → procedures_answer n fs ≡ accepted
+pub of_accepted : (n : ℕ) (fs : List (ProcedureOf Named))
+    → Each IsProved (map nameless_procedure fs) → procedures_answer n fs ≡ accepted
 of_accepted n [] h = refl
 of_accepted n (f ∷ fs) h =
     passed-on (procedure_answer n f) _ accepted (of_proved n f h.0) (of_accepted (n + 1) fs h.1)
@@ -328,7 +333,8 @@ has_gap n [] [] after g front rest x e proved p i r = absurd cc
 has_gap n [] (h ∷ before) after g front rest x e proved p i r = absurd cc
 has_gap n (f ∷ fs) [] after g front rest x e proved p i r =
     let first : nameless_procedure f ≡ g = cc in
-    let found = gap_at n f.proof [] front rest x (ap (λ (z : Procedure). z.proof) first ∙ p) i r in (
+    let split = ap (λ (z : Procedure). z.proof) first ∙ p in
+    let found = gap_at n f.proof [] front rest x split i r in (
       n,
       found.0,
       gap-kept (procedure_answer n f) _ n found.0

@@ -82,8 +82,8 @@ not-neither : (theory : Theory)
     → (f : model.Procedure) (step : model.Step)
     → IsFirstGap (model.procedures_of (theory_of theory)) f step → ⊥
 not-neither theory e f step h =
-    let found = has_gap 1 (map procedure_of theory.procedures) h.before h.after f h.front h.rest step
-    h.place h.proved h.proof h.instances h.gap in
+    let found = has_gap 1 (map procedure_of theory.procedures) h.before h.after f h.front h.rest
+    step h.place h.proved h.proof h.instances h.gap in
     gap-no-neither found.0 found.1 (sym found.2 ∙ e)
   where
     gap-no-neither : (p s : ℕ) → gap p s ≡ neither → ⊥
