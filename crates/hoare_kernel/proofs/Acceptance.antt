@@ -1,351 +1,125 @@
--- The test of acceptance is the definition.
-use Rattle.std.proofs.Common.{◌≡◌, ℕ, Bool, true, false, ◌&&◌, ◌==◌, cond, List, [], ◌∷◌, ◌++◌, map, Option, Some, None, refl, sym, ap, ◌∙◌, subst, bytes_eq, codes}
+-- The answer of the computing test is that of the definitions: where it finds nothing bad, the
+-- theory is accepted; where it finds a gap, that is the first one; else there is neither.
+use Rattle.std.proofs.Common.{◌≡◌, ℕ, ◌+◌, Bool, true, false, ◌&&◌, cond, List, [], ◌∷◌, ◌++◌, map, length, Option, Some, None, inl, inr, refl, sym, ap, ◌∙◌, subst, arith}
+use Rattle.std.specs.Prelude.{◌⊎◌}
 use Rattle.std.specs.Option.{option_map}
 use Rattle.std.proofs.lemmas.Bool.{and_parts, and_from}
-use Rattle.std.proofs.lemmas.List.{map-append}
-use Rattle.std.proofs.lemmas.Option.{same_Some}
-use Rattle.std.proofs.lemmas.Slice.Eq.{bytes_eq-Decides}
-use Rattle.model_shapes.specs.Tests.{same_data_sort}
-use Rattle.model_shapes.specs.Sorts.{DataSort}
-use Rattle.model_shapes.proofs.Tests.{same_data_sort-is, same_data_sort-refl}
-use Rattle.model_terms.specs.Terms.{Term}
-use Rattle.model_formulas.specs.Formulas.{Named, Formula}
+use Rattle.std.proofs.lemmas.List.{map-append, length-append}
+use Rattle.model_formulas.specs.Formulas.{Named}
 use Rattle.model_formulas.specs.Nameless.{nameless}
-use Rattle.model_formulas.specs.Substitution.{formula_with, replacing}
-use Rattle.model_terms.specs.Stores.{ProgVar, as_var, sort_of}
-use Rattle.model_commands.specs.Commands.{Command, skip, assign, block, Block, stop, ◌then◌}
-use Rattle.model_commands.specs.Theories.{own_triple, JudgementOf, Judgement, entails, triple, Reason, auto, by_rule, StepOf, Step, ProcedureOf, nameless_judgement, nameless_step, nameless_procedure}
-use Rattle.model_commands.specs.SortTests.{evaluates, has_command}
-use Rattle.model_rules.specs.Rows.{Chain, last_link, more_links, Row, skip_row, assign_row, seq_row}
-use Rattle.model_rules.specs.Accepted.{judgement_numbered, Cites, InstanceBy, AllInstances, last_judgement, IsProved, Each}
+use Rattle.model_commands.specs.Theories.{own_triple, JudgementOf, Judgement, entails, triple, Reason, auto, by_rule, StepOf, Step, ProcedureOf, Procedure, Procedures, nameless_judgement, nameless_step, nameless_procedure}
+use Rattle.model_rules.specs.Accepted.{InstanceBy, AllInstances, last_judgement, IsProved, Each}
+use Rattle.model_shapes.specs.Tests.{same_data_sort}
+use Rattle.model_shapes.proofs.Tests.{same_data_sort-is}
 use Rattle.theory_syntax.specs.SameCommands.{same_command}
-use Rattle.theory_syntax.proofs.SameCommands.{same_command-is, same_command-refl}
-use Rattle.hoare_kernel.specs.Tests.{same_test, replaced_test, is_skip, no_items, skip_test, assign_test, cited, after, next, reached, ends, seq_test, judged_test, rule_test, instance_test, instances_test, own_test, own_last, last_step, proved_test, accepted_test}
-use Rattle.hoare_kernel.proofs.Decisions.{same_is, is_same, replaced_is, is_replaced, skip_is}
+use Rattle.theory_syntax.proofs.SameCommands.{same_command-is}
+use Rattle.theory_syntax.specs.declared.steps.Step as rust_step
+use Rattle.theory_syntax.specs.declared.theories.Procedure as rust_procedure
+use Rattle.theory_syntax.specs.Judgements.{step_of}
+use Rattle.theory_syntax.specs.Theories.{procedure_of}
+use Rattle.hoare_kernel.specs.Tests.{Answer, accepted, gap, neither, and_later, fine_where, is_gap, same_test, instance_test, step_answer, steps_answer, own_test, own_last, last_step, procedure_answer, procedures_answer}
+use Rattle.hoare_kernel.proofs.Decisions.{same_is, is_same}
+use Rattle.hoare_kernel.proofs.InstanceLaws.{instance_of, test_of, triple_is, triple_parts, sort_test, command_test}
 
--- CITATIONS
--- what a step of the number says, without the names of bound variables
-cited_is : (n : ℕ) (steps : List (StepOf Named))
-    → judgement_numbered n (map nameless_step steps) ≡ option_map nameless_judgement (cited n steps)
-cited_is n [] = refl
-cited_is n (step ∷ steps) = first_or_later (step.number == n) (cited_is n steps)
-  where
-    first_or_later : (b : Bool) → judgement_numbered n (map nameless_step steps)
-        ≡ option_map nameless_judgement (cited n steps)
-        → cond b (Some (nameless_judgement step.judgement))
-        (judgement_numbered n (map nameless_step steps))
-        ≡ option_map nameless_judgement (cond b (Some step.judgement) (cited n steps))
-    first_or_later true e = refl
-    first_or_later false e = e
+-- ANSWERS IN ORDER
+-- nothing is bad at some places and then at later ones
+both-accepted : (a b : Answer) → and_later a b ≡ accepted → (a ≡ accepted) × (b ≡ accepted)
+both-accepted accepted b e = (refl, e)
+both-accepted (gap p s) b e = absurd cc
+both-accepted neither b e = absurd cc
 
-triple_is : (p p' q q' : Formula) (c c' : Command) (d d' : DataSort) → p ≡ p' → c ≡ c' → q ≡ q'
-    → d ≡ d' → triple p c q d ≡ triple p' c' q' d'
-triple_is p p' q q' c c' d d' e f g h = rw (e, f, g, h) refl
+-- a gap among all is one among the first, or those are fine and it is one among the later
+gap-among : (a b : Answer) (p s : ℕ) → and_later a b ≡ gap p s
+    → (a ≡ gap p s) ⊎ ((a ≡ accepted) × (b ≡ gap p s))
+gap-among accepted b p s e = inr (refl, e)
+gap-among (gap q n) b p s e = inl e
+gap-among neither b p s e = absurd cc
 
-triple_parts : (p p' q q' : Formula) (c c' : Command) (d d' : DataSort)
-    → triple p c q d ≡ triple p' c' q' d' → (p ≡ p') × (c ≡ c') × (q ≡ q') × (d ≡ d')
-triple_parts p p' q q' c c' d d' e = (cc, cc, cc, cc)
+-- what is found after places of which none is bad
+passed-on : (a b c : Answer) → a ≡ accepted → b ≡ c → and_later a b ≡ c
+passed-on a b c e f = rw e f
 
-sort_test : (d d' : DataSort) → d ≡ d' → same_data_sort d d' ≡ true
-sort_test d d' e = subst (λ (z : DataSort). same_data_sort d z ≡ true) e (same_data_sort-refl d)
+-- a gap that is found stays the first
+gap-kept : (a b : Answer) (p s : ℕ) → a ≡ gap p s → and_later a b ≡ gap p s
+gap-kept a b p s e = rw e refl
 
-command_test : (c d : Command) → c ≡ d → same_command c d ≡ true
-command_test c d e = subst (λ (z : Command). same_command c z ≡ true) e (same_command-refl c)
+-- a place that is no gap: it passes its test, or is bad
+passed : (b : Bool) → fine_where b ≡ accepted → b ≡ true
+passed true e = refl
+passed false e = absurd cc
 
--- CHAINS
--- what is cited is the triple of the command, and the rest goes on from where it ends
-record Link (o : Option (JudgementOf Named)) (m : Named) (c : Command) (d : DataSort)
-    (f : Named → Option Named) (q : Named) : Type 0 where
-  middle : Named
-  says : option_map nameless_judgement o ≡ Some (triple (nameless m) c (nameless middle) d)
-  later : ends (f middle) q ≡ true
+no-gap : (b : Bool) (p s : ℕ) → fine_where b ≡ gap p s → ⊥
+no-gap true p s e = absurd cc
+no-gap false p s e = absurd cc
 
-link_of : (o : Option (JudgementOf Named)) (m : Named) (c : Command) (d : DataSort)
-    (f : Named → Option Named) (q : Named) → ends (next (after o m c d) f) q ≡ true
-    → Link o m c d f q
-link_of None m c d f q e = absurd cc
-link_of (Some (entails p r s)) m c d f q e = absurd cc
-link_of (Some (triple p c' r d')) m c d f q e =
-    where_tested (same_test p m && (same_command c' c && same_data_sort d' d)) refl e
-  where
-    where_tested : (b : Bool) → (same_test p m && (same_command c' c && same_data_sort d' d)) ≡ b
-        → ends (next (cond b (Some r) None) f) q ≡ true → Link (Some (triple p c' r d')) m c d f q
-    where_tested true t e =
-        let h = and_parts (same_test p m) (same_command c' c && same_data_sort d' d) t in
-        let k = and_parts (same_command c' c) (same_data_sort d' d) h.1 in
-        record {
-          middle = r;
-          says = ap Some (triple_is (nameless p) (nameless m) (nameless r) (nameless r) c' c d' d
-              (same_is p m h.0) (same_command-is c' c k.0) refl (same_data_sort-is d' d k.1));
-          later = e;
-        }
-    where_tested false t e = absurd cc
+-- STEPS
+-- one step: it is an instance, or a gap
+module _ (p : ℕ) (earlier : List (StepOf Named)) (step : StepOf Named) where
+  step-passed : step_answer p earlier step ≡ accepted → instance_test earlier step ≡ true
+  step-passed e = by_gap (is_gap step.reason) e
+    where
+      by_gap : (b : Bool) → cond b (gap p (length earlier + 1))
+          (fine_where (instance_test earlier step)) ≡ accepted → instance_test earlier step ≡ true
+      by_gap true e = absurd cc
+      by_gap false e = passed (instance_test earlier step) e
 
-record ChainOf (earlier : List (StepOf Named)) (ns : List ℕ) (m : Named) (b : Block) (q : Named)
-    (d : DataSort) : Type 0 where
-  triples : List Judgement
-  cites : Cites (map nameless_step earlier) ns triples
-  chain : Chain d triples (nameless m) b (nameless q)
+  step-fine : InstanceBy step.reason (map nameless_step earlier) (nameless_judgement step.judgement)
+      → step_answer p earlier step ≡ accepted
+  step-fine i =
+      ap (λ b. cond b (gap p (length earlier + 1)) (fine_where (instance_test earlier step)))
+      (no_gap step.reason i) ∙ ap fine_where (test_of step.reason step.judgement earlier i)
+    where
+      no_gap : (r : Reason) → InstanceBy r (map nameless_step earlier)
+          (nameless_judgement step.judgement) → is_gap r ≡ false
+      no_gap auto i = absurd i
+      no_gap (by_rule name ns arguments) i = refl
 
-chain_of : (earlier : List (StepOf Named)) (ns : List ℕ) (m : Named) (c : Command) (b : Block)
-    (q : Named) (d : DataSort)
-    → ends (reached earlier ns m (c then b) d) q ≡ true → ChainOf earlier ns m (c then b) q d
-chain_of earlier [] m c b q d e = absurd cc
-chain_of earlier (n ∷ ns) m c b q d e =
-    with_rest ns b (link_of (cited n earlier) m c d (λ z. reached earlier ns z b d) q e)
-    (λ z c2 b2. chain_of earlier ns z c2 b2 q d)
-  where
-    found : (r : Named) → option_map nameless_judgement (cited n earlier)
-        ≡ Some (triple (nameless m) c (nameless r) d)
-        → judgement_numbered n (map nameless_step earlier)
-        ≡ Some (triple (nameless m) c (nameless r) d)
-    found r s = cited_is n earlier ∙ s
+  step-gap : (q s : ℕ) → step_answer p earlier step ≡ gap q s
+      → (step.reason ≡ auto) × (q ≡ p) × (s ≡ length earlier + 1)
+  step-gap q s e = by_reason step.reason (instance_test earlier step) e
+    where
+      by_reason : (r : Reason) (b : Bool)
+          → cond (is_gap r) (gap p (length earlier + 1)) (fine_where b) ≡ gap q s
+          → (r ≡ auto) × (q ≡ p) × (s ≡ length earlier + 1)
+      by_reason auto b e = (refl, cc, cc)
+      by_reason (by_rule name ns arguments) b e = absurd (no-gap b q s e)
 
-    more : (ns : List ℕ) (c2 : Command) (b2 : Block) (r : Named)
-        → judgement_numbered n (map nameless_step earlier)
-        ≡ Some (triple (nameless m) c (nameless r) d)
-        → ChainOf earlier ns r (c2 then b2) q d → ChainOf earlier (n ∷ ns) m (c then c2 then b2) q d
-    more ns c2 b2 r s x = record {
-      triples = triple (nameless m) c (nameless r) d ∷ x.triples;
-      cites = (s, x.cites);
-      chain = more_links x.triples (nameless m) (nameless r) (nameless q) c (c2 then b2) x.chain;
-    }
+  gap-found : step.reason ≡ auto → step_answer p earlier step ≡ gap p (length earlier + 1)
+  gap-found e =
+      ap (λ r. cond (is_gap r) (gap p (length earlier + 1))
+      (fine_where (instance_test earlier step))) e
 
-    with_rest : (ns : List ℕ) (b : Block)
-        → Link (cited n earlier) m c d (λ z. reached earlier ns z b d) q
-        → ((z : Named) (c2 : Command) (b2 : Block)
-        → ends (reached earlier ns z (c2 then b2) d) q ≡ true
-        → ChainOf earlier ns z (c2 then b2) q d)
-        → ChainOf earlier (n ∷ ns) m (c then b) q d
-    with_rest [] stop x later = record {
-      triples = triple (nameless m) c (nameless q) d ∷ [];
-      cites = (
-        found x.middle x.says ∙ ap (λ z. Some (triple (nameless m) c z d))
-            (same_is x.middle q x.later),
-        tt,
-      );
-      chain = last_link (nameless m) (nameless q) c;
-    }
-    with_rest (k ∷ ns) stop x later = absurd (let h = x.later in cc)
-    with_rest ns (c2 then b2) x later = more ns c2 b2 x.middle (found x.middle x.says)
-        (later x.middle c2 b2 x.later)
+-- one more step is passed
+one-more : (earlier : List (StepOf Named)) (step : StepOf Named) (steps : List Step)
+    → AllInstances (map nameless_step earlier ++ nameless_step step ∷ []) steps
+    → AllInstances (map nameless_step (earlier ++ step ∷ [])) steps
+one-more earlier step steps h =
+    subst (λ z. AllInstances z steps) (sym (map-append nameless_step earlier (step ∷ []))) h
 
--- and back
-record After (o : Option (JudgementOf Named)) (m : Named) (c : Command) (d : DataSort)
-    (r : Formula) : Type 0 where
-  middle : Named
-  is : after o m c d ≡ Some middle
-  same : nameless middle ≡ r
+more-one : (earlier : List (StepOf Named)) (step : StepOf Named) (steps : List Step)
+    → AllInstances (map nameless_step (earlier ++ step ∷ [])) steps
+    → AllInstances (map nameless_step earlier ++ nameless_step step ∷ []) steps
+more-one earlier step steps h =
+    subst (λ z. AllInstances z steps) (map-append nameless_step earlier (step ∷ [])) h
 
-after_of : (o : Option (JudgementOf Named)) (m : Named) (c : Command) (d : DataSort) (p r : Formula)
-    → p ≡ nameless m → option_map nameless_judgement o ≡ Some (triple p c r d) → After o m c d r
-after_of None m c d p r same e = absurd cc
-after_of (Some (entails x y s)) m c d p r same e = absurd cc
-after_of (Some (triple x c' y d')) m c d p r same e =
-    let h = triple_parts (nameless x) p (nameless y) r c' c d' d
-    (same_Some (triple (nameless x) c' (nameless y) d') (triple p c r d) e) in
-    let t : (same_test x m && (same_command c' c && same_data_sort d' d)) ≡ true =
-    and_from (same_test x m) _ (is_same x m (h.0 ∙ same))
-    (and_from (same_command c' c) (same_data_sort d' d) (command_test c' c h.1)
-    (sort_test d' d h.3)) in
-    record { middle = y; is = ap (λ z. cond z (Some y) None) t; same = h.2 }
-
-of_chain : (earlier : List (StepOf Named)) (ns : List ℕ) (js : List Judgement) (m q : Named)
-    (b : Block) (d : DataSort) (p r : Formula)
-    → Chain d js p b r → p ≡ nameless m → r ≡ nameless q → Cites (map nameless_step earlier) ns js
-    → ends (reached earlier ns m b d) q ≡ true
-of_chain earlier [] js m q b d p r (last_link p1 q1 c) e f cites = absurd cites
-of_chain earlier (n ∷ []) js m q b d p r (last_link p1 q1 c) e f cites =
-    let a = after_of (cited n earlier) m c d p1 q1 e (sym (cited_is n earlier) ∙ cites.0) in
-    ap (λ z. ends (next z (λ w. reached earlier [] w stop d)) q) a.is
-    ∙ is_same a.middle q (a.same ∙ f)
-of_chain earlier (n ∷ k ∷ ns) js m q b d p r (last_link p1 q1 c) e f cites = absurd cites.1
-of_chain earlier [] js m q b d p r (more_links js1 p1 m1 q1 c b1 rest) e f cites = absurd cites
-of_chain earlier (n ∷ ns) js m q b d p r (more_links js1 p1 m1 q1 c b1 rest) e f cites =
-    let a = after_of (cited n earlier) m c d p1 m1 e (sym (cited_is n earlier) ∙ cites.0) in
-    ap (λ z. ends (next z (λ w. reached earlier ns w b1 d)) q) a.is
-    ∙ of_chain earlier ns js1 a.middle q b1 d m1 q1 rest (sym a.same) f cites.1
-
-chain_has : (js : List Judgement) (b : Block) (d : DataSort) (p r : Formula) → Chain d js p b r
-    → has_command b ≡ true
-chain_has js b d p r (last_link p1 q1 c) = refl
-chain_has js b d p r (more_links js1 p1 m1 q1 c b1 rest) = refl
-
--- INSTANCES
--- an instance of the row that has the name
-by_name : (name wanted ns : List ℕ) (earlier : List Step) (js : List Judgement) (j : Judgement)
-    → bytes_eq name wanted ≡ true → Cites earlier ns js → Row wanted [] js j
-    → InstanceBy (by_rule name ns []) earlier j
-by_name name wanted ns earlier js j e cites row =
-    (js, cites, subst (λ z. Row z [] js j) (sym ((bytes_eq-Decides name wanted).0 e)) row)
-
-cites_none : (earlier : List Step) (ns : List ℕ) → no_items ns ≡ true → Cites earlier ns []
-cites_none earlier [] e = tt
-cites_none earlier (n ∷ ns) e = absurd cc
-
-none_cited : (earlier : List Step) (ns : List ℕ) → Cites earlier ns [] → no_items ns ≡ true
-none_cited earlier [] c = refl
-none_cited earlier (n ∷ ns) c = absurd c
-
-skip_of : (p q : Named) (c : Command) (d : DataSort) → skip_test c p q ≡ true
-    → Row (codes "skip") [] [] (triple (nameless p) c (nameless q) d)
-skip_of p q c d e =
-    let h = and_parts (is_skip c) (same_test p q) e in
-    subst (λ z. Row (codes "skip") [] [] z) (triple_is (nameless p) (nameless p) (nameless p)
-    (nameless q) skip c d d refl (sym (skip_is c h.0)) (same_is p q h.1) refl)
-    (skip_row (nameless p) d)
-
-assign_of : (p q : Named) (c : Command) (d : DataSort) → assign_test p c q ≡ true
-    → Row (codes "assign") [] [] (triple (nameless p) c (nameless q) d)
-assign_of p q (assign x t) d e =
-    let h = and_parts (evaluates (sort_of x) t) (replaced_test x t q p) e in
-    subst (λ z. Row (codes "assign") [] [] (triple z (assign x t) (nameless q) d))
-    (replaced_is x t q p h.1) (assign_row (nameless q) x t d h.0)
-assign_of p q c d e = absurd cc
-
-seq_of : (earlier : List (StepOf Named)) (name ns : List ℕ) (p q : Named) (c : Command)
-    (d : DataSort) → bytes_eq name (codes "seq") ≡ true → seq_test earlier ns p c q d ≡ true
-    → InstanceBy (by_rule name ns []) (map nameless_step earlier)
-    (triple (nameless p) c (nameless q) d)
-seq_of earlier name ns p q (block stop) d n e = absurd cc
-seq_of earlier name ns p q (block (c then b)) d n e =
-    let x = chain_of earlier ns p c b q d e in
-    by_name name (codes "seq") ns (map nameless_step earlier) x.triples
-    (triple (nameless p) (block (c then b)) (nameless q) d) n x.cites
-    (seq_row x.triples (nameless p) (nameless q) (c then b) d x.chain)
-seq_of earlier name ns p q c d n e = absurd cc
-
-bare_of : (earlier : List (StepOf Named)) (name ns : List ℕ) (p q : Named) (c : Command)
-    (d : DataSort) (b : Bool) → bytes_eq name (codes "skip") ≡ b
-    → (no_items ns && cond b (skip_test c p q)
-    (bytes_eq name (codes "assign") && assign_test p c q)) ≡ true
-    → InstanceBy (by_rule name ns []) (map nameless_step earlier)
-    (triple (nameless p) c (nameless q) d)
-bare_of earlier name ns p q c d true n e =
-    let h = and_parts (no_items ns) (skip_test c p q) e in
-    by_name name (codes "skip") ns (map nameless_step earlier) []
-    (triple (nameless p) c (nameless q) d) n (cites_none (map nameless_step earlier) ns h.0)
-    (skip_of p q c d h.1)
-bare_of earlier name ns p q c d false n e =
-    let h = and_parts (no_items ns) (bytes_eq name (codes "assign") && assign_test p c q) e in
-    let k = and_parts (bytes_eq name (codes "assign")) (assign_test p c q) h.1 in
-    by_name name (codes "assign") ns (map nameless_step earlier) []
-    (triple (nameless p) c (nameless q) d) k.0 (cites_none (map nameless_step earlier) ns h.0)
-    (assign_of p q c d k.1)
-
-triple_of_test : (earlier : List (StepOf Named)) (name ns : List ℕ) (p q : Named) (c : Command)
-    (d : DataSort) (b : Bool) → bytes_eq name (codes "seq") ≡ b
-    → cond b (seq_test earlier ns p c q d) (no_items ns && cond (bytes_eq name (codes "skip"))
-    (skip_test c p q) (bytes_eq name (codes "assign") && assign_test p c q)) ≡ true
-    → InstanceBy (by_rule name ns []) (map nameless_step earlier)
-    (triple (nameless p) c (nameless q) d)
-triple_of_test earlier name ns p q c d true n e = seq_of earlier name ns p q c d n e
-triple_of_test earlier name ns p q c d false n e =
-    bare_of earlier name ns p q c d (bytes_eq name (codes "skip")) refl e
-
-instance_of : (r : Reason) (j : JudgementOf Named) (earlier : List (StepOf Named))
-    → rule_test earlier r j ≡ true → InstanceBy r (map nameless_step earlier) (nameless_judgement j)
-instance_of auto j earlier e = absurd cc
-instance_of (by_rule name ns []) (entails p q s) earlier e = absurd cc
-instance_of (by_rule name ns []) (triple p c q d) earlier e =
-    triple_of_test earlier name ns p q c d (bytes_eq name (codes "seq")) refl e
-instance_of (by_rule name ns (t ∷ ts)) j earlier e = absurd cc
-
--- and back: what a row says of its parts
-data RowTest (earlier : List (StepOf Named)) (name ns : List ℕ) : List Term → Judgement
-    → Type 0 where
-  passes : (j : Judgement) → ((k : JudgementOf Named) → nameless_judgement k ≡ j
-      → judged_test earlier name ns k ≡ true) → RowTest earlier name ns [] j
-
-of_skip : (earlier : List (StepOf Named)) (ns : List ℕ) (p : Formula) (d : DataSort)
-    → no_items ns ≡ true → (k : JudgementOf Named) → nameless_judgement k ≡ triple p skip p d
-    → judged_test earlier (codes "skip") ns k ≡ true
-of_skip earlier ns p d n (entails a b s) e = absurd cc
-of_skip earlier ns p d n (triple a c b s) e =
-    let h = triple_parts (nameless a) p (nameless b) p c skip s d e in
-    and_from (no_items ns) (skip_test c a b) n
-    (and_from (is_skip c) (same_test a b) (ap is_skip h.1) (is_same a b (h.0 ∙ sym h.2)))
-
-assign_passes : (p q : Named) (c : Command) (x : ProgVar) (t : Term) → c ≡ assign x t
-    → (evaluates (sort_of x) t && replaced_test x t q p) ≡ true → assign_test p c q ≡ true
-assign_passes p q c x t e h = subst (λ z. assign_test p z q ≡ true) (sym e) h
-
-of_assign : (earlier : List (StepOf Named)) (ns : List ℕ) (q : Formula) (x : ProgVar) (t : Term)
-    (d : DataSort) → evaluates (sort_of x) t ≡ true → no_items ns ≡ true
-    → (k : JudgementOf Named) → nameless_judgement k
-    ≡ triple (formula_with (replacing (as_var x) t) q) (assign x t) q d
-    → judged_test earlier (codes "assign") ns k ≡ true
-of_assign earlier ns q x t d v n (entails a b s) e = absurd cc
-of_assign earlier ns q x t d v n (triple a c b s) e =
-    let h = triple_parts (nameless a) (formula_with (replacing (as_var x) t) q) (nameless b) q c
-    (assign x t) s d e in
-    and_from (no_items ns) (assign_test a c b) n
-    (assign_passes a b c x t h.1 (and_from (evaluates (sort_of x) t) (replaced_test x t b a) v
-    (is_replaced x t b a (ap (formula_with (replacing (as_var x) t)) h.2 ∙ sym h.0))))
-
-seq_passes : (earlier : List (StepOf Named)) (ns : List ℕ) (p q : Named) (c : Command) (b : Block)
-    (d : DataSort) → c ≡ block b → (has_command b && ends (reached earlier ns p b d) q) ≡ true
-    → seq_test earlier ns p c q d ≡ true
-seq_passes earlier ns p q c b d e h = subst (λ z. seq_test earlier ns p z q d ≡ true) (sym e) h
-
-of_seq : (earlier : List (StepOf Named)) (ns : List ℕ) (js : List Judgement) (p q : Formula)
-    (b : Block) (d : DataSort) → Chain d js p b q → Cites (map nameless_step earlier) ns js
-    → (k : JudgementOf Named) → nameless_judgement k ≡ triple p (block b) q d
-    → judged_test earlier (codes "seq") ns k ≡ true
-of_seq earlier ns js p q b d chain cites (entails x y s) e = absurd cc
-of_seq earlier ns js p q b d chain cites (triple x c y s) e =
-    let h = triple_parts (nameless x) p (nameless y) q c (block b) s d e in
-    seq_passes earlier ns x y c b s h.1 (and_from (has_command b)
-    (ends (reached earlier ns x b s) y) (chain_has js b d p q chain)
-    (subst (λ z. ends (reached earlier ns x b z) y ≡ true) (sym h.3)
-    (of_chain earlier ns js x y b d p q chain (sym h.0) (sym h.2) cites)))
-
-row_test : (earlier : List (StepOf Named)) (ns : List ℕ) {name : List ℕ} {args : List Term}
-    {js : List Judgement} {j : Judgement} → Row name args js j
-    → Cites (map nameless_step earlier) ns js → RowTest earlier name ns args j
-row_test earlier ns (skip_row p d) cites = passes (triple p skip p d)
-    (of_skip earlier ns p d (none_cited (map nameless_step earlier) ns cites))
-row_test earlier ns (assign_row q x t d v) cites =
-    passes (triple (formula_with (replacing (as_var x) t) q) (assign x t) q d)
-    (of_assign earlier ns q x t d v (none_cited (map nameless_step earlier) ns cites))
-row_test earlier ns (seq_row js p q b d chain) cites =
-    passes (triple p (block b) q d) (of_seq earlier ns js p q b d chain cites)
-
-test_of_row : (earlier : List (StepOf Named)) (name ns : List ℕ) (args : List Term)
-    (k : JudgementOf Named) → RowTest earlier name ns args (nameless_judgement k)
-    → rule_test earlier (by_rule name ns args) k ≡ true
-test_of_row earlier name ns args k r = by_passing args (nameless_judgement k) refl r
-  where
-    by_passing : (args : List Term) (j : Judgement) → nameless_judgement k ≡ j
-        → RowTest earlier name ns args j → rule_test earlier (by_rule name ns args) k ≡ true
-    by_passing args j e (passes j1 f) = f k e
-
-test_of : (r : Reason) (j : JudgementOf Named) (earlier : List (StepOf Named))
-    → InstanceBy r (map nameless_step earlier) (nameless_judgement j) → rule_test earlier r j ≡ true
-test_of auto j earlier h = absurd h
-test_of (by_rule name ns args) j earlier h = test_of_row earlier name ns args j
-    (row_test earlier ns h.2 h.1)
-
--- PROOFS
-all_of : (steps earlier : List (StepOf Named)) → instances_test earlier steps ≡ true
+-- each step
+all_of : (p : ℕ) (steps earlier : List (StepOf Named)) → steps_answer p earlier steps ≡ accepted
     → AllInstances (map nameless_step earlier) (map nameless_step steps)
-all_of [] earlier e = tt
-all_of (step ∷ steps) earlier e =
-    let h = and_parts (instance_test earlier step) _ e in (
-      instance_of step.reason step.judgement earlier h.0,
-      subst (λ z. AllInstances z (map nameless_step steps))
-          (map-append nameless_step earlier (step ∷ [])) (all_of steps (earlier ++ step ∷ []) h.1),
+all_of p [] earlier e = tt
+all_of p (step ∷ steps) earlier e =
+    let h = both-accepted (step_answer p earlier step) _ e in (
+      instance_of step.reason step.judgement earlier (step-passed p earlier step h.0),
+      more-one earlier step (map nameless_step steps)
+          (all_of p steps (earlier ++ step ∷ []) h.1),
     )
 
-tests_of : (steps earlier : List (StepOf Named))
+of_all : (p : ℕ) (steps earlier : List (StepOf Named))
     → AllInstances (map nameless_step earlier) (map nameless_step steps)
-    → instances_test earlier steps ≡ true
-tests_of [] earlier h = refl
-tests_of (step ∷ steps) earlier h =
-    and_from (instance_test earlier step) (instances_test (earlier ++ step ∷ []) steps)
-    (test_of step.reason step.judgement earlier h.0)
-    (tests_of steps (earlier ++ step ∷ []) (subst (λ z. AllInstances z (map nameless_step steps))
-    (sym (map-append nameless_step earlier (step ∷ []))) h.1))
+    → steps_answer p earlier steps ≡ accepted
+of_all p [] earlier h = refl
+of_all p (step ∷ steps) earlier h =
+    passed-on (step_answer p earlier step) _ accepted (step-fine p earlier step h.0)
+    (of_all p steps (earlier ++ step ∷ []) (one-more earlier step (map nameless_step steps) h.1))
 
 -- the last judgement
 last_is : (steps : List (StepOf Named)) → last_judgement (map nameless_step steps)
@@ -388,30 +162,190 @@ some_judgement : (o : Option (JudgementOf Named)) (k : Judgement)
 some_judgement None k e = absurd cc
 some_judgement (Some j) k e = (j, refl, cc)
 
-proved_of : (f : ProcedureOf Named) → proved_test f ≡ true → IsProved (nameless_procedure f)
-proved_of f e =
-    let h = and_parts (instances_test [] f.proof) (own_last f (last_step f.proof)) e in
-    let x = own_some f (last_step f.proof) h.1 in
+proved_of : (n : ℕ) (f : ProcedureOf Named) → procedure_answer n f ≡ accepted
+    → IsProved (nameless_procedure f)
+proved_of n f e =
+    let h = both-accepted (steps_answer n [] f.proof) _ e in
+    let x = own_some f (last_step f.proof) (passed (own_last f (last_step f.proof)) h.1) in
     record {
-      steps = all_of f.proof [] h.0;
-      ends = last_is f.proof ∙ ap (option_map nameless_judgement) x.1 ∙ ap Some (own_of f x.0 x.2);
+      steps = all_of n f.proof [] h.0;
+      ends = last_is f.proof ∙ ap (option_map nameless_judgement) x.1
+          ∙ ap Some (own_of f x.0 x.2);
     }
 
-of_proved : (f : ProcedureOf Named) → IsProved (nameless_procedure f) → proved_test f ≡ true
-of_proved f h =
+of_proved : (n : ℕ) (f : ProcedureOf Named) → IsProved (nameless_procedure f)
+    → procedure_answer n f ≡ accepted
+of_proved n f h =
     let x = some_judgement (last_step f.proof) (own_triple (nameless_procedure f))
     (sym (last_is f.proof) ∙ h.ends) in
-    and_from (instances_test [] f.proof) (own_last f (last_step f.proof))
-    (tests_of f.proof [] h.steps) (ap (own_last f) x.1 ∙ of_own f x.0 x.2)
+    passed-on (steps_answer n [] f.proof) _ accepted (of_all n f.proof [] h.steps)
+    (ap fine_where (ap (own_last f) x.1 ∙ of_own f x.0 x.2))
 
-pub accepted_of : (fs : List (ProcedureOf Named)) → accepted_test fs ≡ true
+pub accepted_of : (n : ℕ) (fs : List (ProcedureOf Named)) → procedures_answer n fs ≡ accepted
     → Each IsProved (map nameless_procedure fs)
-accepted_of [] e = tt
-accepted_of (f ∷ fs) e = let h = and_parts (proved_test f) (accepted_test fs) e in
-    (proved_of f h.0, accepted_of fs h.1)
+accepted_of n [] e = tt
+accepted_of n (f ∷ fs) e = let h = both-accepted (procedure_answer n f) _ e in
+    (proved_of n f h.0, accepted_of (n + 1) fs h.1)
 
-pub of_accepted : (fs : List (ProcedureOf Named)) → Each IsProved (map nameless_procedure fs)
-    → accepted_test fs ≡ true
-of_accepted [] h = refl
-of_accepted (f ∷ fs) h = and_from (proved_test f) (accepted_test fs) (of_proved f h.0)
-    (of_accepted fs h.1)
+pub of_accepted : (n : ℕ) (fs : List (ProcedureOf Named))
+    → Each IsProved (map nameless_procedure fs) → procedures_answer n fs ≡ accepted
+of_accepted n [] h = refl
+of_accepted n (f ∷ fs) h =
+    passed-on (procedure_answer n f) _ accepted (of_proved n f h.0) (of_accepted (n + 1) fs h.1)
+
+-- THE FIRST GAP
+-- where it stands among steps
+pub record GapIn (p : ℕ) (earlier : List (StepOf Named)) (steps : List rust_step.Step) (q s : ℕ)
+    : Type 0 where
+  pub front : List rust_step.Step
+  pub step : rust_step.Step
+  pub rest : List rust_step.Step
+  pub split : steps ≡ front ++ step ∷ rest
+  pub instances : AllInstances (map nameless_step earlier) (map nameless_step (map step_of front))
+  pub gap : (step_of step).reason ≡ auto
+  pub procedure : q ≡ p
+  pub place : s ≡ length earlier + length front + 1
+
+gap_in : (p : ℕ) (steps : List rust_step.Step) (earlier : List (StepOf Named)) (q s : ℕ)
+    → steps_answer p earlier (map step_of steps) ≡ gap q s → GapIn p earlier steps q s
+gap_in p [] earlier q s e = absurd cc
+gap_in p (step ∷ steps) earlier q s e =
+    here_or_later (gap-among (step_answer p earlier (step_of step)) _ q s e)
+    (gap_in p steps (earlier ++ step_of step ∷ []) q s)
+  where
+    here_or_later : (step_answer p earlier (step_of step) ≡ gap q s)
+        ⊎ ((step_answer p earlier (step_of step) ≡ accepted)
+        × (steps_answer p (earlier ++ step_of step ∷ []) (map step_of steps) ≡ gap q s))
+        → (steps_answer p (earlier ++ step_of step ∷ []) (map step_of steps) ≡ gap q s
+        → GapIn p (earlier ++ step_of step ∷ []) steps q s)
+        → GapIn p earlier (step ∷ steps) q s
+    here_or_later (inl here) found =
+        let h = step-gap p earlier (step_of step) q s here in
+        record {
+          front = [];
+          step = step;
+          rest = steps;
+          split = refl;
+          instances = tt;
+          gap = h.0;
+          procedure = h.1;
+          place = omega (arith, h.2);
+        }
+    here_or_later (inr later) found =
+        let h = found later.1 in
+        record {
+          front = step ∷ h.front;
+          step = h.step;
+          rest = h.rest;
+          split = ap (λ z. step ∷ z) h.split;
+          instances = (
+            instance_of (step_of step).reason (step_of step).judgement earlier
+                (step-passed p earlier (step_of step) later.0),
+            more-one earlier (step_of step) (map nameless_step (map step_of h.front)) h.instances,
+          );
+          gap = h.gap;
+          procedure = h.procedure;
+          place = omega (arith, h.place, length-append earlier (step_of step ∷ []));
+        }
+
+-- and back
+gap_at : (p : ℕ) (steps earlier : List (StepOf Named)) (front rest : List Step) (x : Step)
+    → map nameless_step steps ≡ front ++ x ∷ rest → AllInstances (map nameless_step earlier) front
+    → x.reason ≡ auto → (s : ℕ) × (steps_answer p earlier steps ≡ gap p s)
+gap_at p [] earlier [] rest x e i g = absurd cc
+gap_at p [] earlier (y ∷ front) rest x e i g = absurd cc
+gap_at p (step ∷ steps) earlier [] rest x e i g =
+    let first : nameless_step step ≡ x = cc in
+    let is : step.reason ≡ auto = ap (λ (z : Step). z.reason) first ∙ g in (
+      length earlier + 1,
+      gap-kept (step_answer p earlier step) _ p (length earlier + 1) (gap-found p earlier step is),
+    )
+gap_at p (step ∷ steps) earlier (y ∷ front) rest x e i g =
+    let first : y ≡ nameless_step step = cc in
+    let i = subst (λ (z : Step). AllInstances (map nameless_step earlier) (z ∷ front)) first i in
+    let later : map nameless_step steps ≡ front ++ x ∷ rest = cc in
+    let found = gap_at p steps (earlier ++ step ∷ []) front rest x later
+    (one-more earlier step front i.1) g in (
+      found.0,
+      passed-on (step_answer p earlier step) _ (gap p found.0) (step-fine p earlier step i.0)
+          found.1,
+    )
+
+-- where it stands among procedures
+pub record FirstGap (n : ℕ) (fs : List rust_procedure.Procedure) (q s : ℕ) : Type 0 where
+  pub before : List rust_procedure.Procedure
+  pub f : rust_procedure.Procedure
+  pub after : List rust_procedure.Procedure
+  pub split : fs ≡ before ++ f ∷ after
+  pub proved : Each IsProved (map nameless_procedure (map procedure_of before))
+  pub inside : GapIn q [] f.proof q s
+  pub place : q ≡ n + length before
+
+pub first_gap : (n : ℕ) (fs : List rust_procedure.Procedure) (q s : ℕ)
+    → procedures_answer n (map procedure_of fs) ≡ gap q s → FirstGap n fs q s
+first_gap n [] q s e = absurd cc
+first_gap n (f ∷ fs) q s e =
+    here_or_later (gap-among (procedure_answer n (procedure_of f)) _ q s e)
+    (first_gap (n + 1) fs q s)
+  where
+    in_steps : (steps_answer n [] (map step_of f.proof) ≡ gap q s)
+        ⊎ ((steps_answer n [] (map step_of f.proof) ≡ accepted)
+        × (fine_where (own_last (procedure_of f) (last_step (map step_of f.proof))) ≡ gap q s))
+        → FirstGap n (f ∷ fs) q s
+    in_steps (inl found) =
+        let h = gap_in n f.proof [] q s found in
+        record {
+          before = [];
+          f = f;
+          after = fs;
+          split = refl;
+          proved = tt;
+          inside = subst (λ z. GapIn z [] f.proof q s) (sym h.procedure) h;
+          place = omega (arith, h.procedure);
+        }
+    in_steps (inr ends) = absurd (no-gap _ q s ends.1)
+
+    here_or_later : (procedure_answer n (procedure_of f) ≡ gap q s)
+        ⊎ ((procedure_answer n (procedure_of f) ≡ accepted)
+        × (procedures_answer (n + 1) (map procedure_of fs) ≡ gap q s))
+        → (procedures_answer (n + 1) (map procedure_of fs) ≡ gap q s → FirstGap (n + 1) fs q s)
+        → FirstGap n (f ∷ fs) q s
+    here_or_later (inl here) found =
+        in_steps (gap-among (steps_answer n [] (map step_of f.proof)) _ q s here)
+    here_or_later (inr later) found =
+        let h = found later.1 in
+        record {
+          before = f ∷ h.before;
+          f = h.f;
+          after = h.after;
+          split = ap (λ z. f ∷ z) h.split;
+          proved = (proved_of n (procedure_of f) later.0, h.proved);
+          inside = h.inside;
+          place = omega (arith, h.place);
+        }
+
+-- and back
+pub has_gap : (n : ℕ) (fs : List (ProcedureOf Named)) (before after : Procedures) (g : Procedure)
+    (front rest : List Step) (x : Step) → map nameless_procedure fs ≡ before ++ g ∷ after
+    → Each IsProved before → g.proof ≡ front ++ x ∷ rest → AllInstances [] front
+    → x.reason ≡ auto → (q : ℕ) × (s : ℕ) × (procedures_answer n fs ≡ gap q s)
+has_gap n [] [] after g front rest x e proved p i r = absurd cc
+has_gap n [] (h ∷ before) after g front rest x e proved p i r = absurd cc
+has_gap n (f ∷ fs) [] after g front rest x e proved p i r =
+    let first : nameless_procedure f ≡ g = cc in
+    let split = ap (λ (z : Procedure). z.proof) first ∙ p in
+    let found = gap_at n f.proof [] front rest x split i r in (
+      n,
+      found.0,
+      gap-kept (procedure_answer n f) _ n found.0
+          (gap-kept (steps_answer n [] f.proof) _ n found.0 found.1),
+    )
+has_gap n (f ∷ fs) (h ∷ before) after g front rest x e proved p i r =
+    let first : h ≡ nameless_procedure f = cc in
+    let later : map nameless_procedure fs ≡ before ++ g ∷ after = cc in
+    let found = has_gap (n + 1) fs before after g front rest x later proved.1 p i r in (
+      found.0,
+      found.1,
+      passed-on (procedure_answer n f) _ (gap found.0 found.1)
+          (of_proved n f (subst IsProved first proved.0)) found.2,
+    )

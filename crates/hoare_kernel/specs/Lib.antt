@@ -1,2 +1,4 @@
+pub mod Answers
 pub mod Citable
+pub mod Refusals
 pub mod Tests

@@ -1,6 +1,6 @@
 -- Acceptance as a test that computes. Nothing here is to be believed: the proofs tie it to the
 -- definition of accepted theories.
-use Rattle.std.specs.Prelude.{ℕ, ◌+◌, Bool, true, false, ◌&&◌, ◌==◌, cond, List, [], ◌∷◌, ◌++◌, Option, Some, None, bytes_eq, codes}
+use Rattle.std.specs.Prelude.{ℕ, ◌+◌, Bool, true, false, ◌&&◌, ◌==◌, cond, List, [], ◌∷◌, ◌++◌, length, Option, Some, None, bytes_eq, codes}
 use Rattle.model_shapes.specs.Tests.{same_data_sort}
 use Rattle.model_shapes.specs.Sorts.{DataSort}
 use Rattle.model_terms.specs.Terms.{Term}
@@ -100,11 +100,39 @@ rule_test earlier (by_rule name ns arguments) j =
 abbrev pub instance_test : List (StepOf Named) → StepOf Named → Bool
 instance_test earlier step = rule_test earlier step.reason step.judgement
 
--- each step is an instance; `earlier` are those passed
-abbrev pub instances_test : List (StepOf Named) → List (StepOf Named) → Bool
-instances_test earlier [] = true
-instances_test earlier (step ∷ steps) =
-    instance_test earlier step && instances_test (earlier ++ step ∷ []) steps
+-- what comes of the places in order: nothing is bad, the first bad place is a gap at this step of
+-- this procedure, each counted from 1, or it is none
+pub data Answer : Type 0 where
+  accepted : Answer
+  gap : ℕ → ℕ → Answer
+  neither : Answer
+
+-- the answer on some places and then on later ones
+abbrev pub and_later : Answer → Answer → Answer
+and_later accepted later = later
+and_later (gap procedure step) later = gap procedure step
+and_later neither later = neither
+
+-- a place that is no gap, by its test
+abbrev pub fine_where : Bool → Answer
+fine_where passes = cond passes accepted neither
+
+abbrev pub is_gap : Reason → Bool
+is_gap auto = true
+is_gap (by_rule name ns arguments) = false
+
+-- a step, over those before it in the proof of the procedure of this number
+abbrev pub step_answer : ℕ → List (StepOf Named) → StepOf Named → Answer
+step_answer procedure earlier step =
+    cond (is_gap step.reason) (gap procedure (length earlier + 1))
+    (fine_where (instance_test earlier step))
+
+-- each step; `earlier` are those passed
+abbrev pub steps_answer : ℕ → List (StepOf Named) → List (StepOf Named) → Answer
+steps_answer procedure earlier [] = accepted
+steps_answer procedure earlier (step ∷ steps) =
+    and_later (step_answer procedure earlier step)
+    (steps_answer procedure (earlier ++ step ∷ []) steps)
 
 -- a triple is the procedure's own
 abbrev pub own_test : ProcedureOf Named → JudgementOf Named → Bool
@@ -122,9 +150,13 @@ abbrev pub own_last : ProcedureOf Named → Option (JudgementOf Named) → Bool
 own_last f None = false
 own_last f (Some j) = own_test f j
 
-abbrev pub proved_test : ProcedureOf Named → Bool
-proved_test f = instances_test [] f.proof && own_last f (last_step f.proof)
+-- the steps and the end of the procedure of this number
+abbrev pub procedure_answer : ℕ → ProcedureOf Named → Answer
+procedure_answer number f =
+    and_later (steps_answer number [] f.proof) (fine_where (own_last f (last_step f.proof)))
 
-abbrev pub accepted_test : List (ProcedureOf Named) → Bool
-accepted_test [] = true
-accepted_test (f ∷ fs) = proved_test f && accepted_test fs
+-- each procedure, from the one of this number on
+abbrev pub procedures_answer : ℕ → List (ProcedureOf Named) → Answer
+procedures_answer number [] = accepted
+procedures_answer number (f ∷ fs) =
+    and_later (procedure_answer number f) (procedures_answer (number + 1) fs)

@@ -1,15 +1,17 @@
 // Which steps are instances of the rule that they name.
-ghost use Rattle.std.specs.Prelude.{◌≡◌, IfOk, map, []};
+ghost use Rattle.std.specs.Prelude.{◌≡◌, ◌<◌, IfOk, length, map, []};
 ghost use Rattle.dom_terms.specs.Sorts.{data_sort_of};
 ghost use Rattle.formula_syntax.specs.Formulas.{formula_of};
 ghost use Rattle.theory_syntax.specs.Commands.{command_of};
-ghost use Rattle.theory_syntax.specs.Judgements.{judgement_of, step_of, triple_of};
+ghost use Rattle.theory_syntax.specs.Judgements.{judgement_of, reason_of, step_of, triple_of};
+ghost use Rattle.hoare_kernel.specs.Answers.{Answers};
 ghost use Rattle.hoare_kernel.specs.Citable.{AreCitable};
 ghost use Rattle.model_files.specs.Sizes.{JudgementIsSmall, StepsAreSmall};
 ghost use Rattle.hoare_kernel.specs.Tests as test;
 
 use crate::chains::is_chain;
 use crate::citations::are_numbered;
+use crate::refusals::Refusal;
 use crate::same::{is_replaced, same};
 use dom_terms::{Numbers, OutOfMemory, Text, evaluates};
 use std::alloc::Global;
@@ -153,16 +155,49 @@ fn is_instance(
     }
 }
 
-/// Whether each step is an instance of the rule that it names over the steps before it.
-pub fn are_instances(alloc: Global, steps: &[Step]) -> Result<bool, OutOfMemory>
-    requires { StepsAreSmall (map step_of steps.now) }
-    ensures { IfOk result (λ b. b ≡ test.instances_test [] (map step_of steps.now)) }
+fn is_gap(reason: &Reason) -> bool
+    ensures { result ≡ test.is_gap (reason_of reason.now) }
+{
+    match reason {
+        Reason::Auto => true,
+        Reason::Rule { .. } => false,
+    }
+}
+
+// Whether the step is an instance over the steps before it, and not a gap.
+fn check_step(
+    alloc: Global,
+    procedure: u32,
+    earlier: &[Step],
+    numbered: bool,
+    step: &Step,
+) -> Result<(), Refusal>
+    requires earlier { AreCitable numbered earlier.now }
+    requires few { length earlier.now < 4294967295 }
+    requires step { JudgementIsSmall (judgement_of step.now.judgement) }
+    ensures { Answers result
+        (test.step_answer procedure (map step_of earlier.now) (step_of step.now)) }
+{
+    if is_gap(&step.reason) {
+        let step = earlier.len() as u32 + 1;
+        Err(Refusal::Gap { procedure, step })
+    } else if is_instance(alloc, earlier, numbered, step)? {
+        Ok(())
+    } else {
+        Err(Refusal::NotAccepted)
+    }
+}
+
+/// Whether each step, of the proof of the procedure of this number, is an instance of the rule that
+/// it names over the steps before it. The error says whether the first that isn't is a gap.
+pub fn check_steps(alloc: Global, procedure: u32, steps: &[Step]) -> Result<(), Refusal>
+    requires small { StepsAreSmall (map step_of steps.now) }
+    requires few { length steps.now < 4294967295 }
+    ensures { Answers result (test.steps_answer procedure [] (map step_of steps.now)) }
 {
     let numbered = are_numbered(steps);
     for (place, step) in steps.iter().enumerate() {
-        if !is_instance(alloc, &steps[..place], numbered, step)? {
-            return Ok(false);
-        }
+        check_step(alloc, procedure, &steps[..place], numbered, step)?;
     }
-    Ok(true)
+    Ok(())
 }

@@ -1,0 +1,63 @@
+// The first step that names a rule which isn't checked yet.
+ghost use Rattle.std.specs.Prelude.{◌≡◌, ◌<◌, length, map};
+ghost use Rattle.std.specs.Option.{option_map};
+ghost use Rattle.model_rules.specs.Checked as model;
+ghost use Rattle.model_files.specs.Sizes.{TheoryIsSmall};
+ghost use Rattle.theory_syntax.specs.Judgements.{reason_of, step_of};
+ghost use Rattle.theory_syntax.specs.Theories.{theory_of};
+
+use theory_syntax::{Reason, Step, Theory};
+
+/// Where a step stands that names a rule which isn't checked yet.
+#[derive(Clone, Copy, Debug, PartialEq, Eq)]
+pub struct Unbuilt {
+    /// Its procedure, counted from 1.
+    pub procedure: u32,
+    /// Its place in the proof, counted from 1.
+    pub step: u32,
+}
+
+// Whether no rule is named, or one that is checked.
+fn is_checked(reason: &Reason) -> bool
+    ensures { result ≡ model.is_checked (reason_of reason.now) }
+{
+    match reason {
+        Reason::Auto => true,
+        Reason::Rule { name, .. } => {
+            let name = name.as_str();
+            name == "skip" || name == "assign" || name == "seq"
+        }
+    }
+}
+
+// The place of the first of the steps whose rule isn't checked, counted from 1.
+fn unbuilt_step(steps: &[Step]) -> Option<u32>
+    requires { length steps.now < 4294967295 }
+    ensures { result ≡ model.unbuilt_step 1 (map step_of steps.now) }
+{
+    let mut place = 0;
+    for step in steps {
+        place += 1;
+        if !is_checked(&step.reason) {
+            return Some(place);
+        }
+    }
+    None
+}
+
+/// The first step, in the order of the file, that names a rule which isn't checked yet. None where
+/// there is no such step.
+pub fn first_unbuilt(theory: &Theory) -> Option<Unbuilt>
+    requires { TheoryIsSmall (theory_of theory.now) }
+    ensures { option_map (λ u. (u.procedure, u.step)) result
+        ≡ model.first_unbuilt (theory_of theory.now) }
+{
+    let mut procedure = 0;
+    for each in theory.procedures.as_slice() {
+        procedure += 1;
+        if let Some(step) = unbuilt_step(each.proof.as_slice()) {
+            return Some(Unbuilt { procedure, step });
+        }
+    }
+    None
+}
