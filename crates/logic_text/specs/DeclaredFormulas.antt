@@ -30,8 +30,8 @@ declared_vars vars = record {
   logics = flat_map if_logic_var vars;
 }
 
--- The lexemes spell the formula where this is declared: they spell some raw formula, and the formula
--- is that with its sorts.
+-- The lexemes spell the formula where this is declared: they spell some raw formula, and the
+-- formula is that with its sorts.
 pub record SpellsFormulaWith (declared : Declared) (formula : Named) (lexemes : List Lexeme)
     : Type 0 where
   pub raw : Named

@@ -1,5 +1,5 @@
 pub mod RawGroves
-pub mod GroveReaders
+pub mod TreeReaders
 pub mod Ranges
 pub mod Marks
 pub mod Places

@@ -66,9 +66,9 @@ fn set_declared(alloc: Global, formula: &mut Formula, vars: &[AnyVar]) -> Result
 }
 
 /// The formula that the tokens spell, all of them. Each variable has the sort of the first of
-/// `vars` that is of its kind and has its name, and sort node where none is. `BadText` comes exactly
-/// where the tokens spell no formula, with the fault token where they are those of a text, and
-/// `OutOfMemory` also where the formula nests more than `MOST_DEPTH` deep.
+/// `vars` that is of its kind and has its name, and sort node where none is. `BadText` comes
+/// exactly where the tokens spell no formula, with the fault token where they are those of a text,
+/// and `OutOfMemory` also where the formula nests more than `MOST_DEPTH` deep.
 pub fn read_formula(alloc: Global, tokens: &Tokens, vars: &[AnyVar]) -> Result<Formula, TextFault>
     ensures found { IfOk result (λ p. SpellsFormulaWith (declared_vars vars.now) (formula_of p)
         (lexemes_in tokens.now)) }

@@ -10,8 +10,8 @@ ghost use Rattle.token_readers.specs.Giving.{Gives};
 ghost use Rattle.token_readers.specs.Spelling.{whole};
 ghost use Rattle.token_readers.specs.Leaves.{lexemes_in};
 ghost use Rattle.logic_text.specs.RawGroves.{raw_tree_of, raw_forest_of};
-ghost use Rattle.logic_text.specs.GroveReaders.{leaf_literal, leaf_number};
-ghost use Rattle.logic_text.specs.GroveReaders.{marked_at, forest_at, tree_at, grove_at};
+ghost use Rattle.logic_text.specs.TreeReaders.{leaf_literal, leaf_number};
+ghost use Rattle.logic_text.specs.TreeReaders.{marked_at, forest_at, tree_at, grove_at};
 
 use crate::raw_groves::{RawForest, RawGrove, RawTree};
 use dom_terms::{Copied, Text};
@@ -19,9 +19,9 @@ use std::alloc::Global;
 use text_tokens::{Token, Tokens};
 use token_readers::{ReadFault, TextFault, after, expect};
 
-/// The deepest nesting of trees, terms and formulas that is read; a deeper one is answered as want of
-/// memory. It is more than a document or a file may have: one with at most 200 brackets open at a
-/// place nests trees at most 100 deep, and a file has at most 100.
+/// The deepest nesting of trees, terms and formulas that is read; a deeper one is answered as want
+/// of memory. It is more than a document or a file may have: one with at most 200 brackets open at
+/// a place nests trees at most 100 deep, and a file has at most 100 open.
 pub const MOST_DEPTH: u32 = 128;
 
 // A text literal.
@@ -54,7 +54,7 @@ fn number(tokens: &[Token]) -> Result<(u64, &[Token]), ReadFault>
 
 // A tree between two marks.
 #[cycle(tree)]
-#[tactic(auto, unfolding(crate::specs::GroveReaders::marked_at))]
+#[tactic(auto, unfolding(crate::specs::TreeReaders::marked_at))]
 fn marked<'a>(
     alloc: Global,
     left: &str,
@@ -100,7 +100,7 @@ fn trees<'a>(
 
 // A forest, its trees nested at most so deep.
 #[cycle(tree)]
-#[tactic(auto, unfolding(crate::specs::GroveReaders::forest_at, crate::specs::GroveReaders::some_at))]
+#[tactic(auto, unfolding(crate::specs::TreeReaders::forest_at, crate::specs::TreeReaders::some_at))]
 fn forest<'a>(
     alloc: Global,
     depth: u32,
@@ -117,7 +117,7 @@ fn forest<'a>(
 
 // A tree, nested at most so deep.
 #[cycle(tree)]
-#[tactic(auto, unfolding(crate::specs::GroveReaders::tree_at, crate::specs::GroveReaders::node_at))]
+#[tactic(auto, unfolding(crate::specs::TreeReaders::tree_at, crate::specs::TreeReaders::node_at))]
 fn tree<'a>(
     alloc: Global,
     depth: u32,
@@ -147,7 +147,7 @@ fn tree<'a>(
 }
 
 // A grove, at the front of the tokens.
-#[tactic(auto, unfolding(crate::specs::GroveReaders::grove_at, crate::specs::GroveReaders::some_at))]
+#[tactic(auto, unfolding(crate::specs::TreeReaders::grove_at, crate::specs::TreeReaders::some_at))]
 fn grove(alloc: Global, tokens: &[Token]) -> Result<(RawGrove, &[Token]), ReadFault>
     ensures { Gives (λ x. (raw_forest_of x.0, lexemes_in x.1.now)) result
         (grove_at u32.MAX MOST_DEPTH (lexemes_in tokens.now)) }

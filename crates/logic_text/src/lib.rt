@@ -3,8 +3,8 @@
 //! that are given, and refused exactly where it spells none, at the fault token; that the first
 //! number out of range is told; and that groves, terms and formulas are printed byte by byte as
 //! their definitions say.
-//! Stands on the readers of tokens, the trees and formulas of the program, the walk that sets sorts,
-//! and the definitions of documents and of the grammar.
+//! Stands on the readers of tokens, the trees and formulas of the program, the walk that sets
+//! sorts, and the definitions of documents and of the grammar.
 #![tactic(auto)]
 
 mod connectives;

@@ -3,7 +3,7 @@ use Rattle.std.proofs.lemmas.Result.{err_from_is_err_and}
 use Rattle.std.proofs.lemmas.List.{map_push}
 use Rattle.token_readers.proofs.Lists.{goes_on, breaks, is_done}
 use Rattle.logic_text.specs.RawGroves.{raw_tree_of}
-use Rattle.logic_text.specs.GroveReaders.{marked_at, tree_at}
+use Rattle.logic_text.specs.TreeReaders.{marked_at, tree_at}
 use Rattle.logic_text.proofs.grove_reading.+tree.Goals as goal
 
 pub trees-returns-in_err-item : goal.trees-returns-in_err-item

@@ -3,7 +3,7 @@ use Rattle.token_readers.specs.Reading.{sep_list}
 use Rattle.token_readers.specs.Leaves.{lexemes_in}
 use Rattle.token_readers.specs.Reading.{with_front}
 use Rattle.logic_text.specs.RawGroves.{raw_tree_of}
-use Rattle.logic_text.specs.GroveReaders.{marked_at, tree_at}
+use Rattle.logic_text.specs.TreeReaders.{marked_at, tree_at}
 use Rattle.logic_text.proofs.grove_reading.+tree.Given as goal
 
 -- the nesting that is left, and at one depth the order of the calls
