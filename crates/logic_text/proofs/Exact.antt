@@ -13,7 +13,7 @@ use Rattle.token_readers.specs.declared.fault.TextFault.{TextFault}
 use Rattle.token_readers.proofs.Sound.{Sound}
 use Rattle.token_readers.proofs.Only.{Only}
 use Rattle.token_readers.proofs.Whole as whole_
-use Rattle.logic_text.specs.Readers.{grove_at}
+use Rattle.logic_text.specs.TreeReaders.{grove_at}
 use Rattle.logic_text.proofs.GroveReader.{grove_sound, grove_only}
 
 -- the reader for nesting of less than n; at the depth of the program, 128, lists are bounded by the

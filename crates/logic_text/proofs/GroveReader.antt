@@ -11,7 +11,7 @@ use Rattle.token_readers.proofs.TerminalTests.{text_refl}
 use Rattle.token_readers.proofs.Sound.{Sound, s_ret, s_then, s_case, s_leaf, s_deep, s_expect, s_expect_up, s_close}
 use Rattle.token_readers.proofs.Only.{Only, OrDeep, deep, read, Prefix_free, o_last, o_then}
 use Rattle.token_readers.proofs.Lists.{SpellsList, last, more, s_list, list_only}
-use Rattle.logic_text.specs.Readers.{leaf_literal, leaf_number, marked_at, some_at, forest_at, node_at, tree_at, grove_at}
+use Rattle.logic_text.specs.TreeReaders.{leaf_literal, leaf_number, marked_at, some_at, forest_at, node_at, tree_at, grove_at}
 
 -- ---- one lexeme
 

@@ -6,3 +6,6 @@ pub mod EscapeLemmas
 pub mod MarkLemmas
 pub mod SpaceLemmas
 pub mod TermSizes
+pub mod LeafReader
+pub mod TermReader
+pub mod FormulaReader

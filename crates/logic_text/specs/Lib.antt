@@ -1,4 +1,9 @@
 pub mod RawGroves
-pub mod Readers
+pub mod TreeReaders
 pub mod Ranges
 pub mod Marks
+pub mod Places
+pub mod Operators
+pub mod TermReaders
+pub mod FormulaReaders
+pub mod DeclaredFormulas

@@ -3,7 +3,7 @@ ghost use Rattle.std.specs.Prelude.{◌≡◌, List, [], ◌∷◌, ◌++◌, On
 ghost use Rattle.model_text.specs.Lexemes.{Lexeme, terminal, number_lexeme, literal_lexeme};
 ghost use Rattle.model_grammar.specs.Writing.{spaced, text_of};
 
-use crate::writing::{push_literal, push_str};
+use crate::grove_writing::{push_literal, push_str};
 use dom_terms::{OutOfMemory, Text};
 use std::alloc::Global;
 

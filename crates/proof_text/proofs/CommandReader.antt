@@ -12,15 +12,16 @@ use Rattle.model_grammar.specs.Commands as g
 use Rattle.model_grammar.specs.Commands.{Bracketed, SpellsVariable, a_variable, SpellsCondition, SpellsSetting, to_value, to_answer, to_item, SpellsCommand, skip_word, braces, choice, loop, with_local, a_call, change, setting, SpellsBlock, in_braces, SpellsCommands, last_command, more_commands}
 use Rattle.model_text.proofs.OfTokens.{is_seen}
 use Rattle.token_readers.specs.Reading.{Answer, Read, ◌>>=◌, ret, then, when, leaf}
-use Rattle.proof_text.specs.Terms.{term_at}
+use Rattle.logic_text.specs.TermReaders.{term_at}
+use Rattle.logic_text.proofs.TermReader.{term_sound, term_only}
+use Rattle.logic_text.proofs.FormulaReader.{ends_with}
 use Rattle.proof_text.specs.Lists.{leaf_variable, bracketed_at}
 use Rattle.proof_text.specs.Commands.{cond_at, semicolon, block_rest, block_at, one_at, two_at, setting_at, choice_at, loop_at, local_at, call_at, change_at, command_at}
 use Rattle.token_readers.proofs.Sound.{Sound, After, s_ret, s_then, s_when, s_case, s_deep, s_expect, s_expect_up, s_close}
 use Rattle.token_readers.proofs.Only.{Only, OrDeep, deep, read, Prefix_free, o_last, o_then}
 use Rattle.token_readers.proofs.Lists.{SpellsList, last, more, s_list, list_only}
 use Rattle.proof_text.proofs.ListReader.{name_sound, name_only, variable_sound, variable_only, value_sort_sound, value_sort_only, bracketed_sound, bracketed_only}
-use Rattle.proof_text.proofs.TermReader.{term_sound, term_only}
-use Rattle.proof_text.proofs.ConditionReader.{ends_with, cond_sound, cond_only}
+use Rattle.proof_text.proofs.ConditionReader.{cond_sound, cond_only}
 
 -- a block as a list of commands, and as the grammar has it
 block_of : {cs : List Command} {s : List Lexeme} → SpellsList semicolon SpellsCommand cs s

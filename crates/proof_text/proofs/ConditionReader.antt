@@ -1,5 +1,5 @@
 -- The reader of conditions reads what the grammar spells, and only that.
-use Rattle.std.proofs.Common.{◌≡◌, ℕ, zero, suc, Bool, true, false, ◌||◌, List, [], ◌∷◌, ◌++◌, refl, sym, subst, append_assoc, append-nil, codes}
+use Rattle.std.proofs.Common.{◌≡◌, ℕ, zero, suc, Bool, true, false, ◌||◌, List, [], ◌∷◌, ◌++◌, refl, sym, subst, append_assoc, codes}
 use Rattle.std.specs.Prelude as std
 use Rattle.model_shapes.specs.Sorts.{node_sort}
 use Rattle.model_shapes.specs.Values.{null}
@@ -14,16 +14,12 @@ use Rattle.model_grammar.specs.Commands as g
 use Rattle.model_grammar.specs.Commands.{SpellsVariable, a_variable, SpellsCondition, bool_variable, comparison, joined}
 use Rattle.model_text.proofs.OfTokens.{is_seen}
 use Rattle.token_readers.specs.Reading.{Read, then, is_terminal}
-use Rattle.proof_text.specs.Terms.{term_at}
+use Rattle.logic_text.specs.TermReaders.{term_at}
+use Rattle.logic_text.proofs.TermReader.{term_sound, term_only}
+use Rattle.logic_text.proofs.FormulaReader.{ends_with}
 use Rattle.proof_text.specs.Commands.{cond_joined_at, cond_bracket_at, lone_name, cond_compared_at, cond_at, ends_cond}
 use Rattle.token_readers.proofs.Sound.{Sound, Behind, After, s_ret, s_fail, s_then, s_when, s_case, s_deep, s_close}
 use Rattle.token_readers.proofs.Only.{Only, OrDeep, deep, read, o_last, o_then}
-use Rattle.proof_text.proofs.TermReader.{term_sound, term_only}
-
--- a last part
-pub ends_with : {A : Type 0} (L : A → List Lexeme → Type 0) {a : A} {s : List Lexeme} → L a s
-    → L a (s ++ [])
-ends_with L {a} {s} l = subst (λ z. L a z) (sym (append-nil s)) l
 
 joined_sound : (n : ℕ) (condition : Read Cond) → Sound n condition SpellsCondition
     → (c : Cond) (s : List Lexeme) → SpellsCondition c s

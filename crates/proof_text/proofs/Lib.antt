@@ -1,6 +1,3 @@
-pub mod LeafReader
-pub mod TermReader
-pub mod FormulaReader
 pub mod ListReader
 pub mod ConditionReader
 pub mod CommandReader

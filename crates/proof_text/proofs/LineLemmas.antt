@@ -6,12 +6,11 @@ use Rattle.model_commands.specs.Theories as theories
 use Rattle.model_text.specs.Tokens.{newline}
 use Rattle.model_text.specs.Lexemes.{Lexeme, terminal, step_word, name_lexeme, word_lexeme, is_reserved}
 use Rattle.model_grammar.specs.Words.{the, ◌⌢◌}
-use Rattle.model_grammar.specs.Writing.{printed, spaced, text_of, text_of_lines, in_brackets, term_lexemes, number_lexemes, argument_lexemes, reason_lexemes, procedure_lines, procedures_lines, step_line, logic_line, theory_text, declaration_lexemes}
+use Rattle.model_grammar.specs.Writing.{printed, spaced, text_of, text_of_lines, in_brackets, term_lexemes, number_lexemes, argument_lexemes, reason_lexemes, procedure_lines, procedures_lines, step_line, logic_line, theory_text}
 use Rattle.model_grammar.proofs.Spaced.{spaced_rules}
 use Rattle.logic_text.proofs.ListLemmas.{drop_item}
 use Rattle.dom_terms.specs.declared.terms.Term.{Term}
-use Rattle.dom_terms.specs.declared.terms.ProgVar.{ProgVar}
-use Rattle.dom_terms.specs.Terms.{prog_var_of, term_of, logic_var_of}
+use Rattle.dom_terms.specs.Terms.{term_of, logic_var_of}
 use Rattle.model_shapes.proofs.Tests.{bytes-is}
 use Rattle.theory_syntax.specs.declared.steps.Step.{Step}
 use Rattle.theory_syntax.specs.declared.theories.Procedure.{Procedure}
@@ -31,10 +30,6 @@ goes_on {T} f items i item text whole lt is so_far =
     ∙ ap (λ (z : List ℕ). text ++ z)
     (sym (ap (λ (z : List T). joined_texts (map f z)) (drop_item items i item lt is)))
     ∙ so_far
-
--- the lexemes of a declaration of the program
-abbrev pub lexemes_of_declaration : ProgVar → List Lexeme
-lexemes_of_declaration x = declaration_lexemes (prog_var_of x)
 
 -- ---- reasons
 

@@ -11,10 +11,10 @@ use Rattle.model_grammar.specs.Theories.{SpellsAnyWord, plain_word, reserved_wor
 use Rattle.model_text.proofs.OfTokens.{name_seen, number_seen, node_seen, g_seen}
 use Rattle.token_readers.specs.Leaves.{leaf_word, leaf_number}
 use Rattle.token_readers.specs.Reading.{leaf}
+use Rattle.logic_text.proofs.LeafReader.{chosen, taken}
 use Rattle.proof_text.specs.Theories.{leaf_shape_sort, shape_sort_called, leaf_sort}
 use Rattle.token_readers.proofs.Sound.{Sound, s_leaf}
 use Rattle.token_readers.proofs.Only.{Only, OrDeep, read, Prefix_free}
-use Rattle.proof_text.proofs.LeafReader.{chosen, taken}
 use Rattle.proof_text.proofs.ListReader.{called_it}
 
 word_is : (t : Lexeme) (a : List ℕ) → leaf_word t ≡ Some a → SpellsAnyWord a (t ∷ [])

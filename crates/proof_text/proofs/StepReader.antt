@@ -12,8 +12,10 @@ use Rattle.model_grammar.specs.Commands.{Bracketed}
 use Rattle.model_grammar.specs.Theories.{SpellsNumber, small_number, SpellsDeclaration, declaration, SpellsArguments, no_argument, some_arguments, SpellsReason, auto_word, by_word, SpellsJudgement, entailment, a_triple, SpellsStep, a_step, SpellsSteps, no_step, one_step}
 use Rattle.token_readers.specs.Leaves.{leaf_number, leaf_step}
 use Rattle.token_readers.specs.Reading.{Read, when, leaf, many, not_next, not_begun}
-use Rattle.proof_text.specs.Terms.{term_at}
-use Rattle.proof_text.specs.Formulas.{formula_at}
+use Rattle.logic_text.specs.TermReaders.{term_at}
+use Rattle.logic_text.specs.FormulaReaders.{formula_at}
+use Rattle.logic_text.proofs.TermReader.{term_sound, term_only}
+use Rattle.logic_text.proofs.FormulaReader.{ends_with, formula_sound, formula_only}
 use Rattle.proof_text.specs.Lists.{comma, bracketed_at}
 use Rattle.proof_text.specs.Theories.{declaration_at, arguments_at, reason_at, triple_at, entailment_at, judgement_at, step_tail}
 use Rattle.token_readers.proofs.Sound.{Sound, After, s_ret, s_then, s_case, s_expect, s_close, s_less}
@@ -21,9 +23,6 @@ use Rattle.token_readers.proofs.Only.{Only, OrDeep, read, Prefix_free, o_last, o
 use Rattle.token_readers.proofs.Lists.{SpellsMany, none_left, one_more, s_list, list_only, ends_list, s_many, many_only}
 use Rattle.proof_text.proofs.ListReader.{name_sound, name_only, value_sort_sound, value_sort_only, data_sort_sound, data_sort_only, items_of, listed, bracketed_sound, bracketed_only}
 use Rattle.proof_text.proofs.SortReader.{word_sound, word_only, number_sound, number_only, shape_sort_sound, shape_sort_only}
-use Rattle.proof_text.proofs.TermReader.{term_sound, term_only}
-use Rattle.proof_text.proofs.FormulaReader.{formula_sound, formula_only}
-use Rattle.proof_text.proofs.ConditionReader.{ends_with}
 use Rattle.proof_text.proofs.CommandReader.{command_sound, command_only}
 
 -- premises

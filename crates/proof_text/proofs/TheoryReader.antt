@@ -12,16 +12,16 @@ use Rattle.model_grammar.specs.Commands.{Bracketed}
 use Rattle.model_grammar.specs.Theories.{SpellsDeclaration, SpellsProcedure, procedure, SpellsProcedures, last_procedure, more_procedures, SpellsLogicLine, logic_line, SpellsLogicLines, no_line, one_line, SpellsRaw, theory}
 use Rattle.token_readers.specs.Reading.{leaf, the_terminal, not_begun}
 use Rattle.token_readers.proofs.Sound.{the_terminal_is}
+use Rattle.logic_text.specs.FormulaReaders.{leaf_logic, formula_at}
+use Rattle.logic_text.proofs.LeafReader.{logic_sound, logic_only}
+use Rattle.logic_text.proofs.FormulaReader.{formula_sound, formula_only}
 use Rattle.proof_text.specs.Lists.{comma}
-use Rattle.proof_text.specs.Formulas.{leaf_logic, formula_at}
 use Rattle.proof_text.specs.Theories.{contents_at, procedure_tail, more_procedures_at, procedures_at, logic_tail, joined_lines, logic_lines_at, theory_at}
 use Rattle.token_readers.proofs.Sound.{Sound, Behind, After, s_ret, s_then, s_expect, s_close, s_less}
 use Rattle.token_readers.proofs.Only.{Only, OrDeep, read, Prefix_free, o_last, o_then}
 use Rattle.token_readers.proofs.Lists.{SpellsMany, none_left, one_more, s_list, list_only, s_many, many_only}
-use Rattle.proof_text.proofs.LeafReader.{logic_sound, logic_only}
 use Rattle.proof_text.proofs.ListReader.{name_sound, name_only, data_sort_sound, data_sort_only, items_of, listed}
 use Rattle.proof_text.proofs.SortReader.{number_sound, number_only, sort_sound, sort_only}
-use Rattle.proof_text.proofs.FormulaReader.{formula_sound, formula_only}
 use Rattle.proof_text.proofs.CommandReader.{command_sound, command_only}
 use Rattle.proof_text.proofs.StepReader.{declarations_sound, declarations_only, steps_sound, steps_only, steps_of, steps_as_items}
 

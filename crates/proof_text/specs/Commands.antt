@@ -12,7 +12,7 @@ use Rattle.model_text.specs.Lexemes.{Lexeme}
 use Rattle.model_grammar.specs.Terms.{in_command}
 use Rattle.token_readers.specs.Leaves.{leaf_name}
 use Rattle.token_readers.specs.Reading.{Read, Deep, ret, fail, then, when, expect, leaf, sep_list, is_terminal}
-use Rattle.proof_text.specs.Terms.{term_at}
+use Rattle.logic_text.specs.TermReaders.{term_at}
 use Rattle.proof_text.specs.Lists.{leaf_value_sort, leaf_variable, bracketed_at}
 
 -- behind a bracket and a condition

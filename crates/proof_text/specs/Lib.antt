@@ -1,7 +1,4 @@
-pub mod Places
-pub mod Operators
-pub mod Terms
-pub mod Formulas
+pub mod Queries
 pub mod Lists
 pub mod Commands
 pub mod Theories

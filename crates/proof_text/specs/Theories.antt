@@ -12,8 +12,8 @@ use Rattle.model_text.specs.Lexemes.{Lexeme, name_lexeme}
 use Rattle.model_grammar.specs.Terms.{in_formula}
 use Rattle.token_readers.specs.Leaves.{leaf_name, leaf_word, leaf_number, leaf_step}
 use Rattle.token_readers.specs.Reading.{Read, ret, then, when, expect, leaf, sep_list, many, the_terminal}
-use Rattle.proof_text.specs.Terms.{term_at}
-use Rattle.proof_text.specs.Formulas.{leaf_logic, formula_at}
+use Rattle.logic_text.specs.TermReaders.{term_at}
+use Rattle.logic_text.specs.FormulaReaders.{leaf_logic, formula_at}
 use Rattle.proof_text.specs.Lists.{comma, called, leaf_value_sort, leaf_data_sort, bracketed_at}
 use Rattle.proof_text.specs.Commands.{command_at}
 

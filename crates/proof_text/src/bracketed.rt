@@ -4,13 +4,13 @@ ghost use Rattle.dom_terms.specs.Terms.{prog_var_of, term_of};
 ghost use Rattle.token_readers.specs.Reading.{leaf, sep_list};
 ghost use Rattle.token_readers.specs.Giving.{Gives};
 ghost use Rattle.token_readers.specs.Leaves.{lexemes_in};
-ghost use Rattle.proof_text.specs.Terms.{term_at};
+ghost use Rattle.logic_text.specs.TermReaders.{term_at};
+ghost use Rattle.logic_text.specs.Places.{place_of};
 ghost use Rattle.proof_text.specs.Lists.{comma, leaf_variable, bracketed_at};
-ghost use Rattle.proof_text.specs.Places.{place_of};
 
 use crate::sorts::VariableReader;
-use crate::terms::{Place, TermReader};
-use dom_terms::{Terms, Vars};
+use dom_terms::{Term, Terms, Vars};
+use logic_text::{Place, term};
 use std::alloc::Global;
 use text_tokens::Token;
 use token_readers::{Gathers, ReadFault, Reader, after, expect, separated};
@@ -40,6 +40,32 @@ pub fn variables(alloc: Global, tokens: &[Token]) -> Result<(Vars, &[Token]), Re
         (bracketed_at (leaf leaf_variable) u32.MAX (lexemes_in tokens.now)) }
 {
     bracketed(alloc, &VariableReader, tokens)
+}
+
+// Reads terms at the place, nested at most so deep.
+#[derive(Clone, Copy)]
+struct TermReader {
+    // where they stand
+    place: Place,
+    // how deep they may nest
+    depth: u32,
+}
+
+impl Reader<Term> for TermReader {
+    ghost use Rattle.model_terms.specs.Terms as model;
+
+    ghost Seen = { model.Term };
+
+    ghost seen = { term_of };
+
+    ghost reading = { λ reader. term_at (place_of reader.place) reader.depth };
+
+    fn read<'a>(&self, alloc: Global, tokens: &'a [Token]) -> Result<(Term, &'a [Token]), ReadFault>
+        ensures { Gives (λ x. (term_of x.0, lexemes_in x.1.now)) result
+            (term_at (place_of self.now.place) self.now.depth (lexemes_in tokens.now)) }
+    {
+        term(alloc, self.place, self.depth, tokens)
+    }
 }
 
 /// The terms in brackets.

@@ -6,15 +6,15 @@ ghost use Rattle.theory_syntax.specs.Commands.{block_of, command_of};
 ghost use Rattle.token_readers.specs.Reading.{sep_list};
 ghost use Rattle.token_readers.specs.Giving.{Gives};
 ghost use Rattle.token_readers.specs.Leaves.{lexemes_in};
-ghost use Rattle.proof_text.specs.Terms.{term_at};
-ghost use Rattle.proof_text.specs.Operators.{query_of, change_of};
+ghost use Rattle.logic_text.specs.TermReaders.{term_at};
+ghost use Rattle.proof_text.specs.Queries.{query_of, change_of};
 ghost use Rattle.proof_text.specs.Commands.{cond_at, semicolon, block_rest, block_at, one_at, two_at, setting_at, choice_at, loop_at, local_at, call_at, change_at, command_at};
 
 use crate::bracketed::{terms, variables};
 use crate::conditions::condition;
 use crate::sorts::{value_sort, variable};
-use crate::terms::{Place, term};
 use dom_terms::{ProgVar, Term};
+use logic_text::{Place, term};
 use std::alloc::Global;
 use text_tokens::Token;
 use theory_syntax::{Block, Command};

@@ -5,11 +5,11 @@ ghost use Rattle.dom_terms.specs.Terms.{term_of};
 ghost use Rattle.dom_terms.specs.Conditions.{cond_of};
 ghost use Rattle.token_readers.specs.Giving.{Gives};
 ghost use Rattle.token_readers.specs.Leaves.{lexemes_in};
-ghost use Rattle.proof_text.specs.Terms.{term_at};
+ghost use Rattle.logic_text.specs.TermReaders.{term_at};
 ghost use Rattle.proof_text.specs.Commands.{cond_joined_at, cond_bracket_at, lone_name, cond_compared_at, cond_at};
 
-use crate::terms::{Place, term};
 use dom_terms::{Cond, Term};
+use logic_text::{Place, term};
 use std::alloc::Global;
 use text_tokens::Token;
 use token_readers::{ReadFault, after, expect};

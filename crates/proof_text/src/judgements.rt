@@ -7,9 +7,9 @@ ghost use Rattle.proof_text.specs.Theories.{triple_at, entailment_at, judgement_
 
 use crate::commands::command;
 use crate::declarations::shape_sort;
-use crate::formulas::formula;
 use crate::sorts::data_sort;
 use formula_syntax::Entailment;
+use logic_text::formula;
 use std::alloc::Global;
 use text_tokens::Token;
 use theory_syntax::{Judgement, Triple};

@@ -2,24 +2,20 @@
 //! as the theory that it spells by the grammar, each variable with the sort of its declaration, and
 //! refused exactly where it spells none, at the fault token; and that theories and commands are
 //! printed byte by byte as their definitions say.
-//! Stands on the readers of tokens, the types of theories, the writers of formulas, the walk that
-//! sets sorts and the grammar.
+//! Stands on the readers of tokens, the types of theories, the readers and writers of formulas, the
+//! walk that sets sorts and the grammar.
 #![tactic(auto)]
 
 mod bracketed;
 mod commands;
 mod conditions;
-mod connectives;
 mod declarations;
-mod formulas;
 mod judgements;
 mod lines;
 mod logics;
-mod names;
 mod procedures;
 mod sorts;
 mod steps;
-mod terms;
 mod theories;
 mod writing;
 mod written;

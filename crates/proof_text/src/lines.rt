@@ -21,7 +21,7 @@ ghost use Rattle.theory_syntax.specs.Theories.{procedure_of, theory_of};
 ghost use Rattle.proof_text.specs.Marked.{line_text, joined_texts, header_line};
 
 use crate::writing::{push_command, push_value_sort};
-use crate::written::{Written, push_bracketed};
+use crate::written::{TermWriter, Writer, push_bracketed};
 use dom_terms::{DataSort, LogicVar, OutOfMemory, ProgVar, Sort, Terms, Text, Vars};
 use formula_syntax::{Entailment, Formula};
 use logic_text::{push_formula, push_numeral, push_str, push_token};
@@ -58,15 +58,19 @@ fn push_sort(alloc: Global, text: &mut Text, sort: Sort) -> Result<(), OutOfMemo
     }
 }
 
-impl Written for u32 {
+// Writes numbers of steps.
+#[derive(Clone, Copy)]
+struct NumberWriter;
+
+impl Writer<u32> for NumberWriter {
     ghost use Rattle.model_grammar.specs.Writing.{number_lexemes};
 
     ghost lexemes = { number_lexemes };
 
-    fn push_to(&self, alloc: Global, text: &mut Text) -> Result<(), OutOfMemory>
-        ensures { OnOk result (text.new ≡ text.old ++ spaced (number_lexemes self.now)) }
+    fn push(&self, alloc: Global, text: &mut Text, item: &u32) -> Result<(), OutOfMemory>
+        ensures { OnOk result (text.new ≡ text.old ++ spaced (number_lexemes item.now)) }
     {
-        push_numeral(alloc, text, u64::from(*self))
+        push_numeral(alloc, text, u64::from(*item))
     }
 }
 
@@ -79,7 +83,7 @@ fn push_arguments(alloc: Global, text: &mut Text, arguments: &Terms) -> Result<(
         return Ok(());
     }
     push_token(alloc, text, "with")?;
-    push_bracketed(alloc, text, arguments.as_slice())?;
+    push_bracketed(alloc, text, &TermWriter, arguments.as_slice())?;
     Ok(())
 }
 
@@ -96,7 +100,7 @@ fn push_reason(alloc: Global, text: &mut Text, reason: &Reason) -> Result<(), Ou
         } => {
             push_token(alloc, text, "by")?;
             push_token(alloc, text, name.as_str())?;
-            push_bracketed(alloc, text, premises.as_slice())?;
+            push_bracketed(alloc, text, &NumberWriter, premises.as_slice())?;
             push_arguments(alloc, text, arguments)?;
             Ok(())
         }
@@ -235,16 +239,23 @@ fn push_body(alloc: Global, text: &mut Text, body: &Command) -> Result<(), OutOf
     Ok(())
 }
 
-// Puts a variable and its sort at the end, as they are declared.
-#[tactic(auto, using(model_grammar::proofs::Spaced::spaced_rules))]
-fn push_declaration(alloc: Global, text: &mut Text, x: &ProgVar) -> Result<(), OutOfMemory>
-    ensures { OnOk result
-        (text.new ≡ text.old ++ spaced (declaration_lexemes (prog_var_of x.now))) }
-{
-    push_token(alloc, text, x.name.as_str())?;
-    push_token(alloc, text, ":")?;
-    push_value_sort(alloc, text, x.sort)?;
-    Ok(())
+// Writes variables as they are declared.
+#[derive(Clone, Copy)]
+struct DeclarationWriter;
+
+impl Writer<ProgVar> for DeclarationWriter {
+    ghost lexemes = { λ variable. declaration_lexemes (prog_var_of variable) };
+
+    #[tactic(auto, using(model_grammar::proofs::Spaced::spaced_rules))]
+    fn push(&self, alloc: Global, text: &mut Text, item: &ProgVar) -> Result<(), OutOfMemory>
+        ensures { OnOk result
+            (text.new ≡ text.old ++ spaced (declaration_lexemes (prog_var_of item.now))) }
+    {
+        push_token(alloc, text, item.name.as_str())?;
+        push_token(alloc, text, ":")?;
+        push_value_sort(alloc, text, item.sort)?;
+        Ok(())
+    }
 }
 
 // Puts the declarations of some variables at the end, in brackets and with commas between them.
@@ -252,18 +263,7 @@ fn push_declared(alloc: Global, text: &mut Text, variables: &Vars) -> Result<(),
     ensures { OnOk result (text.new ≡ text.old
         ++ spaced (in_brackets (map declaration_lexemes (map prog_var_of variables.now)))) }
 {
-    if variables.is_empty() {
-        push_token(alloc, text, "(")?;
-        push_token(alloc, text, ")")?;
-        return Ok(());
-    }
-    let mut mark = "(";
-    for variable in variables.as_slice() {
-        push_token(alloc, text, mark)?;
-        push_declaration(alloc, text, variable)?;
-        mark = ",";
-    }
-    push_token(alloc, text, ")")?;
+    push_bracketed(alloc, text, &DeclarationWriter, variables.as_slice())?;
     Ok(())
 }
 

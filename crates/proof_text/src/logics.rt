@@ -6,13 +6,13 @@ ghost use Rattle.dom_terms.specs.Terms.{logic_var_of};
 ghost use Rattle.token_readers.specs.Reading.{leaf, sep_list};
 ghost use Rattle.token_readers.specs.Giving.{Gives};
 ghost use Rattle.token_readers.specs.Leaves.{lexemes_in};
+ghost use Rattle.logic_text.specs.FormulaReaders.{leaf_logic};
 ghost use Rattle.proof_text.specs.Lists.{comma};
-ghost use Rattle.proof_text.specs.Formulas.{leaf_logic};
 ghost use Rattle.proof_text.specs.Theories.{logic_tail, joined_lines, logic_lines_at};
 
 use crate::declarations::any_sort;
-use crate::names::LogicNameReader;
 use dom_terms::{Copied, List, LogicVar, LogicVars, OutOfMemory, Sort, Text};
+use logic_text::LogicNameReader;
 use std::alloc::Global;
 use text_tokens::Token;
 use token_readers::{ReadFault, Reader, expect, repeated, separated};

@@ -10,10 +10,10 @@ ghost use Rattle.proof_text.specs.Theories.{contents_at, procedure_tail, more_pr
 
 use crate::commands::command;
 use crate::declarations::declarations;
-use crate::formulas::formula;
 use crate::sorts::data_sort;
 use crate::steps::steps;
 use dom_terms::{DataSort, Text, Vars};
+use logic_text::formula;
 use std::alloc::Global;
 use text_tokens::Token;
 use theory_syntax::{Procedure, Procedures};

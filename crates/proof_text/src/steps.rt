@@ -10,8 +10,8 @@ ghost use Rattle.proof_text.specs.Theories.{arguments_at, reason_at, step_tail};
 
 use crate::bracketed::{bracketed, listed_terms};
 use crate::judgements::judgement;
-use crate::terms::Place;
 use dom_terms::{Numbers, Terms};
+use logic_text::Place;
 use std::alloc::Global;
 use text_tokens::Token;
 use theory_syntax::{Reason, Step, Steps};

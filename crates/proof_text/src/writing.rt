@@ -13,7 +13,7 @@ ghost use Rattle.dom_terms.specs.Terms.{prog_var_of, term_of};
 ghost use Rattle.dom_terms.specs.Conditions.{cond_of};
 ghost use Rattle.theory_syntax.specs.Commands.{command_of, block_of};
 
-use crate::written::push_bracketed;
+use crate::written::{NameWriter, TermWriter, push_bracketed};
 use dom_terms::{Cond, OutOfMemory, ProgVar, Term, Terms, Text, ValueSort, Vars};
 use logic_text::{push_compared, push_term, push_token, without_space};
 use std::alloc::Global;
@@ -198,10 +198,10 @@ fn push_call(
         (commands.call (map prog_var_of results.now) name.now (map term_of arguments.now)))) }
 {
     push_token(alloc, text, "call")?;
-    push_bracketed(alloc, text, results.as_slice())?;
+    push_bracketed(alloc, text, &NameWriter, results.as_slice())?;
     push_token(alloc, text, ":=")?;
     push_token(alloc, text, name.as_str())?;
-    push_bracketed(alloc, text, arguments.as_slice())?;
+    push_bracketed(alloc, text, &TermWriter, arguments.as_slice())?;
     Ok(())
 }
 

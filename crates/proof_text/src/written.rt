@@ -8,73 +8,83 @@ use dom_terms::{OutOfMemory, ProgVar, Term, Text};
 use logic_text::{push_term, push_token};
 use std::alloc::Global;
 
-/// What is written as some tokens.
-pub trait Written: Sized {
+/// A way to write items as tokens.
+pub trait Writer<T>: Sized {
     ghost use Rattle.std.specs.Prelude.{List};
     ghost use Rattle.model_text.specs.Lexemes.{Lexeme};
 
-    // the lexemes of the tokens
-    ghost lexemes: { Self → List Lexeme };
+    // the lexemes of the tokens of an item
+    ghost lexemes: { T → List Lexeme };
 
-    /// Puts the tokens at the end, each behind a space.
-    fn push_to(&self, alloc: Global, text: &mut Text) -> Result<(), OutOfMemory>
-        ensures { OnOk result (text.new ≡ text.old ++ spaced (lexemes self.now)) };
+    /// Puts the tokens of the item at the end, each behind a space.
+    fn push(&self, alloc: Global, text: &mut Text, item: &T) -> Result<(), OutOfMemory>
+        ensures { OnOk result (text.new ≡ text.old ++ spaced (lexemes item.now)) };
 }
 
-impl Written for ProgVar {
+/// Writes variables as they are used.
+#[derive(Clone, Copy)]
+pub struct NameWriter;
+
+impl Writer<ProgVar> for NameWriter {
     ghost lexemes = { λ variable. name_lexemes (prog_var_of variable) };
 
-    fn push_to(&self, alloc: Global, text: &mut Text) -> Result<(), OutOfMemory>
+    fn push(&self, alloc: Global, text: &mut Text, item: &ProgVar) -> Result<(), OutOfMemory>
         ensures { OnOk result
-            (text.new ≡ text.old ++ spaced (name_lexemes (prog_var_of self.now))) }
+            (text.new ≡ text.old ++ spaced (name_lexemes (prog_var_of item.now))) }
     {
-        push_token(alloc, text, self.name.as_str())
+        push_token(alloc, text, item.name.as_str())
     }
 }
 
-impl Written for Term {
+/// Writes terms.
+#[derive(Clone, Copy)]
+pub struct TermWriter;
+
+impl Writer<Term> for TermWriter {
     ghost lexemes = { λ term. term_lexemes (term_of term) };
 
-    fn push_to(&self, alloc: Global, text: &mut Text) -> Result<(), OutOfMemory>
-        ensures { OnOk result (text.new ≡ text.old ++ spaced (term_lexemes (term_of self.now))) }
+    fn push(&self, alloc: Global, text: &mut Text, item: &Term) -> Result<(), OutOfMemory>
+        ensures { OnOk result (text.new ≡ text.old ++ spaced (term_lexemes (term_of item.now))) }
     {
-        push_term(alloc, text, self)
+        push_term(alloc, text, item)
     }
 }
 
 // Puts the items at the end, each behind a mark, from the second on behind a comma.
-fn push_marked<T: Written>(
+fn push_marked<T, W: Writer<T>>(
     alloc: Global,
     text: &mut Text,
+    writer: &W,
     first_mark: &str,
     items: &[T],
 ) -> Result<(), OutOfMemory>
     ensures { OnOk result (text.new ≡ text.old
-        ++ spaced (marked first_mark.now (codes ",") (map T.lexemes items.now))) }
+        ++ spaced (marked first_mark.now (codes ",") (map W.lexemes items.now))) }
 {
     let mut mark = first_mark;
     for item in items {
         push_token(alloc, text, mark)?;
-        item.push_to(alloc, text)?;
+        writer.push(alloc, text, item)?;
         mark = ",";
     }
     Ok(())
 }
 
 /// Puts the items at the end, in brackets and with commas between them.
-pub fn push_bracketed<T: Written>(
+pub fn push_bracketed<T, W: Writer<T>>(
     alloc: Global,
     text: &mut Text,
+    writer: &W,
     items: &[T],
 ) -> Result<(), OutOfMemory>
-    ensures { OnOk result (text.new ≡ text.old ++ spaced (in_brackets (map T.lexemes items.now))) }
+    ensures { OnOk result (text.new ≡ text.old ++ spaced (in_brackets (map W.lexemes items.now))) }
 {
     if items.is_empty() {
         push_token(alloc, text, "(")?;
         push_token(alloc, text, ")")?;
         return Ok(());
     }
-    push_marked(alloc, text, "(", items)?;
+    push_marked(alloc, text, writer, "(", items)?;
     push_token(alloc, text, ")")?;
     Ok(())
 }

@@ -9,6 +9,6 @@ use Rattle.proof_text.proofs.written.push_marked.Given as goal
 abbrev pub invariant-loop-item : goal.invariant-loop-item
 invariant-loop-item g l =
     (l.text
-    ++ spaced (marked l.mark (codes ",") (map g.T.Written.lexemes (drop l.item-index l.items)))
-    ≡ l.fn.text ++ spaced (marked l.first_mark (codes ",") (map g.T.Written.lexemes l.items)))
+    ++ spaced (marked l.mark (codes ",") (map g.W.Writer.lexemes (drop l.item-index l.items)))
+    ≡ l.fn.text ++ spaced (marked l.first_mark (codes ",") (map g.W.Writer.lexemes l.items)))
     × shadow (Utf8 l.mark)

@@ -1,0 +1,27 @@
+use Rattle.std.proofs.Common.{◌+◌, ◌*◌}
+use Rattle.logic_text.proofs.formula_reading.+formula.Given as goal
+
+-- the nesting that is left, and at one depth the order of the calls
+abbrev pub decreases-formula : goal.decreases-formula
+decreases-formula l = 8 * l.depth
+
+abbrev pub decreases-boxed : goal.decreases-boxed
+decreases-boxed l = 8 * l.depth + 1
+
+abbrev pub decreases-quantified : goal.decreases-quantified
+decreases-quantified l = 8 * l.depth + 2
+
+abbrev pub decreases-connected : goal.decreases-connected
+decreases-connected l = 8 * l.depth + 2
+
+abbrev pub decreases-connected_or_is : goal.decreases-connected_or_is
+decreases-connected_or_is l = 8 * l.depth + 3
+
+abbrev pub decreases-bracket : goal.decreases-bracket
+decreases-bracket l = 8 * l.depth + 4
+
+abbrev pub decreases-node : goal.decreases-node
+decreases-node l = 8 * l.depth + 2
+
+abbrev pub decreases-compared : goal.decreases-compared
+decreases-compared l = 8 * l.depth + 3

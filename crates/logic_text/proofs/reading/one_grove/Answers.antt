@@ -1,5 +1,0 @@
-use Rattle.logic_text.proofs.Exact.{at_most_one}
-use Rattle.logic_text.proofs.reading.one_grove.Goals as goal
-
-pub returns : goal.returns
-returns c = at_most_one

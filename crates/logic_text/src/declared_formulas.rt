@@ -1,0 +1,94 @@
+// Whole lists of tokens as formulas, each variable with the sort of its declaration.
+ghost use Rattle.std.specs.Prelude.{◌≡◌, List, map, IfOk, OnOk};
+ghost use Rattle.model_formulas.specs.Formulas.{Named};
+ghost use Rattle.model_text.specs.Lexemes.{Lexeme};
+ghost use Rattle.model_text.specs.FaultTokens.{AreOfTokens, IsFaultToken};
+ghost use Rattle.model_grammar.specs.Formulas.{SpellsFormula};
+ghost use Rattle.model_grammar.specs.Sorts.{sorted_formula};
+ghost use Rattle.dom_terms.specs.Terms.{prog_var_of, logic_var_of};
+ghost use Rattle.formula_syntax.specs.Formulas.{formula_of};
+ghost use Rattle.token_readers.specs.Faults.{IfBadText};
+ghost use Rattle.token_readers.specs.Giving.{Gives};
+ghost use Rattle.token_readers.specs.Leaves.{lexemes_in};
+ghost use Rattle.token_readers.specs.Spelling.{whole};
+ghost use Rattle.logic_text.specs.FormulaReaders.{formula_at};
+ghost use Rattle.logic_text.specs.DeclaredFormulas.{declared_vars, SpellsFormulaWith};
+
+use crate::formula_reading::formula;
+use crate::grove_reading::MOST_DEPTH;
+use declared_sorts::{Declared, Sorted};
+use dom_terms::{Copied, LogicVars, OutOfMemory, Vars};
+use formula_syntax::{AnyVar, Formula};
+use std::alloc::Global;
+use text_tokens::{Token, Tokens};
+use token_readers::{ReadFault, TextFault};
+
+// A formula that ends where the tokens do; its variables don't have their sorts yet.
+fn whole_formula(alloc: Global, tokens: &[Token]) -> Result<Formula, ReadFault>
+    ensures { Gives formula_of result (whole (formula_at MOST_DEPTH) (lexemes_in tokens.now)) }
+{
+    let (found, rest) = formula(alloc, MOST_DEPTH, tokens)?;
+    if rest.is_empty() {
+        Ok(found)
+    } else {
+        Err(ReadFault::Text(rest.len()))
+    }
+}
+
+// Copies of the program variables and of the logic variables.
+fn of_each_kind(alloc: Global, vars: &[AnyVar]) -> Result<(Vars, LogicVars), OutOfMemory>
+    ensures { IfOk result (λ kinds. (map prog_var_of kinds.0 ≡ (declared_vars vars.now).variables)
+        × (map logic_var_of kinds.1 ≡ (declared_vars vars.now).logics)) }
+{
+    let mut variables = Vars::new(alloc);
+    let mut logics = LogicVars::new(alloc);
+    for item in vars {
+        match item {
+            AnyVar::Prog(variable) => variables.push(variable.copy(alloc)?)?,
+            AnyVar::Logic(variable) => logics.push(variable.copy(alloc)?)?,
+        }
+    }
+    Ok((variables, logics))
+}
+
+// Gives each variable of the formula the sort of its declaration.
+fn set_declared(alloc: Global, formula: &mut Formula, vars: &[AnyVar]) -> Result<(), OutOfMemory>
+    ensures { OnOk result (formula_of formula.new
+        ≡ sorted_formula (declared_vars vars.now) (formula_of formula.old)) }
+{
+    let (variables, logics) = of_each_kind(alloc, vars)?;
+    let declared = Declared {
+        variables: variables.as_slice(),
+        logics: logics.as_slice(),
+    };
+    formula.set_sorts(&declared);
+    Ok(())
+}
+
+/// The formula that the tokens spell, all of them. Each variable has the sort of the first of
+/// `vars` that is of its kind and has its name, and sort node where none is. `BadText` comes
+/// exactly where the tokens spell no formula, with the fault token where they are those of a text,
+/// and `OutOfMemory` also where the formula nests more than `MOST_DEPTH` deep.
+pub fn read_formula(alloc: Global, tokens: &Tokens, vars: &[AnyVar]) -> Result<Formula, TextFault>
+    ensures found { IfOk result (λ p. SpellsFormulaWith (declared_vars vars.now) (formula_of p)
+        (lexemes_in tokens.now)) }
+    ensures bad_text { IfBadText result (λ token.
+        (p : Named) → SpellsFormula p (lexemes_in tokens.now) → ⊥) }
+    ensures fault_token { AreOfTokens (lexemes_in tokens.now)
+        → IfBadText result (IsFaultToken SpellsFormula (lexemes_in tokens.now)) }
+{
+    let tokens = tokens.as_slice();
+    match whole_formula(alloc, tokens) {
+        Ok(found) => {
+            let mut formula = found;
+            set_declared(alloc, &mut formula, vars)?;
+            Ok(formula)
+        }
+        Err(fault) => Err(fault.of_whole(tokens.len())),
+    }
+}
+
+/// A list of lexemes spells at most one formula.
+pub fn one_formula()
+    ensures { (s : List Lexeme) (a b : Named) → SpellsFormula a s → SpellsFormula b s → a ≡ b }
+{}

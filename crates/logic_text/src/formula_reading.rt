@@ -1,0 +1,238 @@
+// Formulas from tokens.
+ghost use Rattle.std.specs.Prelude.{◌≡◌};
+ghost use Rattle.model_formulas.specs.Formulas.{existential, universal};
+ghost use Rattle.model_grammar.specs.Terms.{used_logic, in_formula};
+ghost use Rattle.dom_terms.specs.Terms.{term_of};
+ghost use Rattle.formula_syntax.specs.Formulas.{formula_of};
+ghost use Rattle.token_readers.specs.Giving.{Gives};
+ghost use Rattle.token_readers.specs.Leaves.{lexemes_in};
+ghost use Rattle.logic_text.specs.TermReaders.{term_at};
+ghost use Rattle.logic_text.specs.Operators.{quantifier_of};
+ghost use Rattle.logic_text.specs.FormulaReaders.{quantified_at, joined_at, joined_or_is, bracket_at, lone_variable, node_at, compared_at, formula_at};
+
+use crate::connectives::{joined, joint, word};
+use crate::logic_names::logic_name;
+use crate::term_reading::{Place, term};
+use dom_terms::{Copied, LogicVar, Sort, Term, Text, ValueSort};
+use formula_syntax::Formula;
+use std::alloc::Global;
+use text_tokens::Token;
+use token_readers::{ReadFault, after, expect};
+
+/// A quantifier.
+#[derive(Clone, Copy)]
+pub enum Quantifier {
+    Exists,
+    Forall,
+}
+
+// The formula that the quantifier makes.
+fn bound(quantifier: Quantifier, name: Text, inner: Box<Formula>) -> Formula
+    ensures { formula_of result ≡ quantifier_of quantifier (used_logic name)
+        (formula_of inner.value) }
+{
+    let sort = Sort::Value(ValueSort::Node);
+    match quantifier {
+        Quantifier::Exists => Formula::Exists(LogicVar { name, sort }, inner),
+        Quantifier::Forall => Formula::Forall(LogicVar { name, sort }, inner),
+    }
+}
+
+// A term of a formula that is a logic variable, as a formula.
+fn lone<'a>(left: Term, tokens: &'a [Token]) -> Result<(Formula, &'a [Token]), ReadFault>
+    ensures { Gives (λ x. (formula_of x.0, lexemes_in x.1.now)) result
+        (lone_variable (term_of left) (lexemes_in tokens.now)) }
+{
+    match left {
+        Term::Logic(variable) => Ok((Formula::Var(variable), tokens)),
+        _ => Err(ReadFault::Text(tokens.len())),
+    }
+}
+
+// A formula in a box of its own.
+#[cycle(formula)]
+fn boxed<'a>(
+    alloc: Global,
+    depth: u32,
+    tokens: &'a [Token],
+) -> Result<(Box<Formula>, &'a [Token]), ReadFault>
+    ensures { Gives (λ x. (formula_of x.0.value, lexemes_in x.1.now)) result
+        (formula_at depth (lexemes_in tokens.now)) }
+{
+    let (inner, rest) = formula(alloc, depth, tokens)?;
+    let inner = Box::new(alloc, inner)?;
+    Ok((inner, rest))
+}
+
+// What stands behind a quantifier.
+#[cycle(formula)]
+#[tactic(auto, unfolding(crate::specs::FormulaReaders::quantified_at))]
+fn quantified<'a>(
+    alloc: Global,
+    depth: u32,
+    quantifier: Quantifier,
+    tokens: &'a [Token],
+) -> Result<(Formula, &'a [Token]), ReadFault>
+    ensures { Gives (λ x. (formula_of x.0, lexemes_in x.1.now)) result
+        (quantified_at (formula_at depth) (quantifier_of quantifier) (lexemes_in tokens.now)) }
+{
+    let (name, rest) = logic_name(alloc, tokens)?;
+    let rest = expect(rest, ".")?;
+    let (inner, rest) = boxed(alloc, depth, rest)?;
+    let rest = expect(rest, ")")?;
+    Ok((bound(quantifier, name, inner), rest))
+}
+
+// What stands behind an open bracket and a formula, with a connective.
+#[cycle(formula)]
+#[tactic(auto, unfolding(crate::specs::FormulaReaders::joined_at))]
+fn connected<'a>(
+    alloc: Global,
+    depth: u32,
+    left: Box<Formula>,
+    tokens: &'a [Token],
+) -> Result<(Formula, &'a [Token]), ReadFault>
+    ensures { Gives (λ x. (formula_of x.0, lexemes_in x.1.now)) result
+        (joined_at (formula_at depth) (formula_of left.value) (lexemes_in tokens.now)) }
+{
+    let (connective, rest) = joint(tokens)?;
+    let (right, rest) = boxed(alloc, depth, rest)?;
+    let rest = expect(rest, ")")?;
+    Ok((joined(connective, left, right), rest))
+}
+
+// What stands behind an open bracket and a formula.
+#[cycle(formula)]
+fn connected_or_is<'a>(
+    alloc: Global,
+    depth: u32,
+    left: Box<Formula>,
+    tokens: &'a [Token],
+) -> Result<(Formula, &'a [Token]), ReadFault>
+    ensures { Gives (λ x. (formula_of x.0, lexemes_in x.1.now)) result
+        (joined_or_is (formula_at depth) (formula_of left.value) (lexemes_in tokens.now)) }
+{
+    if let Formula::Var(variable) = &*left {
+        if let Some(rest) = after(tokens, "is") {
+            let name = variable.name.copy(alloc)?;
+            let sort = variable.sort;
+            let (inner, rest) = boxed(alloc, depth, rest)?;
+            let rest = expect(rest, ")")?;
+            return Ok((Formula::Is(LogicVar { name, sort }, inner), rest));
+        }
+    }
+    connected(alloc, depth, left, tokens)
+}
+
+// What stands behind an open bracket.
+#[cycle(formula)]
+#[tactic(auto, unfolding(crate::specs::FormulaReaders::bracket_at))]
+fn bracket<'a>(
+    alloc: Global,
+    depth: u32,
+    tokens: &'a [Token],
+) -> Result<(Formula, &'a [Token]), ReadFault>
+    ensures { Gives (λ x. (formula_of x.0, lexemes_in x.1.now)) result
+        (bracket_at (formula_at depth) (lexemes_in tokens.now)) }
+{
+    if let Some(rest) = after(tokens, "not") {
+        let (inner, rest) = boxed(alloc, depth, rest)?;
+        let rest = expect(rest, ")")?;
+        return Ok((Formula::Not(inner), rest));
+    }
+    if let Some(rest) = after(tokens, "exists") {
+        return quantified(alloc, depth, Quantifier::Exists, rest);
+    }
+    if let Some(rest) = after(tokens, "forall") {
+        return quantified(alloc, depth, Quantifier::Forall, rest);
+    }
+    let (left, rest) = boxed(alloc, depth, tokens)?;
+    connected_or_is(alloc, depth, left, rest)
+}
+
+// What stands behind the name of a node and the sign.
+#[cycle(formula)]
+#[tactic(auto, unfolding(crate::specs::FormulaReaders::node_at))]
+fn node<'a>(
+    alloc: Global,
+    depth: u32,
+    name: Term,
+    tokens: &'a [Token],
+) -> Result<(Formula, &'a [Token]), ReadFault>
+    ensures { Gives (λ x. (formula_of x.0, lexemes_in x.1.now)) result
+        (node_at (term_at in_formula depth) (formula_at depth) (term_of name)
+        (lexemes_in tokens.now)) }
+{
+    let (number, rest) = term(alloc, Place::Formula, depth, tokens)?;
+    let rest = expect(rest, "[")?;
+    let (inner, rest) = boxed(alloc, depth, rest)?;
+    let rest = expect(rest, "]")?;
+    let rest = expect(rest, "%")?;
+    let (list, rest) = term(alloc, Place::Formula, depth, rest)?;
+    Ok((Formula::Node(name, number, inner, list), rest))
+}
+
+// What stands behind the first term of a formula.
+#[cycle(formula)]
+#[tactic(auto, unfolding(crate::specs::FormulaReaders::compared_at))]
+fn compared<'a>(
+    alloc: Global,
+    depth: u32,
+    left: Term,
+    tokens: &'a [Token],
+) -> Result<(Formula, &'a [Token]), ReadFault>
+    ensures { Gives (λ x. (formula_of x.0, lexemes_in x.1.now)) result
+        (compared_at (term_at in_formula depth) (formula_at depth) (term_of left)
+        (lexemes_in tokens.now)) }
+{
+    if let Some(rest) = after(tokens, "=") {
+        let (right, rest) = term(alloc, Place::Formula, depth, rest)?;
+        return Ok((Formula::Eq(left, right), rest));
+    }
+    if let Some(rest) = after(tokens, "<=") {
+        let (right, rest) = term(alloc, Place::Formula, depth, rest)?;
+        return Ok((Formula::Le(left, right), rest));
+    }
+    if let Some(rest) = after(tokens, "#") {
+        return node(alloc, depth, left, rest);
+    }
+    lone(left, tokens)
+}
+
+/// A formula, nested at most so deep.
+#[cycle(formula)]
+#[tactic(auto, unfolding(crate::specs::FormulaReaders::formula_at))]
+pub fn formula<'a>(
+    alloc: Global,
+    depth: u32,
+    tokens: &'a [Token],
+) -> Result<(Formula, &'a [Token]), ReadFault>
+    ensures { Gives (λ x. (formula_of x.0, lexemes_in x.1.now)) result
+        (formula_at depth (lexemes_in tokens.now)) }
+{
+    if depth == 0 {
+        return Err(ReadFault::Memory);
+    }
+    if let Some((found, rest)) = word(tokens) {
+        return Ok((found, rest));
+    }
+    if let Some(rest) = after(tokens, "(") {
+        return bracket(alloc, depth - 1, rest);
+    }
+    if let Some(rest) = after(tokens, "len") {
+        let (number, rest) = term(alloc, Place::Formula, depth - 1, rest)?;
+        return Ok((Formula::Len(number), rest));
+    }
+    if let Some(rest) = after(tokens, "<") {
+        let (inner, rest) = boxed(alloc, depth - 1, rest)?;
+        let rest = expect(rest, ">")?;
+        return Ok((Formula::One(inner), rest));
+    }
+    if let Some(rest) = after(tokens, "[") {
+        let (inner, rest) = boxed(alloc, depth - 1, rest)?;
+        let rest = expect(rest, "]")?;
+        return Ok((Formula::Root(inner), rest));
+    }
+    let (left, rest) = term(alloc, Place::Formula, depth, tokens)?;
+    compared(alloc, depth - 1, left, rest)
+}
