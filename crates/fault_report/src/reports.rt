@@ -214,10 +214,10 @@ fn fault_text(
 }
 
 // The text of a gap.
-fn gap_text(alloc: Global, step: u32, procedure: &str, line: u32) -> Result<String, AllocError>
-    ensures { IfOk result (λ text. line (string_bytes text) ≡ gap_line step procedure.now line) }
+fn gap_text(alloc: Global, step: u32, procedure: &str, at: u32) -> Result<String, AllocError>
+    ensures { IfOk result (λ text. line (string_bytes text) ≡ gap_line step procedure.now at) }
 {
-    format!(in alloc; "step {step} of {procedure}, line {line}: gap")
+    format!(in alloc; "step {step} of {procedure}, line {at}: gap")
 }
 
 // The text of the report.
