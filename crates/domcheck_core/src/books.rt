@@ -8,7 +8,7 @@ ghost use Rattle.domcheck_core.specs.Calls.{FitsCall, IsOpened, CallAnswer};
 
 use crate::calls::Call;
 use crate::checks::check_bytes;
-use crate::replies::{Refusal, Reply, refused};
+use crate::replies::{Refusal, Reply, answered};
 use crate::runs::{Opened, open_file, run_document};
 use crate::texts::past;
 use dom_terms::{LimitKind, OutOfMemory, Text, Texts};
@@ -42,7 +42,7 @@ fn read_book<L: Library>(
 fn too_large(alloc: Global) -> Result<Reply, OutOfMemory>
     ensures { IfOk result (λ r. limit_answer file_limit ≡ (r.status, r.output)) }
 {
-    refused(alloc, past(LimitKind::File))
+    answered(alloc, past(LimitKind::File))
 }
 
 /// The answer of `check` on the file of this name.

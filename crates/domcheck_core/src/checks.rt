@@ -8,7 +8,7 @@ ghost use Rattle.domcheck_core.specs.Answers.{Verdict, CheckAnswer};
 ghost use Rattle.domcheck_core.specs.Clauses.{IsProved};
 
 use crate::file::read_file;
-use crate::replies::{Reply, accepted, refused, reported};
+use crate::replies::{Reply, accepted, answered, reported};
 use crate::status::Status;
 use dom_terms::{Copied, OutOfMemory};
 use fault_report::Report;
@@ -72,6 +72,6 @@ pub fn check_bytes(alloc: Global, bytes: &[u8]) -> Result<Reply, OutOfMemory>
 {
     match read_file(alloc, bytes) {
         Ok(theory) => verdict(alloc, &theory),
-        Err(why) => refused(alloc, why),
+        Err(why) => answered(alloc, why),
     }
 }

@@ -65,7 +65,7 @@ pub fn reported(alloc: Global, status: Status, report: &Report) -> Result<Reply,
 }
 
 /// The answer to what is refused.
-pub fn refused(alloc: Global, why: Refused) -> Result<Reply, OutOfMemory>
+pub fn answered(alloc: Global, why: Refused) -> Result<Reply, OutOfMemory>
     ensures { IfOk result (λ r. IfAnswer why (λ s output. (r.status ≡ s) × (r.output ≡ output))) }
 {
     match why {

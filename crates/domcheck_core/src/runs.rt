@@ -17,7 +17,7 @@ use crate::calls::{Call, read_call};
 use crate::document::read_document;
 use crate::file::read_file;
 use crate::groves::fit_grove;
-use crate::replies::{Reply, refused, reported};
+use crate::replies::{Reply, answered, reported};
 use crate::status::Status;
 use dom_meaning::{Outcome, run_plain, start};
 use dom_terms::{OutOfMemory, ProgVar, Text, Texts, Values};
@@ -66,7 +66,7 @@ pub fn open_file(
 {
     match read_file(alloc, file) {
         Ok(theory) => open_theory(alloc, theory, procedure, arguments),
-        Err(why) => Ok(Opened::Answered(refused(alloc, why)?)),
+        Err(why) => Ok(Opened::Answered(answered(alloc, why)?)),
     }
 }
 
@@ -151,7 +151,7 @@ fn run_on(
             let outcome = run_plain(alloc, theory, config, fuel);
             outcome_reply(alloc, called.results.as_slice(), outcome, fuel)
         }
-        Err(why) => refused(alloc, why),
+        Err(why) => answered(alloc, why),
     }
 }
 
@@ -168,7 +168,7 @@ pub fn run_document(
 {
     match read_document(alloc, document) {
         Ok(raw) => run_on(alloc, theory, call, &raw, fuel),
-        Err(why) => refused(alloc, why),
+        Err(why) => answered(alloc, why),
     }
 }
 
