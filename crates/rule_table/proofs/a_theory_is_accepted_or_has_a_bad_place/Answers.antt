@@ -1,0 +1,8 @@
+use Rattle.rule_table.proofs.Places.{accepted-none, accepted-or-bad}
+use Rattle.rule_table.proofs.a_theory_is_accepted_or_has_a_bad_place.Goals as goal
+
+pub returns-clause-none : goal.returns-clause-none
+returns-clause-none c = accepted-none
+
+pub returns-clause-first : goal.returns-clause-first
+returns-clause-first c = accepted-or-bad

@@ -1,0 +1,23 @@
+-- The entries of a table of rules.
+use Rattle.std.specs.Prelude.{ℕ, List, [], ◌∷◌, ◌++◌, codes}
+use Rattle.rule_table.specs.Letters.{Letters}
+use Rattle.rule_table.specs.Lines.{Line}
+
+-- a row: a line for each choice of the letters
+abbrev pub Row : Type 0
+Row = Letters → Line
+
+-- the rows of a rule, one for each of its readings
+pub record Entry : Type 0 where
+  pub name : List ℕ
+  pub readings : List Row
+
+-- an entry
+abbrev pub ◌is◌ : List ℕ → List Row → Entry
+name is readings = record { name = name; readings = readings }
+
+infix 30 ◌is◌
+-- both ways: the rule reads from left to right, and that with `_back` from right to left
+abbrev pub both_ways : List ℕ → (Letters → Line × Line) → List Entry
+both_ways name row =
+    (name is (λ l. (row l).0) ∷ []) ∷ (name ++ codes "_back" is (λ l. (row l).1) ∷ []) ∷ []

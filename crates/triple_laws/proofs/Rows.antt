@@ -1,0 +1,267 @@
+-- Each row of the table of triples is sound, by the number of steps.
+use Rattle.std.proofs.Common.{◌≡◌, ◌⊎◌, ℕ, List, [], ◌∷◌, Some, subst, inl, inr, ⊎_elim}
+use Rattle.rule_table.specs.Triples as Tr
+use Rattle.triple_laws.proofs.Control as Co
+use Rattle.triple_laws.proofs.Framing as Fr
+use Rattle.triple_laws.proofs.LogicVariables as Lo
+use Rattle.triple_laws.proofs.ReadAxioms as Re
+use Rattle.triple_laws.proofs.AppendAxiom as Ap
+use Rattle.triple_laws.proofs.RemoveAxiom as Rm
+use Rattle.triple_laws.proofs.CreateAxiom as Cr
+use Rattle.triple_laws.proofs.Calls as Ca
+use Rattle.model_shapes.specs.Sorts.{DataSort, forest, grove}
+use Rattle.model_formulas.specs.Formulas.{Formula, node_formula, conjunction, length_is}
+use Rattle.model_formulas.specs.Substitution.{FreeIn}
+use Rattle.model_terms.specs.Terms.{Term}
+use Rattle.model_commands.specs.Commands.{Command}
+use Rattle.model_commands.specs.SortTests.{BodiesSorted}
+use Rattle.model_commands.specs.Scopes.{IsScoped}
+use Rattle.model_programs.specs.Sorting.{InTerms}
+use Rattle.model_commands.specs.Sorting.{CallFits}
+use Rattle.model_terms.specs.Stores.{ProgVar, as_var}
+use Rattle.model_commands.specs.Theories.{Procedures, Procedure, procedure_named, triple}
+use Rattle.model_rules.proofs.Ends.{Sound, to_sound, from_sound}
+use Rattle.triple_laws.specs.BySteps.{UpTo, Proved, HoldBelow}
+use Rattle.rule_table.specs.Lines.{FreeInSome}
+use Rattle.rule_table.specs.Triples.{axioms, triples}
+use Rattle.entailment_laws.proofs.Instances.{both-sound}
+use Rattle.entailment_laws.proofs.SoundRows.{term-stands}
+use Rattle.entailment_laws.proofs.SoundRows.{SoundRow, SoundEntries}
+use Rattle.triple_laws.proofs.NodesMet.{holding_child}
+
+-- both
+abbrev ◌&◌ : {A B : Type 0} → A → B → A × B
+a & b = (a, b)
+
+infixr 10 ◌&◌
+-- THE CONDITION ASSIGNED: a variable that is in no letter of a row isn't in its formulas
+abbrev InNone : ProgVar → List Term → List Formula → Type 0
+InNone v ts ps = InTerms (as_var v) ts ⊎ FreeInSome (as_var v) ps → ⊥
+
+module _ (v : ProgVar) (s i : Term) (p : Formula) (l : Term) where
+  not-in-node : InNone v (s ∷ i ∷ l ∷ []) (p ∷ []) → FreeIn (as_var v) (node_formula s i p l) → ⊥
+  not-in-node n (inl a) = n (inl (inl a))
+  not-in-node n (inr (inl a)) = n (inl (inr (inl a)))
+  not-in-node n (inr (inr (inl a))) = n (inr (inl a))
+  not-in-node n (inr (inr (inr a))) = n (inl (inr (inr (inl a))))
+
+-- in a node of a length
+not-in-length : (v : ProgVar) (s i : Term) (p : Formula) (l g : Term)
+    → InNone v (s ∷ i ∷ l ∷ g ∷ []) (p ∷ [])
+    → FreeIn (as_var v) (node_formula s i (conjunction p (length_is g)) l) → ⊥
+not-in-length v s i p l g n a = not-in-node v s i (conjunction p (length_is g)) l
+    (⊎_elim terms formulas) a
+  where
+    terms : InTerms (as_var v) (s ∷ i ∷ l ∷ []) → ⊥
+    terms (inl a) = n (inl (inl a))
+    terms (inr (inl a)) = n (inl (inr (inl a)))
+    terms (inr (inr (inl a))) = n (inl (inr (inr (inl a))))
+    terms (inr (inr (inr a))) = a
+
+    formulas : FreeInSome (as_var v) (conjunction p (length_is g) ∷ []) → ⊥
+    formulas (inl (inl a)) = n (inr (inl a))
+    formulas (inl (inr a)) = n (inl (inr (inr (inr (inl a)))))
+    formulas (inr a) = a
+
+-- in a node with a child
+module _ (v : ProgVar) (s i : Term) (p : Formula) (t j : Term) (q : Formula) (m : Term)
+    (r : Formula) (l : Term) (n : InNone v (s ∷ i ∷ l ∷ t ∷ j ∷ m ∷ []) (p ∷ q ∷ r ∷ []))
+  where
+    not-in-child : FreeIn (as_var v) (node_formula t j q m) → ⊥
+    not-in-child (inl a) = n (inl (inr (inr (inr (inl a)))))
+    not-in-child (inr (inl a)) = n (inl (inr (inr (inr (inr (inl a))))))
+    not-in-child (inr (inr (inl a))) = n (inr (inr (inl a)))
+    not-in-child (inr (inr (inr a))) = n (inl (inr (inr (inr (inr (inr (inl a)))))))
+
+    not-in-parent : FreeIn (as_var v) (holding_child s i p t j q m r l) → ⊥
+    not-in-parent (inl a) = n (inl (inl a))
+    not-in-parent (inr (inl a)) = n (inl (inr (inl a)))
+    not-in-parent (inr (inr (inl (inl (inl a))))) = n (inr (inl a))
+    not-in-parent (inr (inr (inl (inl (inr a))))) = not-in-child a
+    not-in-parent (inr (inr (inl (inr a)))) = n (inr (inr (inr (inl a))))
+    not-in-parent (inr (inr (inr a))) = n (inl (inr (inr (inl a))))
+
+-- where the children before it have a length
+module _ (v : ProgVar) (s i : Term) (p : Formula) (g t j : Term) (q : Formula) (m : Term)
+    (r : Formula) (l : Term) (n : InNone v (s ∷ i ∷ l ∷ t ∷ j ∷ m ∷ g ∷ []) (p ∷ q ∷ r ∷ []))
+  where
+    item-terms : InTerms (as_var v) (s ∷ i ∷ l ∷ t ∷ j ∷ m ∷ []) → ⊥
+    item-terms (inl a) = n (inl (inl a))
+    item-terms (inr (inl a)) = n (inl (inr (inl a)))
+    item-terms (inr (inr (inl a))) = n (inl (inr (inr (inl a))))
+    item-terms (inr (inr (inr (inl a)))) = n (inl (inr (inr (inr (inl a)))))
+    item-terms (inr (inr (inr (inr (inl a))))) = n (inl (inr (inr (inr (inr (inl a))))))
+    item-terms (inr (inr (inr (inr (inr (inl a)))))) = n (inl (inr (inr (inr (inr (inr (inl a)))))))
+    item-terms (inr (inr (inr (inr (inr (inr a)))))) = a
+
+    item-formulas : FreeInSome (as_var v) (conjunction p (length_is g) ∷ q ∷ r ∷ []) → ⊥
+    item-formulas (inl (inl a)) = n (inr (inl a))
+    item-formulas (inl (inr a)) = n (inl (inr (inr (inr (inr (inr (inr (inl a))))))))
+    item-formulas (inr a) = n (inr (inr a))
+
+    not-in-item : FreeIn (as_var v) (holding_child s i (conjunction p (length_is g)) t j q m r l)
+        → ⊥
+    not-in-item =
+        not-in-parent v s i (conjunction p (length_is g)) t j q m r l
+        (⊎_elim item-terms item-formulas)
+
+-- what calls need of the procedures that they mean
+abbrev pub Scoped : Procedures → Type 0
+Scoped ps = (name : List ℕ) (f : Procedure) → procedure_named name ps ≡ Some f → IsScoped f
+
+module _ (ps : Procedures) (bodies : BodiesSorted ps) (n : ℕ) where
+  -- a premise, from the start of its runs
+  begin : (p : Formula) (c : Command) (q : Formula) (d : DataSort) → Proved ps n (triple p c q d)
+      → Sound ps bodies n p c q d
+  begin p c q d h = to_sound ps bodies n p c q d h.0 h.1
+
+  -- RULES
+  skip : SoundRow ps bodies n Tr.skip_rule
+  skip l so w c h = from_sound ps bodies n l.P _ l.P l.k (Co.skip-sound ps bodies n l.P l.k)
+
+  assign : SoundRow ps bodies n Tr.assign_rule
+  assign l so w c h =
+      from_sound ps bodies n _ _ l.Q l.k (Co.assign-sound ps bodies n l.Q l.v l.E l.k so)
+
+  seq : SoundRow ps bodies n Tr.seq_rule
+  seq l so w c h =
+      from_sound ps bodies n l.P _ _ l.k (Co.seq-sound ps bodies n l.k l.P l.links h)
+
+  if : SoundRow ps bodies n Tr.if_rule
+  if l so w c h =
+      from_sound ps bodies n l.P _ l.Q l.k
+      (Co.if-sound ps bodies n l.P l.c l.b l.b' l.Q l.k so.0 (begin _ _ l.Q l.k h.0)
+      (begin _ _ l.Q l.k h.1.0))
+
+  while : SoundRow ps bodies n Tr.while_rule
+  while l so w c h =
+      from_sound ps bodies n l.P _ _ l.k
+      (Co.while-sound ps bodies l.P l.c l.b l.k so.0 n (begin _ _ l.P l.k h.0))
+
+  local : SoundRow ps bodies n Tr.local_rule
+  local l so w c h =
+      from_sound ps bodies n l.P _ l.Q l.k
+      (Co.local-sound ps bodies l.P l.v l.b l.Q l.k (⊎_elim c.0 c.1.0) n (begin _ _ l.Q l.k h.0))
+
+  frame : SoundRow ps bodies n Tr.frame_rule
+  frame l so w c h =
+      from_sound ps bodies n _ l.C _ l.k
+      (Fr.frame-sound ps bodies n l.K l.P l.Q l.C l.h l.k c.0 (begin l.P l.C l.Q l.h h.0))
+
+  consequence : SoundRow ps bodies n Tr.consequence_rule
+  consequence l so w c h =
+      from_sound ps bodies n l.P l.C l.Q l.k
+      (Fr.consequence-sound ps bodies n l.P l.A l.Q l.B l.C l.k h.0.1 h.1.1.0.1
+      (begin l.A l.C l.B l.k h.1.0))
+
+  eliminate : SoundRow ps bodies n Tr.eliminate_rule
+  eliminate l so w c h =
+      from_sound ps bodies n _ l.C _ l.k
+      (Lo.eliminate-sound ps bodies n l.x.name l.x.sort l.P l.Q l.C l.k
+      (begin l.P l.C l.Q l.k h.0))
+
+  disjunction : SoundRow ps bodies n Tr.disjunction_rule
+  disjunction l so w c h =
+      from_sound ps bodies n _ l.C l.Q l.k
+      (Fr.disjunction-sound ps bodies n l.P l.A l.Q l.C l.k (begin l.P l.C l.Q l.k h.0)
+      (begin l.A l.C l.Q l.k h.1.0))
+
+  absurd_row : SoundRow ps bodies n Tr.absurd_rule
+  absurd_row l so w c h =
+      from_sound ps bodies n _ l.C l.Q l.k (Fr.absurd-sound ps bodies n l.Q l.C l.k)
+
+  instance : SoundRow ps bodies n Tr.instance_rule
+  instance l so w c h =
+      from_sound ps bodies n _ l.C _ l.k
+      (Lo.instance-sound ps bodies n l.x.name l.x.sort l.P l.Q l.C l.k
+      (begin l.P l.C l.Q l.k h.0) l.E (term-stands l.x.sort l.E w.1.0) c.0)
+
+  module _ (scoped : Scoped ps) (below : HoldBelow ps n) where
+    call : SoundRow ps bodies n (λ letters. Tr.call_rule letters ps)
+    call l so w c h =
+        let fits : CallFits (Some l.f) l.rs l.es = subst (λ o. CallFits o l.rs l.es) w.0 so.0 in
+        from_sound ps bodies n _ _ _ l.f.sort
+        (Ca.call-sound ps bodies l.f (scoped l.f.name l.f w.0) l.rs l.es fits.0 fits.1 so.1 so.2 n
+        l.f.name w.0 (below l.f.name l.f w.0))
+
+  -- AXIOMS
+  name : SoundRow ps bodies n Tr.name_axiom
+  name l so w c h =
+      Re.name-sound ps (UpTo n) l.v l.E l.S l.I l.P l.L (not-in-node l.v l.S l.I l.P l.L c.0) so
+
+  children : SoundRow ps bodies n Tr.children_axiom
+  children l so w c h =
+      Re.children-sound ps (UpTo n) l.v l.E l.S l.I l.P l.L (not-in-node l.v l.S l.I l.P l.L c.0) so
+
+  item : SoundRow ps bodies n Tr.item_axiom
+  item l so w c h =
+      Re.item-sound ps (UpTo n) l.v l.E l.F l.G l.S l.I l.P l.T l.J l.Q l.M l.R l.L
+      (not-in-item l.v l.S l.I l.P l.G l.T l.J l.Q l.M l.R l.L c.0) so
+
+  item_none : SoundRow ps bodies n Tr.item_none_axiom
+  item_none l so w c h =
+      Re.item-none-sound ps (UpTo n) l.v l.E l.F l.G l.S l.I l.P l.L
+      (not-in-length l.v l.S l.I l.P l.L l.G c.0) so
+
+  parent : SoundRow ps bodies n Tr.parent_axiom
+  parent l so w c h =
+      Re.parent-sound ps (UpTo n) l.v l.E l.S l.I l.P l.T l.J l.Q l.M l.R l.L
+      (not-in-parent l.v l.S l.I l.P l.T l.J l.Q l.M l.R l.L c.0) so
+
+  parent_none : SoundRow ps bodies n Tr.parent_none_axiom
+  parent_none l so w c h =
+      Re.parent-none-sound ps (UpTo n) l.v l.E l.S l.I l.P l.L
+      (not-in-node l.v l.S l.I l.P l.L c.0) so
+
+  create : SoundRow ps bodies n Tr.create_axiom
+  create l so w c h = Cr.create-sound ps (UpTo n) l.v l.E l.T (λ a. c.0 (inl (inl a))) so
+
+  append_in_forest : SoundRow ps bodies n Tr.append_in_forest
+  append_in_forest l so w c h e st pr r wr mt around wc wf picks long =
+      Ap.append-sound ps bodies forest l.k (λ q. cc) l.K l.E l.F l.S l.I l.P l.L l.T l.J l.Q l.M so
+      e
+      st pr r wr mt around wc wf picks
+
+  append_in_grove : SoundRow ps bodies n Tr.append_in_grove
+  append_in_grove l so w c h e st pr r wr mt around wc wf picks long =
+      Ap.append-sound ps bodies grove grove (λ q. cc) l.K l.E l.F l.S l.I l.P l.L l.T l.J l.Q l.M so
+      e
+      st pr r wr mt around wc wf picks
+
+  remove : SoundRow ps bodies n Tr.remove_axiom
+  remove l so w c h e st pr r wr mt around wc wf picks long =
+      Rm.remove-sound ps bodies l.K l.E l.F l.S l.I l.P l.T l.J l.Q l.M l.R l.L so e st pr r wr mt
+      around wc wf picks
+
+  -- EACH AXIOM, AND EACH RULE
+  pub axioms-sound : SoundEntries ps bodies n Tr.axioms
+  axioms-sound =
+      (name & tt) &
+      (children & tt) &
+      (item & tt) &
+      (item_none & tt) &
+      (parent & tt) &
+      (parent_none & tt) &
+      (create & tt) &
+      (append_in_forest & append_in_grove & tt) &
+      (remove & tt) & tt
+
+  pub rules-sound : Scoped ps → HoldBelow ps n → SoundEntries ps bodies n (Tr.rules ps)
+  rules-sound scoped below =
+      (skip & tt) &
+      (assign & tt) &
+      (seq & tt) &
+      (if & tt) &
+      (while & tt) &
+      (local & tt) &
+      (call scoped below & tt) &
+      (frame & tt) &
+      (consequence & tt) &
+      (eliminate & tt) &
+      (disjunction & tt) &
+      (absurd_row & tt) &
+      (instance & tt) & tt
+
+  pub triples-sound : Scoped ps → HoldBelow ps n → SoundEntries ps bodies n (Tr.triples ps)
+  triples-sound scoped below =
+      both-sound ps bodies n (Tr.rules ps) Tr.axioms (rules-sound scoped below) axioms-sound
