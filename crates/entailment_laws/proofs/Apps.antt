@@ -7,7 +7,7 @@ use Rattle.model_formulas.specs.Satisfaction.{Classically, Entails, Meets}
 use Rattle.model_shapes.proofs.Basics.{holes-beside, root_holes-beside}
 use Rattle.model_shapes.proofs.Filling.{fill-left, outer-WellFormed, put-Shaped}
 use Rattle.model_shapes.proofs.Narrow.{narrow-at}
-use Rattle.model_shapes.proofs.Shapes.{IsList, SameAt-beside, SameAt-eq, SameAt-sym, SameAt-trans, left-WellFormed, right-WellFormed, root_holes-le}
+use Rattle.model_shapes.proofs.Shapes.{IsList, SameAt-beside, SameAt-eq, SameAt-sym, SameAt-trans, left-WellFormed, right-WellFormed, root_holes-le, one-hole, hole-root, hole-below}
 use Rattle.model_shapes.specs.Shapes.{HasWidth, SameAt, Shaped, may_stand}
 use Rattle.model_shapes.specs.Sorts.{DataSort, Sort, context, forest, grove, shape, tree, value}
 use Rattle.model_shapes.specs.Trees.{Trees, WellFormed, beside, fill, width}
@@ -24,13 +24,8 @@ lone-context : (h k : DataSort) (c : Trees) → Shaped (context h tree) c → Sh
 lone-context h k c w = record {
   well_formed = w.well_formed;
   width_fits = width_one k (width c) w.width_fits;
-  holes_fit =
-      record {
-        one = w.holes_fit.one;
-        at_root = λ z. stands_anywhere h k
-            (w.holes_fit.at_root z);
-        below = w.holes_fit.below;
-      };
+  holes_fit = one-hole h k c w.holes_fit.one
+      (λ z. stands_anywhere h k (hole-root w.holes_fit z)) (hole-below w.holes_fit);
 }
 
 module _ (S : DataSort → Sort) (puts : PutsInto S)
@@ -96,13 +91,11 @@ module _ (k : DataSort) (list : IsList k) where
   beside_hole_left h c b wc wb wf = record {
     well_formed = wf;
     width_fits = list (width (beside c b));
-    holes_fit = record {
-      one = omega (arith, holes-beside c b, wc.holes_fit.one, wb.holes_fit);
-      at_root =
-          λ z. wc.holes_fit.at_root
-          (omega (arith, z, root_holes-beside c b, root_holes-le b, wb.holes_fit));
-      below = λ z. wc.holes_fit.below (omega (arith, z, root_holes-beside c b));
-    };
+    holes_fit = one-hole h k (beside c b)
+        (omega (arith, holes-beside c b, wc.holes_fit.one, wb.holes_fit))
+        (λ z. hole-root wc.holes_fit
+        (omega (arith, z, root_holes-beside c b, root_holes-le b, wb.holes_fit)))
+        (λ z. hole-below wc.holes_fit (omega (arith, z, root_holes-beside c b)));
   }
 
   beside_hole_right : (h : DataSort) (b c : Trees) → Shaped (shape k) b → Shaped (context h k) c
@@ -110,13 +103,11 @@ module _ (k : DataSort) (list : IsList k) where
   beside_hole_right h b c wb wc wf = record {
     well_formed = wf;
     width_fits = list (width (beside b c));
-    holes_fit = record {
-      one = omega (arith, holes-beside b c, wc.holes_fit.one, wb.holes_fit);
-      at_root =
-          λ z. wc.holes_fit.at_root
-          (omega (arith, z, root_holes-beside b c, root_holes-le b, wb.holes_fit));
-      below = λ z. wc.holes_fit.below (omega (arith, z, root_holes-beside b c));
-    };
+    holes_fit = one-hole h k (beside b c)
+        (omega (arith, holes-beside b c, wc.holes_fit.one, wb.holes_fit))
+        (λ z. hole-root wc.holes_fit
+        (omega (arith, z, root_holes-beside b c, root_holes-le b, wb.holes_fit)))
+        (λ z. hole-below wc.holes_fit (omega (arith, z, root_holes-beside b c)));
   }
 
 module _ (S : DataSort → Sort) (puts : PutsInto S)

@@ -5,8 +5,7 @@ use Rattle.model_shapes.specs.Trees.{fill}
 use Rattle.model_shapes.proofs.Shapes.{Same-refl}
 use Rattle.model_formulas.specs.Formulas.{application, bare_hole}
 use Rattle.model_formulas.specs.Satisfaction.{Entails}
-use Rattle.model_commands.specs.Theories.{Procedures}
-use Rattle.model_commands.specs.SortTests.{BodiesSorted}
+use Rattle.entailment_laws.specs.Judgements.{Reading}
 use Rattle.rule_table.specs.Letters.{as_logic, sort_at}
 use Rattle.rule_table.specs.Contexts as Ta
 use Rattle.entailment_laws.proofs.Apps as Ap
@@ -17,8 +16,8 @@ use Rattle.entailment_laws.proofs.Nodes as No
 use Rattle.entailment_laws.proofs.Contexts as Co
 use Rattle.entailment_laws.proofs.Pieces.{put_in}
 
-module _ (ps : Procedures) (bodies : BodiesSorted ps) (n : ℕ) where
-  hole_left : SoundRow ps bodies n Ta.hole_left
+module _ (reading : Reading) where
+  hole_left : SoundRow reading Ta.hole_left
   hole_left l so w c f = at l.o
     where
       at : (o : Option DataSort)
@@ -26,7 +25,7 @@ module _ (ps : Procedures) (bodies : BodiesSorted ps) (n : ℕ) where
       at None = Ho.hole_left l.P (shape l.h)
       at (Some i) = Ho.hole_left l.P (context i l.h)
 
-  hole_left_back : SoundRow ps bodies n Ta.hole_left_back
+  hole_left_back : SoundRow reading Ta.hole_left_back
   hole_left_back l so w c f = at l.o
     where
       at : (o : Option DataSort)
@@ -34,101 +33,101 @@ module _ (ps : Procedures) (bodies : BodiesSorted ps) (n : ℕ) where
       at None = Ho.hole_left_back l.P (shape l.h)
       at (Some i) = Ho.hole_left_back l.P (context i l.h)
 
-  hole_right : SoundRow ps bodies n Ta.hole_right
+  hole_right : SoundRow reading Ta.hole_right
   hole_right l so w c f = Ho.hole_right l.K l.h l.k
 
-  hole_right_back : SoundRow ps bodies n Ta.hole_right_back
+  hole_right_back : SoundRow reading Ta.hole_right_back
   hole_right_back l so w c f = Ho.hole_right_back l.K l.h l.k
 
-  app_assoc : SoundRow ps bodies n Ta.app_assoc
+  app_assoc : SoundRow reading Ta.app_assoc
   app_assoc l so w c f = Ho.app_assoc l.K l.H l.P l.h l.j l.s
 
-  app_assoc_back : SoundRow ps bodies n Ta.app_assoc_back
+  app_assoc_back : SoundRow reading Ta.app_assoc_back
   app_assoc_back l so w c f = Ho.app_assoc_back l.K l.H l.P l.h l.j l.s
 
-  app_node : SoundRow ps bodies n Ta.app_node
+  app_node : SoundRow reading Ta.app_node
   app_node l so w c f = No.app_node l.S l.I l.L l.K l.P l.h l.s
 
-  app_node_back : SoundRow ps bodies n Ta.app_node_back
+  app_node_back : SoundRow reading Ta.app_node_back
   app_node_back l so w c f = No.app_node_back l.S l.I l.L l.K l.P l.h l.s
 
-  app_tree : SoundRow ps bodies n Ta.app_tree
+  app_tree : SoundRow reading Ta.app_tree
   app_tree l so w c f = Ap.app_tree l.K l.P l.h l.s
 
-  app_tree_back : SoundRow ps bodies n Ta.app_tree_back
+  app_tree_back : SoundRow reading Ta.app_tree_back
   app_tree_back l so w c f = Ap.app_tree_back l.K l.P l.h l.s
 
-  app_root : SoundRow ps bodies n Ta.app_root
+  app_root : SoundRow reading Ta.app_root
   app_root l so w c f = Ap.app_root l.K l.P l.h l.s
 
-  app_root_back : SoundRow ps bodies n Ta.app_root_back
+  app_root_back : SoundRow reading Ta.app_root_back
   app_root_back l so w c f = Ap.app_root_back l.K l.P l.h l.s
 
-  app_star_left : SoundRow ps bodies n Ta.app_star_left
+  app_star_left : SoundRow reading Ta.app_star_left
   app_star_left l so w c f = Ap.app_star_left l.K l.Q l.P l.h forest
 
-  app_star_left_context : SoundRow ps bodies n Ta.app_star_left_context
+  app_star_left_context : SoundRow reading Ta.app_star_left_context
   app_star_left_context l so w c f = Ap.app_star_left_context l.K l.Q l.P l.h l.j forest
 
-  app_star_left_back : SoundRow ps bodies n Ta.app_star_left_back
+  app_star_left_back : SoundRow reading Ta.app_star_left_back
   app_star_left_back l so w c f = Ap.app_star_left_back l.K l.Q l.P l.h forest
 
-  app_star_left_back_context : SoundRow ps bodies n Ta.app_star_left_back_context
+  app_star_left_back_context : SoundRow reading Ta.app_star_left_back_context
   app_star_left_back_context l so w c f = Ap.app_star_left_back_context l.K l.Q l.P l.h l.j forest
 
-  app_star_right : SoundRow ps bodies n Ta.app_star_right
+  app_star_right : SoundRow reading Ta.app_star_right
   app_star_right l so w c f = Ap.app_star_right l.K l.Q l.P l.h forest
 
-  app_star_right_context : SoundRow ps bodies n Ta.app_star_right_context
+  app_star_right_context : SoundRow reading Ta.app_star_right_context
   app_star_right_context l so w c f = Ap.app_star_right_context l.K l.Q l.P l.h l.j forest
 
-  app_star_right_back : SoundRow ps bodies n Ta.app_star_right_back
+  app_star_right_back : SoundRow reading Ta.app_star_right_back
   app_star_right_back l so w c f = Ap.app_star_right_back l.K l.Q l.P l.h forest
 
-  app_star_right_back_context : SoundRow ps bodies n Ta.app_star_right_back_context
+  app_star_right_back_context : SoundRow reading Ta.app_star_right_back_context
   app_star_right_back_context l so w c f = Ap.app_star_right_back_context l.K l.Q l.P l.h l.j forest
 
-  app_plus : SoundRow ps bodies n Ta.app_plus
+  app_plus : SoundRow reading Ta.app_plus
   app_plus l so w c f = Ap.app_plus l.K l.Q l.P l.h grove
 
-  app_plus_context : SoundRow ps bodies n Ta.app_plus_context
+  app_plus_context : SoundRow reading Ta.app_plus_context
   app_plus_context l so w c f = Ap.app_plus_context l.K l.Q l.P l.h l.j grove
 
-  app_plus_back : SoundRow ps bodies n Ta.app_plus_back
+  app_plus_back : SoundRow reading Ta.app_plus_back
   app_plus_back l so w c f = Ap.app_plus_back l.K l.Q l.P l.h grove
 
-  app_plus_back_context : SoundRow ps bodies n Ta.app_plus_back_context
+  app_plus_back_context : SoundRow reading Ta.app_plus_back_context
   app_plus_back_context l so w c f = Ap.app_plus_back_context l.K l.Q l.P l.h l.j grove
 
-  hole_adj_in : SoundRow ps bodies n Ta.hole_adj_in
+  hole_adj_in : SoundRow reading Ta.hole_adj_in
   hole_adj_in l so w c f e pr r wr m d wd md wf = f.0.1 e pr (fill r d) wf
       (put_in l.h (shape l.k) (fill r d) l.K l.P e r d wr wd
       (Same-refl (shape l.k) (fill r d)) m md)
 
-  hole_adj_out : SoundRow ps bodies n Ta.hole_adj_out
+  hole_adj_out : SoundRow reading Ta.hole_adj_out
   hole_adj_out l so w c f = Qu.hole_adj_out l.K l.P l.Q l.h l.k
 
-  ctx_adj_in : SoundRow ps bodies n Ta.ctx_adj_in
+  ctx_adj_in : SoundRow reading Ta.ctx_adj_in
   ctx_adj_in l so w c f e pr r wr m d wd md wf = f.0.1 e pr (fill d r) wf
       (put_in l.h (shape l.k) (fill d r) l.K l.P e d r wd wr
       (Same-refl (shape l.k) (fill d r)) md m)
 
-  ctx_adj_out : SoundRow ps bodies n Ta.ctx_adj_out
+  ctx_adj_out : SoundRow reading Ta.ctx_adj_out
   ctx_adj_out l so w c f = Qu.ctx_adj_out l.K l.P l.Q l.h l.k
 
-  app_exists_part : SoundRow ps bodies n Ta.app_exists_part
+  app_exists_part : SoundRow reading Ta.app_exists_part
   app_exists_part l so w c f = Co.app_exists_part l.K l.P (as_logic l.x) l.h l.s c.0
 
-  app_exists_ctx : SoundRow ps bodies n Ta.app_exists_ctx
+  app_exists_ctx : SoundRow reading Ta.app_exists_ctx
   app_exists_ctx l so w c f = Co.app_exists_ctx l.K l.P (as_logic l.x) l.h l.s c.0
 
-  app_or_part : SoundRow ps bodies n Ta.app_or_part
+  app_or_part : SoundRow reading Ta.app_or_part
   app_or_part l so w c f = Co.app_or_part l.K l.H l.P l.Q l.h l.s
 
-  app_or_ctx : SoundRow ps bodies n Ta.app_or_ctx
+  app_or_ctx : SoundRow reading Ta.app_or_ctx
   app_or_ctx l so w c f = Co.app_or_ctx l.K l.H l.P l.Q l.h l.s
 
-  pub sound : SoundEntries ps bodies n Ta.entries
+  pub sound : SoundEntries reading Ta.entries
   sound =
       (hole_left & tt) &
       (hole_left_back & tt) &

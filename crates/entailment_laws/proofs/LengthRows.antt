@@ -4,37 +4,36 @@ use Rattle.model_shapes.specs.Sorts.{shape, forest}
 use Rattle.model_shapes.specs.Trees.{width}
 use Rattle.model_shapes.proofs.Narrow.{no_roots}
 use Rattle.model_formulas.specs.Satisfaction.{meaning_of}
-use Rattle.model_commands.specs.Theories.{Procedures}
-use Rattle.model_commands.specs.SortTests.{BodiesSorted}
+use Rattle.entailment_laws.specs.Judgements.{Reading}
 use Rattle.rule_table.specs.Lengths as Ta
 use Rattle.entailment_laws.proofs.SoundRows.{SoundRow, SoundEntries, ◌&◌}
 use Rattle.entailment_laws.proofs.Closed as Cl
 use Rattle.entailment_laws.proofs.Lengths as Le
 use Rattle.entailment_laws.proofs.Lengths.{count, count-zero, at_least_zero}
 
-module _ (ps : Procedures) (bodies : BodiesSorted ps) (n : ℕ) where
-  len_empty : SoundRow ps bodies n Ta.len_empty
+module _ (reading : Reading) where
+  len_empty : SoundRow reading Ta.len_empty
   len_empty l so w c f e pr r wr m = ap (λ z. count (width z)) m
 
-  len_zero : SoundRow ps bodies n Ta.len_zero
+  len_zero : SoundRow reading Ta.len_zero
   len_zero l so w c f e pr r wr m = no_roots r (count-zero (width r) m)
 
-  len_tree : SoundRow ps bodies n Ta.len_tree
+  len_tree : SoundRow reading Ta.len_tree
   len_tree l so w c f e pr r wr m = ap count m.0.width_fits
 
-  len_star : SoundRow ps bodies n Ta.len_star
+  len_star : SoundRow reading Ta.len_star
   len_star l so w c f = Le.len_star l.P l.Q l.E l.F (shape forest)
 
-  len_some : SoundRow ps bodies n Ta.len_some
+  len_some : SoundRow reading Ta.len_some
   len_some l so w c f = Cl.len_some (shape forest)
 
-  len_unique : SoundRow ps bodies n Ta.len_unique
+  len_unique : SoundRow reading Ta.len_unique
   len_unique l so w c f e pr r wr m = sym m.0 ∙ m.1
 
-  len_nonneg : SoundRow ps bodies n Ta.len_nonneg
+  len_nonneg : SoundRow reading Ta.len_nonneg
   len_nonneg l so w c f e pr r wr m = at_least_zero (width r) (meaning_of e l.E) m
 
-  pub sound : SoundEntries ps bodies n Ta.entries
+  pub sound : SoundEntries reading Ta.entries
   sound =
       (len_empty & tt) &
       (len_zero & tt) &

@@ -5,6 +5,7 @@ use Rattle.model_formulas.specs.Satisfaction.{Entails, IfNode, Meets}
 use Rattle.model_formulas.specs.Formulas.{left_sort, right_sort}
 use Rattle.model_terms.specs.Terms.{Term}
 use Rattle.model_shapes.specs.Shapes.{Shaped}
+use Rattle.model_shapes.proofs.Shapes.{one-hole, hole-below}
 use Rattle.model_shapes.specs.Sorts.{DataSort, Sort, context, forest, with_outer, inner, outer, shape, tree, value}
 use Rattle.model_shapes.specs.Trees.{Trees, WellFormed, fill, hole, node, none}
 use Rattle.entailment_laws.proofs.Parts.{parts-map}
@@ -68,13 +69,8 @@ kids-Shaped (shape j) n i k l w =
 kids-Shaped (context h j) n i k l w = record {
   well_formed = kids-WellFormed n i k l none w.well_formed;
   width_fits = tt;
-  holes_fit =
-      record {
-        one = omega (arith, w.holes_fit.one);
-        at_root = λ z. w.holes_fit.below refl;
-        below = λ z.
-            w.holes_fit.below refl;
-      };
+  holes_fit = one-hole h forest k (omega (arith, w.holes_fit.one))
+      (λ z. hole-below w.holes_fit refl) (λ z. hole-below w.holes_fit refl);
 }
 
 pub IfNode-map : (s : Sort) (r : Trees) (P Q : List ℕ → ℕ → Trees → ℕ → Type 0) → Shaped s r

@@ -1,6 +1,6 @@
 -- What the table asks of sorts is needed: hole_left and hole_right where the sort of the hole is
 -- another, and is_mono where that of the variable is no sort, would not hold.
-use Rattle.std.proofs.Common.{◌+◌, ◌&&◌, Bool, false, Option, None, ◌≡◌, List, true, pos, refl, sym, ap, arith, ◌∙◌, ℕ}
+use Rattle.std.proofs.Common.{◌&&◌, Bool, false, None, ◌≡◌, List, ◌∷◌, not, true, pos, refl, sym, ap, arith, ◌∙◌, ℕ}
 use Rattle.model_shapes.specs.Tests.{same_sort}
 use Rattle.model_shapes.specs.Sorts.{Sort, value, shape, context, tree, forest, grove, is_sort}
 use Rattle.model_shapes.specs.Values.{int}
@@ -10,8 +10,8 @@ use Rattle.model_shapes.specs.Things.{Thing, val, trees, Fits}
 use Rattle.model_shapes.proofs.Basics.{width-beside, beside-none}
 use Rattle.model_shapes.proofs.Inhabited.{some_thing, fits-is_sort}
 use Rattle.model_shapes.proofs.Truth.{false≢true, both_true}
-use Rattle.model_formulas.specs.WellSorted.{is_form, first_fault}
-use Rattle.model_machine.proofs.Parts.{own}
+use Rattle.model_formulas.specs.WellSorted.{is_form, first_fault, flags}
+use Rattle.std.specs.List.{position_from}
 use Rattle.rule_table.specs.Lines.{TermAt}
 use Rattle.model_terms.specs.Variables.{logic}
 use Rattle.model_terms.specs.Terms.{literal, variable}
@@ -30,7 +30,7 @@ tree_hole : Shaped (context tree forest) (hole none)
 tree_hole = record {
   well_formed = (hole-Shaped tree).well_formed;
   width_fits = tt;
-  holes_fit = record { one = refl; at_root = λ z. refl; below = λ z. refl };
+  holes_fit = record { one = refl; stands = refl };
 }
 
 zero≢one : val (int (pos 0)) ≡ val (int (pos 1)) → ⊥
@@ -93,7 +93,7 @@ spoiled-proper = record { programs = plain_env-proper.programs; logics = logics 
 
 -- whatever entails whatever there
 vacuous : (p q : Formula) → Entails p q (context grove tree)
-vacuous p q e pr r w m = false≢true (fits-is_sort (context grove tree) (trees r) w)
+vacuous p q e pr r w m = false≢true (fits-is_sort (context grove tree) (trees r) (w, tt))
 
 pub is_mono_fails : (name : List ℕ) → ((p q : Formula) → Entails p q (context grove tree)
     → Entails (value_meets (context grove tree) (variable (logic name (context grove tree))) p)
@@ -103,19 +103,19 @@ is_mono_fails name a =
     a truth falsity (vacuous truth falsity) spoiled spoiled-proper none no_trees tt
 
 -- what is written has no fault, and so asks for what is_mono asks
-own-met : (b : Bool) (n : ℕ) (below : Option ℕ) → own b n below ≡ None → b ≡ true
-own-met true n below e = refl
-own-met false n below e = absurd cc
+first-met : (b : Bool) (bs : List Bool) → position_from not 0 (b ∷ bs) ≡ None → b ≡ true
+first-met true bs e = refl
+first-met false bs e = absurd cc
 
-pub is_mono_met : (name : List ℕ) (u s : Sort) (p : Named) (n : ℕ)
-    → first_fault (value_meets u (variable (logic name u)) p) s n ≡ None
+pub is_mono_met : (name : List ℕ) (u s : Sort) (p : Named)
+    → first_fault (value_meets u (variable (logic name u)) p) s ≡ None
     → TermAt u (variable (logic name u))
-is_mono_met name u s p n e = at u (both_true (is_form u) (same_sort u u)
+is_mono_met name u s p e = at u (both_true (is_form u) (same_sort u u)
     (both_true (is_form s) (is_form u && same_sort u u)
-    (own-met (is_form s && (is_form u && same_sort u u)) n (first_fault p u (n + 1)) e)).1)
+    (first-met (is_form s && (is_form u && same_sort u u)) (flags p u) e)).1)
   where
     at : (u : Sort) → (is_form u ≡ true) × (same_sort u u ≡ true)
         → TermAt u (variable (logic name u))
     at (value v) h = false≢true h.0
-    at (shape k) h = (h.1, refl, tt)
-    at (context i k) h = (h.1, h.0, tt)
+    at (shape k) h = (h.1, refl)
+    at (context i k) h = (h.1, h.0)

@@ -5,8 +5,7 @@ use Rattle.model_shapes.specs.Values.{node_number, list_number, null, nolist}
 use Rattle.model_shapes.specs.Trees.{width}
 use Rattle.model_shapes.specs.Things.{Thing, val}
 use Rattle.model_formulas.specs.Satisfaction.{Meets, IfNode, meaning_of}
-use Rattle.model_commands.specs.Theories.{Procedures}
-use Rattle.model_commands.specs.SortTests.{BodiesSorted}
+use Rattle.entailment_laws.specs.Judgements.{Reading}
 use Rattle.rule_table.specs.Lines.{◌and◌}
 use Rattle.rule_table.specs.Nodes as Ta
 use Rattle.entailment_laws.proofs.SoundRows.{SoundRow, SoundEntries, ◌&◌}
@@ -21,8 +20,8 @@ number≢null n x e f = cc
 number≢nolist : (n : ℕ) (x : Thing) → val (list_number n) ≡ x → x ≡ val nolist → ⊥
 number≢nolist n x e f = cc
 
-module _ (ps : Procedures) (bodies : BodiesSorted ps) (n : ℕ) where
-  node_and : SoundRow ps bodies n Ta.node_and
+module _ (reading : Reading) where
+  node_and : SoundRow reading Ta.node_and
   node_and l so w c f e pr r wr m =
       let (s, i, k, u, form, here) =
       node_alone r (Says e l.S l.I l.L (Meets l.P e (with_outer forest l.s))) m.0 in
@@ -33,55 +32,55 @@ module _ (ps : Procedures) (bodies : BodiesSorted ps) (n : ℕ) where
         ((sym here.0 ∙ there.0, sym here.1 ∙ there.1), sym here.2 ∙ there.2),
       )
 
-  tree_and : SoundRow ps bodies n Ta.tree_and
+  tree_and : SoundRow reading Ta.tree_and
   tree_and l so w c f e pr r wr m = (m.0.0, (m.0.1, m.1.1))
 
-  root_and : SoundRow ps bodies n Ta.root_and
+  root_and : SoundRow reading Ta.root_and
   root_and l so w c f e pr r wr m = (m.0.0, (m.0.1, m.1.1))
 
-  node_some : SoundRow ps bodies n Ta.node_some
+  node_some : SoundRow reading Ta.node_some
   node_some l so w c f = Cl.node_some
 
-  not_null : SoundRow ps bodies n Ta.not_null
+  not_null : SoundRow reading Ta.not_null
   not_null l so w c f e pr r wr m =
       let (s, i, k, u, form, here) =
       node_alone r (Says e l.S l.I l.L (Meets l.P e (with_outer forest l.s))) m in
       (number≢null i (meaning_of e l.I) here.1, number≢nolist u (meaning_of e l.L) here.2)
 
-  apart_star : SoundRow ps bodies n Ta.apart_star
+  apart_star : SoundRow reading Ta.apart_star
   apart_star l so w c f = No.apart_star l.K l.H l.P l.Q l.S l.I l.L l.T l.J l.M (shape forest)
 
-  apart_plus : SoundRow ps bodies n Ta.apart_plus
+  apart_plus : SoundRow reading Ta.apart_plus
   apart_plus l so w c f = No.apart_plus l.K l.H l.P l.Q l.S l.I l.L l.T l.J l.M (shape grove)
 
-  apart_up : SoundRow ps bodies n Ta.apart_up
+  apart_up : SoundRow reading Ta.apart_up
   apart_up l so w c f = No.apart_up l.K l.Q l.S l.I l.L l.T l.J l.M (shape tree)
 
-  forest_cases : SoundRow ps bodies n Ta.forest_cases
+  forest_cases : SoundRow reading Ta.forest_cases
   forest_cases l so w c f = Cl.forest_cases
 
-  grove_cases : SoundRow ps bodies n Ta.grove_cases
+  grove_cases : SoundRow reading Ta.grove_cases
   grove_cases l so w c f = Cl.grove_cases
 
-  empty_star : SoundRow ps bodies n Ta.empty_star
+  empty_star : SoundRow reading Ta.empty_star
   empty_star l so w c f = Sp.empty_star l.P l.Q forest (shape forest)
 
-  empty_plus : SoundRow ps bodies n Ta.empty_plus
+  empty_plus : SoundRow reading Ta.empty_plus
   empty_plus l so w c f = Sp.empty_plus l.P l.Q grove (shape grove)
 
-  tree_full : SoundRow ps bodies n Ta.tree_full
+  tree_full : SoundRow reading Ta.tree_full
   tree_full l so w c f e pr r wr m = absurd (omega (arith, m.0.0.width_fits, ap width m.1))
 
-  root_full : SoundRow ps bodies n Ta.root_full
+  root_full : SoundRow reading Ta.root_full
   root_full l so w c f e pr r wr m = absurd (omega (arith, m.0.0.width_fits, ap width m.1))
 
-  head : SoundRow ps bodies n Ta.head
+  head : SoundRow reading Ta.head
   head l so w c f = Sp.head l.P l.Q l.A l.B
 
-  last : SoundRow ps bodies n Ta.last
+  last : SoundRow reading Ta.last
   last l so w c f = Sp.last l.P l.Q l.A l.B
 
-  pub sound : SoundEntries ps bodies n Ta.entries
+  pub sound : SoundEntries reading Ta.entries
   sound =
       (node_and & tt) &
       (tree_and & tt) &

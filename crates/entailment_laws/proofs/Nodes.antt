@@ -7,7 +7,7 @@ use Rattle.model_shapes.specs.Trees.{Trees, WellFormed, none, node, hole, beside
 use Rattle.model_shapes.specs.Shapes.{SameAt, Shaped, OneHole, may_stand, root_holes}
 use Rattle.model_shapes.specs.Things.{Thing, val}
 use Rattle.model_shapes.proofs.Basics.{node_uses-beside, list_uses-beside, node_uses-fill, list_uses-fill}
-use Rattle.model_shapes.proofs.Shapes.{SameAt-sym, same-node_uses, same-list_uses, root_holes-le}
+use Rattle.model_shapes.proofs.Shapes.{SameAt-sym, same-node_uses, same-list_uses, root_holes-le, hole-root, hole-below, one-hole}
 use Rattle.model_shapes.proofs.Narrow.{narrow-at}
 use Rattle.model_shapes.proofs.Filling.{outer-WellFormed}
 use Rattle.model_terms.specs.Terms.{Term}
@@ -42,8 +42,8 @@ inner_hole : (h : DataSort) (c : Trees) → OneHole h forest c → may_stand h f
 inner_hole h c o = at (root_holes c) refl
   where
     at : (n : ℕ) → root_holes c ≡ n → may_stand h forest ≡ true
-    at zero e = o.below e
-    at (suc n) e = o.at_root (omega (arith, o.one, root_holes-le c))
+    at zero e = hole-below o e
+    at (suc n) e = hole-root o (omega (arith, o.one, root_holes-le c))
 
 around-Shaped : (h j : DataSort) (s : List ℕ) (i : ℕ) (k : Trees) (l : ℕ)
     → Shaped (context h forest) k → WellFormed (node s i k l none)
@@ -51,11 +51,8 @@ around-Shaped : (h j : DataSort) (s : List ℕ) (i : ℕ) (k : Trees) (l : ℕ)
 around-Shaped h j s i k l w wf = record {
   well_formed = wf;
   width_fits = width_one j (width (node s i k l none)) (omega arith);
-  holes_fit = record {
-    one = omega (arith, w.holes_fit.one);
-    at_root = λ z. absurd (omega (arith, z));
-    below = λ z. inner_hole h k w.holes_fit;
-  };
+  holes_fit = one-hole h j (node s i k l none) (omega (arith, w.holes_fit.one))
+      (λ z. absurd (omega (arith, z))) (λ z. inner_hole h k w.holes_fit);
 }
 
 module _ (S : DataSort → Sort) (x y z : Thing) (K P : Sort → Trees → Type 0) (h j : DataSort)

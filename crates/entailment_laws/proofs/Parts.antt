@@ -6,7 +6,7 @@ use Rattle.model_formulas.proofs.Stable.{stable}
 use Rattle.model_formulas.specs.Formulas.{Formula}
 use Rattle.model_formulas.specs.Satisfaction.{Classically, Environment, Meets, SomeShape}
 use Rattle.model_shapes.proofs.Basics.{beside-none, beside_assoc, holes-beside, root_holes-beside}
-use Rattle.model_shapes.proofs.Shapes.{IsList, Same-refl, SameAt-beside, SameAt-eq, SameAt-sym, SameAt-trans, left-WellFormed, right-WellFormed, root_holes-le, same-WellFormed}
+use Rattle.model_shapes.proofs.Shapes.{IsList, Same-refl, SameAt-beside, SameAt-eq, SameAt-sym, SameAt-trans, left-WellFormed, right-WellFormed, root_holes-le, same-WellFormed, one-hole, hole-root, hole-below}
 use Rattle.model_shapes.specs.Shapes.{SameAt, Shaped}
 use Rattle.model_shapes.specs.Sorts.{DataSort, Sort, context, outer, shape}
 use Rattle.model_shapes.specs.Trees.{Trees, WellFormed, beside, none, width}
@@ -51,25 +51,23 @@ joined-Shaped shapes l a b wa wb wf =
       holes_fit = omega
           (arith, holes-beside a b, wa.holes_fit, wb.holes_fit);
     }
-joined-Shaped hole_first l a b wa wb wf = record {
+joined-Shaped {k} hole_first l a b wa wb wf = record {
   well_formed = wf;
   width_fits = l (width (beside a b));
-  holes_fit = record {
-    one = omega (arith, holes-beside a b, wa.holes_fit.one, wb.holes_fit);
-    at_root =
-        λ z. wa.holes_fit.at_root (omega (arith, root_holes-beside a b, root_holes-le b, wb.holes_fit));
-    below = λ z. wa.holes_fit.below (omega (arith, root_holes-beside a b));
-  };
+  holes_fit = one-hole _ k (beside a b)
+      (omega (arith, holes-beside a b, wa.holes_fit.one, wb.holes_fit))
+      (λ z. hole-root wa.holes_fit
+      (omega (arith, root_holes-beside a b, root_holes-le b, wb.holes_fit)))
+      (λ z. hole-below wa.holes_fit (omega (arith, root_holes-beside a b)));
 }
-joined-Shaped hole_last l a b wa wb wf = record {
+joined-Shaped {k} hole_last l a b wa wb wf = record {
   well_formed = wf;
   width_fits = l (width (beside a b));
-  holes_fit = record {
-    one = omega (arith, holes-beside a b, wb.holes_fit.one, wa.holes_fit);
-    at_root =
-        λ z. wb.holes_fit.at_root (omega (arith, root_holes-beside a b, root_holes-le a, wa.holes_fit));
-    below = λ z. wb.holes_fit.below (omega (arith, root_holes-beside a b));
-  };
+  holes_fit = one-hole _ k (beside a b)
+      (omega (arith, holes-beside a b, wb.holes_fit.one, wa.holes_fit))
+      (λ z. hole-root wb.holes_fit
+      (omega (arith, root_holes-beside a b, root_holes-le a, wa.holes_fit)))
+      (λ z. hole-below wb.holes_fit (omega (arith, root_holes-beside a b)));
 }
 
 module _ (k : DataSort) (l : IsList k) (u v w uv vw : Sort) (P Q R : Trees → Type 0) (r : Trees)

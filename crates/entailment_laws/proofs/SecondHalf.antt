@@ -1,7 +1,6 @@
 -- The second half of the table of entailment rules is sound, and so is each instance of its rules.
 use Rattle.std.proofs.Common.{ℕ, List, [], ◌∷◌, ◌++◌}
-use Rattle.model_commands.specs.Theories.{Procedures}
-use Rattle.model_commands.specs.SortTests.{BodiesSorted}
+use Rattle.entailment_laws.specs.Judgements.{Reading}
 use Rattle.rule_table.specs.Entries.{Entry}
 use Rattle.rule_table.specs.SecondHalf.{second_half}
 use Rattle.rule_table.specs.Contexts as Contexts
@@ -14,17 +13,17 @@ use Rattle.entailment_laws.proofs.VariableRows as VariableRows
 use Rattle.entailment_laws.proofs.NodeRows as NodeRows
 use Rattle.entailment_laws.proofs.LengthRows as LengthRows
 
-module _ (ps : Procedures) (bodies : BodiesSorted ps) (n : ℕ) where
-  both-sound : (es fs : List Entry) → SoundEntries ps bodies n es → SoundEntries ps bodies n fs
-      → SoundEntries ps bodies n (es ++ fs)
+module _ (reading : Reading) where
+  both-sound : (es fs : List Entry) → SoundEntries reading es → SoundEntries reading fs
+      → SoundEntries reading (es ++ fs)
   both-sound [] fs s t = t
   both-sound (e ∷ es) fs s t = (s.0, both-sound es fs s.1 t)
 
-  pub sound : SoundEntries ps bodies n second_half
+  pub sound : SoundEntries reading second_half
   sound =
       both-sound Contexts.entries (Variables.entries ++ (Nodes.entries ++ Lengths.entries))
-      (ContextRows.sound ps bodies n)
+      (ContextRows.sound reading)
       (both-sound Variables.entries (Nodes.entries ++ Lengths.entries)
-      (VariableRows.sound ps bodies n)
+      (VariableRows.sound reading)
       (both-sound Nodes.entries Lengths.entries
-      (NodeRows.sound ps bodies n) (LengthRows.sound ps bodies n)))
+      (NodeRows.sound reading) (LengthRows.sound reading)))

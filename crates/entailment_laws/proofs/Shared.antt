@@ -74,7 +74,7 @@ hole-Shaped h = record {
         no_list_zero = refl;
       };
   width_fits = one h;
-  holes_fit = record { one = refl; at_root = λ z. stands h; below = λ z. absurd (omega (arith, z)) };
+  holes_fit = record { one = refl; stands = stands h };
 }
   where
     one : (h : DataSort) → HasWidth h 1

@@ -1,17 +1,16 @@
 -- The rows of regrouping, units and the order of roots are sound, both ways.
 use Rattle.std.proofs.Common.{ℕ}
-use Rattle.model_commands.specs.Theories.{Procedures}
-use Rattle.model_commands.specs.SortTests.{BodiesSorted}
+use Rattle.entailment_laws.specs.Judgements.{Reading}
 use Rattle.rule_table.specs.Letters.{Letters}
 use Rattle.rule_table.specs.Lines.{Line}
 use Rattle.rule_table.specs.Structure as Sr
 use Rattle.entailment_laws.proofs.SoundRows.{SoundRow, SoundEntries, ◌&◌}
 use Rattle.entailment_laws.proofs.Stars as St
 
-module _ (ps : Procedures) (bodies : BodiesSorted ps) (n : ℕ) where
+module _ (reading : Reading) where
   -- from left to right, and from right to left
   abbrev SoundWays : (Letters → Line × Line) → Type 0
-  SoundWays row = SoundRow ps bodies n (λ l. (row l).0) × SoundRow ps bodies n (λ l. (row l).1)
+  SoundWays row = SoundRow reading (λ l. (row l).0) × SoundRow reading (λ l. (row l).1)
 
   star_assoc : SoundWays Sr.star_assoc
   star_assoc =
@@ -58,7 +57,7 @@ module _ (ps : Procedures) (bodies : BodiesSorted ps) (n : ℕ) where
       (λ l so w c h. St.plus_assoc l.P l.Q l.R) &
       (λ l so w c h. St.plus_assoc_back l.P l.Q l.R)
 
-  plus_comm : SoundRow ps bodies n Sr.plus_comm
+  plus_comm : SoundRow reading Sr.plus_comm
   plus_comm l so w c h = St.plus_comm l.P l.Q
 
   plus_unit : SoundWays Sr.plus_unit
@@ -76,7 +75,7 @@ module _ (ps : Procedures) (bodies : BodiesSorted ps) (n : ℕ) where
       (λ l so w c h. St.plus_left_unit l.K l.h) &
       (λ l so w c h. St.plus_left_unit_back l.K l.h)
 
-  pub sound : SoundEntries ps bodies n Sr.entries
+  pub sound : SoundEntries reading Sr.entries
   sound =
       (star_assoc.0 & tt) & (star_assoc.1 & tt)
       & (star_left_assoc.0 & tt) & (star_left_assoc.1 & tt)

@@ -8,8 +8,7 @@ use Rattle.model_formulas.specs.Formulas.{falsity, equality}
 use Rattle.model_shapes.specs.Tests.{same_value}
 use Rattle.model_formulas.specs.Satisfaction.{Entails}
 use Rattle.model_shapes.proofs.Tests.{same_value-refl}
-use Rattle.model_commands.specs.Theories.{Procedures}
-use Rattle.model_commands.specs.SortTests.{BodiesSorted}
+use Rattle.entailment_laws.specs.Judgements.{Reading}
 use Rattle.rule_table.specs.Letters.{as_logic}
 use Rattle.rule_table.specs.Terms as Te
 use Rattle.rule_table.specs.Terms.{different_literals}
@@ -31,36 +30,36 @@ different : (a b : Term) (s : Sort) → different_literals a b ≡ true
 different (literal v) (literal w) s h = Pl.distinct v w s (literals-differ v w h)
 different a b s h = absurd (false≢true {P = ⊥} h)
 
-module _ (ps : Procedures) (bodies : BodiesSorted ps) (n : ℕ) where
-  eq_refl : SoundRow ps bodies n Te.eq_refl
+module _ (reading : Reading) where
+  eq_refl : SoundRow reading Te.eq_refl
   eq_refl l so w c h = Pl.eq_refl l.P l.E l.E l.s
 
-  eq_subst : SoundRow ps bodies n Te.eq_subst
+  eq_subst : SoundRow reading Te.eq_subst
   eq_subst l so w c h = Qu.eq_subst (as_logic l.x) l.P l.E l.F l.s
 
-  distinct : SoundRow ps bodies n Te.distinct
+  distinct : SoundRow reading Te.distinct
   distinct l so w c h = different l.E l.F l.s c.0
 
-  int_total : SoundRow ps bodies n Te.int_total
+  int_total : SoundRow reading Te.int_total
   int_total l so w c h = Pl.int_total l.P l.E l.F l.s
 
-  linear_order : SoundRow ps bodies n Te.linear_order
+  linear_order : SoundRow reading Te.linear_order
   linear_order l so w c h = Li.linear_order l.W l.s c.0 l.E l.F c.1.0
 
-  linear_false : SoundRow ps bodies n Te.linear_false
+  linear_false : SoundRow reading Te.linear_false
   linear_false l so w c h = Li.linear_false l.W l.s c.0 c.1.0
 
-  linear_equation : SoundRow ps bodies n Te.linear_equation
+  linear_equation : SoundRow reading Te.linear_equation
   linear_equation l so w c h =
       Li.linear_equation l.W l.s c.0 l.E l.F (term-stands (value int_sort) l.E w.1.0)
       (term-stands (value int_sort) l.F w.0) c.1.0
 
-  concat : SoundRow ps bodies n Te.concat
+  concat : SoundRow reading Te.concat
   concat l so w c h =
       Tx.concat l.P l.E l.F l.s (term-stands (value str_sort) l.E w.1.0)
       (term-stands (value str_sort) l.F w.0) c.0
 
-  pub sound : SoundEntries ps bodies n Te.entries
+  pub sound : SoundEntries reading Te.entries
   sound =
       (eq_refl & tt) & (eq_subst & tt) & (distinct & tt) & (int_total & tt)
       & (linear_order & linear_equation & linear_false & tt) & (concat & tt) & tt

@@ -4,9 +4,10 @@ use Rattle.model_shapes.specs.Sorts.{Sort, value, shape, context, DataSort, oute
 use Rattle.model_shapes.specs.Trees.{Trees, fill}
 use Rattle.model_shapes.specs.Shapes.{Same, SameAt, Shaped}
 use Rattle.model_shapes.specs.Things.{Thing, val, trees, Fits}
-use Rattle.model_shapes.proofs.Shapes.{Same-refl, SameAt-sym, SameAt-trans}
+use Rattle.model_shapes.proofs.Shapes.{SameAt-sym, SameAt-trans}
 use Rattle.model_shapes.proofs.Filling.{fill-left}
 use Rattle.model_shapes.proofs.Cancelling.{cancel}
+use Rattle.model_shapes.proofs.Representatives.{representative}
 use Rattle.model_terms.specs.Variables.{Var, var_sort}
 use Rattle.model_terms.specs.Terms.{Term, variable}
 use Rattle.model_terms.specs.VariableTests.{var_eq}
@@ -30,25 +31,23 @@ set-here x v e = at (var_eq x x)
     at (yes q) = refl
     at (no n) = absurd (n refl)
 
-shape-fits : (s : Sort) (r : Trees) → Shaped s r → Fits s (trees r)
-shape-fits (value v) r w = absurd w.holes_fit
-shape-fits (shape k) r w = w
-shape-fits (context j k) r w = w
-
 pub some : (p : Formula) (x : Var) → (FreeIn x p → ⊥)
     → Entails p (exists x (conjunction (same_as (variable x)) p)) (var_sort x)
 some p x fresh e pr r w m =
     (met-alike s r (exists-means x (conjunction (same_as (variable x)) p) e)).1
-    (surely (trees r, shape-fits s r w, (here, there)))
+    (surely (trees first.0, first.2, (here, there)))
   where
     s : Sort
     s = var_sort x
 
-    here : Meets (same_as (variable x)) (setting x (trees r) e) s r
-    here = subst (λ z. IfTrees z (Same s r)) (sym (set-here x (trees r) e)) (Same-refl s r)
+    first : (r' : Trees) × Same s r r' × Fits s (trees r')
+    first = representative s r w
 
-    there : Meets p (setting x (trees r) e) s r
-    there = unset x p e s r (trees r) fresh m
+    here : Meets (same_as (variable x)) (setting x (trees first.0) e) s r
+    here = subst (λ z. IfTrees z (Same s r)) (sym (set-here x (trees first.0) e)) first.1
+
+    there : Meets p (setting x (trees first.0) e) s r
+    there = unset x p e s r (trees first.0) fresh m
 
 -- WHAT IS THE SAME AS ONE VALUE
 -- two that are the same as one thing
@@ -96,7 +95,7 @@ meets-map : (u : Sort) (x : Thing) (P Q : Trees → Type 0) → Fits u x
 meets-map u (val v) P Q w f m = absurd m
 meets-map (value v) (trees t) P Q w f m = absurd w
 meets-map (shape k) (trees t) P Q w f m = f t w m
-meets-map (context j k) (trees t) P Q w f m = f t w m
+meets-map (context j k) (trees t) P Q w f m = f t w.0 m
 
 module _ (a : Term) (p : Formula) (s : Sort) where
   pub is_in : Entails (conjunction (same_as a) p) (value_meets s a p) s
