@@ -1,5 +1,5 @@
 -- The rows of holes, contexts and adjoints are sound.
-use Rattle.std.proofs.Common.{ℕ, Option, Some, None}
+use Rattle.std.proofs.Common.{Option, Some, None}
 use Rattle.model_shapes.specs.Sorts.{shape, context, DataSort, forest, grove}
 use Rattle.model_shapes.specs.Trees.{fill}
 use Rattle.model_shapes.proofs.Shapes.{Same-refl}

@@ -1,5 +1,5 @@
 -- The rows of lengths are sound.
-use Rattle.std.proofs.Common.{ℕ, sym, ap, ◌∙◌}
+use Rattle.std.proofs.Common.{sym, ap, ◌∙◌}
 use Rattle.model_shapes.specs.Sorts.{shape, forest}
 use Rattle.model_shapes.specs.Trees.{width}
 use Rattle.model_shapes.proofs.Narrow.{no_roots}

@@ -1,5 +1,5 @@
 -- The second half of the table of entailment rules is sound, and so is each instance of its rules.
-use Rattle.std.proofs.Common.{ℕ, List, [], ◌∷◌, ◌++◌}
+use Rattle.std.proofs.Common.{List, [], ◌∷◌, ◌++◌}
 use Rattle.entailment_laws.specs.Judgements.{Reading}
 use Rattle.rule_table.specs.Entries.{Entry}
 use Rattle.rule_table.specs.SecondHalf.{second_half}

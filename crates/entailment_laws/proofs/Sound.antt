@@ -1,5 +1,5 @@
 -- Each row of the table of entailments is sound.
-use Rattle.std.proofs.Common.{ℕ, ◌++◌}
+use Rattle.std.proofs.Common.{◌++◌}
 use Rattle.entailment_laws.specs.Judgements.{Reading}
 use Rattle.rule_table.specs.Table.{first_half, entailments}
 use Rattle.rule_table.specs.SecondHalf.{second_half}

@@ -1,5 +1,4 @@
 -- The rows of the connectives and the quantifiers are sound.
-use Rattle.std.proofs.Common.{ℕ}
 use Rattle.entailment_laws.specs.Judgements.{Reading}
 use Rattle.rule_table.specs.Letters.{as_logic}
 use Rattle.rule_table.specs.Logic as Lo

@@ -1,5 +1,5 @@
 -- The rows of monotony, and those of pure formulas, are sound.
-use Rattle.std.proofs.Common.{ℕ, Option, Some, None, map}
+use Rattle.std.proofs.Common.{Option, Some, None, map}
 use Rattle.model_shapes.specs.Sorts.{shape, context, DataSort, tree, forest, grove}
 use Rattle.model_formulas.specs.Formulas.{whole, hole_left, hole_right, application, node_formula, one_tree, one_root}
 use Rattle.model_formulas.specs.Satisfaction.{Entails}

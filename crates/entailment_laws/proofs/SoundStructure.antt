@@ -1,5 +1,4 @@
 -- The rows of regrouping, units and the order of roots are sound, both ways.
-use Rattle.std.proofs.Common.{ℕ}
 use Rattle.entailment_laws.specs.Judgements.{Reading}
 use Rattle.rule_table.specs.Letters.{Letters}
 use Rattle.rule_table.specs.Lines.{Line}

@@ -1,5 +1,5 @@
 -- The rows of equations, orders and texts are sound.
-use Rattle.std.proofs.Common.{◌≡◌, ℕ, sym, ap, ◌∙◌, subst, true, false, cond}
+use Rattle.std.proofs.Common.{◌≡◌, sym, ap, ◌∙◌, subst, true, false, cond}
 use Rattle.model_shapes.proofs.Truth.{false≢true}
 use Rattle.model_shapes.specs.Sorts.{Sort, value, int_sort, str_sort}
 use Rattle.model_shapes.specs.Values.{Value}

@@ -1,5 +1,4 @@
 -- The rows of variables, of what cancels beside them and of `is` are sound.
-use Rattle.std.proofs.Common.{ℕ}
 use Rattle.model_shapes.specs.Sorts.{shape, forest, grove}
 use Rattle.entailment_laws.specs.Judgements.{Reading}
 use Rattle.rule_table.specs.Letters.{as_logic, as_term}

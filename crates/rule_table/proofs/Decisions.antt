@@ -2,8 +2,7 @@
 use Rattle.std.proofs.Common.{◌≡◌, refl, Bool, true, false, List, [], ◌∷◌, map}
 use Rattle.model_shapes.proofs.Truth.{false≢true}
 use Rattle.model_shapes.specs.Sorts.{ValueSort, value}
-use Rattle.model_terms.specs.Variables.{prog, logic, bound}
-use Rattle.model_terms.specs.Terms.{Term, literal, variable, sum, difference, appended}
+use Rattle.model_terms.specs.Terms.{Term}
 use Rattle.model_formulas.specs.Formulas.{Formula, at_most, equality, falsity}
 use Rattle.model_terms.specs.TermSorts.{has_sort}
 use Rattle.rule_table.specs.Lines.{TermAt, of_sort}

@@ -1,5 +1,5 @@
 -- The axiom append holds in every context.
-use Rattle.std.proofs.Common.{◌≡◌, ℕ, ◌≤◌, ◌*◌, List, [], ◌∷◌, cond, refl, sym, ap, ◌∙◌, subst, arith}
+use Rattle.std.proofs.Common.{◌≡◌, ℕ, ◌≤◌, ◌*◌, List, [], cond, refl, sym, ap, ◌∙◌, subst, arith, true}
 use mathlib.Core.HLevel.{Stable}
 use Rattle.model_shapes.specs.Shapes.{holes, Shaped, SameAt}
 use Rattle.model_shapes.specs.Sorts.{DataSort, shape, context, tree, forest, grove, node_sort}
@@ -12,12 +12,13 @@ use Rattle.model_formulas.specs.Formulas.{Formula, node_formula, application, ho
 use Rattle.model_formulas.specs.Satisfaction.{Environment, Meets, Proper, with_store}
 use Rattle.model_terms.specs.Terms.{Term}
 use Rattle.model_commands.specs.Commands.{append_child}
-use Rattle.model_commands.specs.SortTests.{BodiesSorted}
+use Rattle.model_commands.specs.SortTests.{is_sorted, BodiesSorted}
 use Rattle.model_groves.specs.Groves.{nodes_where, numbered, node_at, without, adding, positive}
 use Rattle.model_machine.specs.ClassicalTriples.{Ends, Stands}
 use Rattle.model_groves.specs.Picks.{Pick}
-use Rattle.model_machine.specs.Machine.{run, runs, becomes, faults, cycle, appending}
+use Rattle.model_machine.specs.Machine.{beginning, run, runs, becomes, faults, cycle, appending}
 use Rattle.model_commands.specs.Sorting.{Sorted}
+use Rattle.model_commands.proofs.Sorting.{sorted-command}
 use Rattle.model_terms.specs.Stores.{Store, lookup, value_of}
 use Rattle.model_commands.specs.Theories.{Procedures}
 use Rattle.model_machine.proofs.Fine.{appended-shaped}
@@ -62,9 +63,13 @@ appending-lands J i j t q m st g w e used h =
 
 module _ (ps : Procedures) (bodies : BodiesSorted ps) (h d : DataSort) (not-tree : h ≡ tree → ⊥)
     (k : Formula) (a b s i : Term) (p : Formula) (l t j : Term) (q : Formula) (m : Term)
-    (so : Sorted ps (append_child a b)) (e : Environment) (st : Store)
+    (fits : is_sorted ps (append_child a b) ≡ true) (e : Environment) (st : Store)
     (pr : Proper (with_store (lookup st) e))
   where
+    -- what its terms are
+    so : Sorted ps (append_child a b)
+    so = sorted-command ps (append_child a b) fits
+
     abbrev env : Environment
     env = with_store (lookup st) e
 
@@ -219,19 +224,18 @@ module _ (ps : Procedures) (bodies : BodiesSorted ps) (h d : DataSort) (not-tree
         (equality a i)) (equality b j)) env (shape d) r
         → (c : Trees) → Shaped (context d grove) c → Shaped (shape grove) (fill c r)
         → (picks : List Pick)
-        → Ends ⊥ (Stands d c post e) (runs ps picks (run (append_child a b) ∷ []) st (fill c r))
+        → Ends ⊥ (Stands d c post e) (runs ps picks (beginning (append_child a b) st (fill c r)))
     append-sound r wr mt c wc w picks = stable-goal (λ n. mt.0.0 (λ x. x.2 (λ y.
         n (with_parts x.0 x.1 y.0 y.1 y.2.0 y.2.1 (alone-meets h child env y.0 not-tree y.2.2)))))
       where
         stable-goal : Stable (Ends ⊥ (Stands d c post e) (runs ps picks
-            (run (append_child a b) ∷ []) st (fill c r)))
-        stable-goal = stable-ends d c post e (runs ps picks (run (append_child a b) ∷ []) st
-            (fill c r))
+            (beginning (append_child a b) st (fill c r))))
+        stable-goal = stable-ends d c post e (runs ps picks (beginning (append_child a b) st (fill c r)))
 
         with_parts : (c1 : Trees) → Shaped (context h d) c1 → (u : Trees) → Shaped (shape h) u
             → SameAt d r (fill c1 u) → Meets hole_round_parent env (context h d) c1
             → Shaped (shape tree) u × Meets child env (shape tree) u
-            → Ends ⊥ (Stands d c post e) (runs ps picks (run (append_child a b) ∷ []) st (fill c r))
+            → Ends ⊥ (Stands d c post e) (runs ps picks (beginning (append_child a b) st (fill c r)))
         with_parts c1 wc1 u wu samer adj mu = stable-goal (λ n.
             adj none (nothing-Shaped h not-tree) refl emptied (λ x. x.2 (λ y.
             n (with_parent x.0 x.1 y.0 y.1 y.2.0 y.2.1 (node-met s i p l env y.0 y.2.2)))))
@@ -260,14 +264,13 @@ module _ (ps : Procedures) (bodies : BodiesSorted ps) (h d : DataSort) (not-tree
             with_parent : (c2 : Trees) → Shaped (context tree d) c2 → (n : Trees)
                 → Shaped (shape tree) n → SameAt d (fill c1 none) (fill c2 n)
                 → Meets k env (context tree d) c2 → NodeMet s i p l env n
-                → Ends ⊥ (Stands d c post e) (runs ps picks (run (append_child a b) ∷ []) st
-                (fill c r))
+                → Ends ⊥ (Stands d c post e) (runs ps picks (beginning (append_child a b) st (fill c r)))
             with_parent c2 wc2 n wn same mk x =
                 let at : Trees = node v.name v.number v.kids v.list none in
                 let g : Trees = fill (fill c c1) at in
                 let whole-at : Shaped (shape grove) g =
                 subst (λ z. Shaped (shape grove) (fill (fill c c1) z)) v.is start-whole in
-                on-same ps bodies d c post e (append_child a b) st (fill c r) g picks so
+                on-same ps bodies d c post e (append_child a b) st (fill c r) g picks fits
                 (proper-store st e pr) whole-at (SameAt-sym grove (fill c r) g
                 (subst (λ z. SameAt grove (fill c r) (fill (fill c c1) z)) v.is start-same))
                 (one-step ps (Stands d c post e) picks (run (append_child a b)) st g (λ pick.

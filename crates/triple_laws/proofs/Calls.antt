@@ -15,7 +15,7 @@ use Rattle.model_commands.specs.SortTests.{BodiesSorted}
 use Rattle.model_commands.specs.Scopes.{IsScoped}
 use Rattle.model_machine.specs.ClassicalTriples.{TripleFor}
 use Rattle.model_machine.specs.Machine.{run, entering, returning, return, calling}
-use Rattle.model_programs.specs.Sorting.{InTerms}
+use Rattle.rule_table.specs.Lines.{InTerms}
 use Rattle.model_commands.specs.Sorting.{Feed, Receive, Distinct}
 use Rattle.model_terms.specs.Stores.{Store, lookup, ProperStore, ProgVar, named, as_var, value_in}
 use Rattle.model_commands.specs.Theories.{Procedures, Procedure, procedure_named}

@@ -26,8 +26,10 @@ use Rattle.model_machine.proofs.Runs.{Well, Well-less, at_end, at_step, at_zero,
 use Rattle.model_terms.proofs.StoreLaws.{set-proper, value-fits, default-fits, set-same}
 use Rattle.model_commands.proofs.StoreLaws.{meaning-value, proper-store, other-store, set-meaning, true-meets, false-fails}
 use Rattle.model_rules.proofs.Ends.{At, At-map, Sound, to_sound}
-use Rattle.model_rules.proofs.Rules.{set-env}
-use Rattle.triple_laws.specs.BySteps.{AllProved}
+use Rattle.triple_laws.proofs.Endings.{set-env}
+use Rattle.entailment_laws.specs.Judgements.{AllProved}
+use Rattle.triple_laws.specs.BySteps.{in_steps}
+use Rattle.triple_laws.proofs.Fitting.{step-sorted}
 use Rattle.rule_table.specs.Triples.{chain, block_of, last_of}
 use Rattle.entailment_laws.proofs.Quantified.{setting-agrees}
 
@@ -107,7 +109,7 @@ module _ (th : Procedures) (bodies : BodiesSorted th) where
 
   -- BLOCKS: the commands one after the other
   chain-sound : (n : ℕ) (d : DataSort) (p : Formula) (links : List (Command × Formula))
-      → AllProved th n (chain p links d)
+      → AllProved (in_steps th n) (chain p links d)
       → (e : Environment) (c : Trees) → Shaped (context d grove) c
       → (st : Store) (g : Trees) → At d c p e st g
       → Well th ⊥ n (At d c (last_of p links) e) (pieces_of (block_of links)) st g
@@ -115,10 +117,10 @@ module _ (th : Procedures) (bodies : BodiesSorted th) where
   chain-sound n d p (link ∷ links) h e c wc st g a =
       followed th ⊥ n (At d c link.1 e) _ (run link.0 ∷ []) (pieces_of (block_of links))
       (λ st' g' a'. chain-sound n d link.1 links h.1 e c wc st' g' a') st g
-      (to_sound th bodies n p link.0 link.1 d h.0.0 h.0.1 e c wc st g a)
+      (to_sound th bodies n p link.0 link.1 d (step-sorted th link.0 h.0.0) h.0.1 e c wc st g a)
 
   pub seq-sound : (n : ℕ) (d : DataSort) (p : Formula) (links : List (Command × Formula))
-      → AllProved th n (chain p links d)
+      → AllProved (in_steps th n) (chain p links d)
       → Sound th bodies n p (block (block_of links)) (last_of p links) d
   seq-sound n d p links h e c wc st g a =
       step-first th n _ (run (block (block_of links))) [] st g (λ m l k.

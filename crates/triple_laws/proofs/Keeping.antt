@@ -10,19 +10,20 @@ use Rattle.model_formulas.specs.Satisfaction.{Environment, Meets, with_store}
 use Rattle.model_terms.specs.Variables.{bound, Var, prog, logic}
 use Rattle.model_commands.specs.Commands.{Command, Modifies}
 use Rattle.model_machine.specs.ClassicalTriples.{Ends}
-use Rattle.model_machine.specs.Machine.{run, runs, Piece, RunOutcome, running, ended, fault, picked_badly}
+use Rattle.model_machine.specs.Machine.{beginning, configuration, run, runs, Piece, RunOutcome, running, ended, fault, picked_badly}
 use Rattle.model_terms.specs.Stores.{Store, lookup, ProgVar, named, as_var, value_in}
 use Rattle.model_commands.specs.Theories.{Procedures}
 use Rattle.model_machine.proofs.Runs.{Well}
 use Rattle.model_machine.proofs.Unmodified.{unmodified}
-use Rattle.model_rules.proofs.Ends.{stable-At, At, stable-Ends}
+use Rattle.model_rules.proofs.Ends.{At}
+use Rattle.triple_laws.proofs.Endings.{stable-At, stable-Ends}
 
 -- that runs end well is stable
 pub Well-stable : (ps : Procedures) (n : ℕ) (d : DataSort) (c : Trees) (q : Formula)
     (e : Environment) (k : List Piece) (st : Store) (g : Trees)
     → Stable (Well ps ⊥ n (At d c q e) k st g)
 Well-stable ps n d c q e k st g h picks l =
-    stable-Ends (At d c q e) (stable-At d c q e) (runs ps picks k st g)
+    stable-Ends (At d c q e) (stable-At d c q e) (runs ps picks (configuration k st g))
     (λ m. h (λ w. m (w picks l)))
 
 -- the same data, where it meets another formula
@@ -41,9 +42,9 @@ pub with-kept : (ps : Procedures) (n : ℕ) (J : Store → Trees → Type 0) (cm
     (st : Store) (g : Trees) → Well ps ⊥ n J (run cmd ∷ []) st g
     → Well ps ⊥ n (λ st' g'. J st' g' × Kept cmd st st') (run cmd ∷ []) st g
 with-kept ps n J cmd st g w picks l =
-    kept-too (runs ps picks (run cmd ∷ []) st g) refl (w picks l)
+    kept-too (runs ps picks (beginning cmd st g)) refl (w picks l)
   where
-    kept-too : (o : RunOutcome) → runs ps picks (run cmd ∷ []) st g ≡ o → Ends ⊥ J o
+    kept-too : (o : RunOutcome) → runs ps picks (beginning cmd st g) ≡ o → Ends ⊥ J o
         → Ends ⊥ (λ st' g'. J st' g' × Kept cmd st st') o
     kept-too running e m = tt
     kept-too picked_badly e m = tt

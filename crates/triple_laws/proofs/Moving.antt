@@ -1,5 +1,5 @@
 -- What the axioms append, remove and create share.
-use Rattle.std.proofs.Common.{◌≡◌, ℕ, ◌≤◌, ◌+◌, ◌*◌, List, [], ◌∷◌, cond, refl, sym, ap, subst, arith}
+use Rattle.std.proofs.Common.{◌≡◌, ℕ, ◌≤◌, ◌+◌, ◌*◌, List, [], ◌∷◌, cond, refl, sym, ap, subst, arith, true}
 use Rattle.std.proofs.Math.Decide.{ℕ_discrete}
 use Rattle.model_shapes.specs.Shapes.{holes, root_holes, Shaped, OneHole, Same, SameAt}
 use Rattle.model_shapes.specs.Sorts.{DataSort, Sort, shape, context, tree, forest, grove, outer, with_outer}
@@ -11,19 +11,18 @@ use Rattle.model_formulas.specs.Formulas.{Formula, Side, application}
 use Rattle.model_formulas.specs.Satisfaction.{Environment, Meets, Splits}
 use Rattle.model_formulas.specs.Formulas.{left_sort, right_sort}
 use Rattle.model_commands.specs.Commands.{Command}
-use Rattle.model_commands.specs.SortTests.{BodiesSorted}
+use Rattle.model_commands.specs.SortTests.{is_sorted, BodiesSorted}
 use Rattle.model_groves.specs.Groves.{nodes_where, numbered}
 use Rattle.model_machine.specs.ClassicalTriples.{Ends, Stands}
 use Rattle.model_groves.specs.Picks.{Pick}
-use Rattle.model_machine.specs.Machine.{run, runs}
-use Rattle.model_commands.specs.Sorting.{Sorted}
+use Rattle.model_machine.specs.Machine.{beginning, run, runs}
 use Rattle.model_groves.specs.Groves.{is_yes}
 use Rattle.model_terms.specs.Stores.{Store, ProperStore}
 use Rattle.model_commands.specs.Theories.{Procedures}
 use Rattle.model_machine.proofs.Fine.{less-WellFormed}
 use Rattle.model_groves.proofs.Groves.{those-pass, Roots, found-number}
 use Rattle.model_machine.proofs.SameRuns.{same-runs}
-use Rattle.model_rules.proofs.Ends.{Ends-same}
+use Rattle.triple_laws.proofs.Endings.{Ends-same}
 use Rattle.entailment_laws.proofs.Parts.{none-Shaped}
 use Rattle.triple_laws.proofs.Here.{Found}
 
@@ -134,12 +133,12 @@ Stands-same d c q e st g g' same s =
 
 pub on-same : (ps : Procedures) → BodiesSorted ps → (d : DataSort) (c : Trees) (q : Formula)
     (e : Environment) (cmd : Command) (st : Store) (g g' : Trees) (picks : List Pick)
-    → Sorted ps cmd → ProperStore st → Shaped (shape grove) g' → SameAt grove g' g
-    → Ends ⊥ (Stands d c q e) (runs ps picks (run cmd ∷ []) st g')
-    → Ends ⊥ (Stands d c q e) (runs ps picks (run cmd ∷ []) st g)
+    → is_sorted ps cmd ≡ true → ProperStore st → Shaped (shape grove) g' → SameAt grove g' g
+    → Ends ⊥ (Stands d c q e) (runs ps picks (beginning cmd st g'))
+    → Ends ⊥ (Stands d c q e) (runs ps picks (beginning cmd st g))
 on-same ps bodies d c q e cmd st g g' picks so pr w same h =
     Ends-same (Stands d c q e) (λ st' g1 g2. Stands-same d c q e st' g1 g2)
-    (runs ps picks (run cmd ∷ []) st g') (runs ps picks (run cmd ∷ []) st g)
+    (runs ps picks (beginning cmd st g')) (runs ps picks (beginning cmd st g))
     (same-runs ps bodies picks (run cmd ∷ []) st g' g (so, tt)
     (record { proper = pr; whole = w }) same) h
 

@@ -13,7 +13,7 @@ use Rattle.model_terms.specs.Terms.{Term, InTerm}
 use Rattle.model_terms.specs.Stores.{Store, lookup, value_of, ProgVar, as_var, set}
 use Rattle.model_terms.specs.Computing.{Computes}
 use Rattle.model_commands.proofs.StoreLaws.{meaning-value}
-use Rattle.model_rules.proofs.Rules.{set-env}
+use Rattle.triple_laws.proofs.Endings.{set-env}
 use Rattle.entailment_laws.proofs.Quantified.{setting-agrees}
 use Rattle.triple_laws.proofs.Finding.{parent_tree}
 use Rattle.triple_laws.proofs.Passing.{meaning-agrees}

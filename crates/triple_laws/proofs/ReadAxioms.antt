@@ -1,5 +1,5 @@
 -- The axioms of the commands that read: name, children, item, item_none, parent and parent_none.
-use Rattle.std.proofs.Common.{◌≡◌, ◌⊎◌, ℕ, ℤ, zero, suc, ◌≤◌, List, [], ◌∷◌, pos, negsuc, int_le, IsTrue, false, cond, ◌||◌, refl, sym, ap, ◌∙◌, subst, arith, inl, inr, ⊎_elim, leb-true}
+use Rattle.std.proofs.Common.{◌≡◌, ◌⊎◌, ℕ, ℤ, zero, suc, ◌≤◌, List, pos, negsuc, int_le, IsTrue, false, cond, ◌||◌, refl, sym, ap, ◌∙◌, subst, arith, inl, inr, ⊎_elim, leb-true}
 use mathlib.Core.HLevel.{dec→stable}
 use Rattle.model_shapes.specs.Shapes.{holes, root_holes, Shaped, OneHole}
 use Rattle.model_shapes.specs.Sorts.{DataSort, shape, context, tree, grove, node_sort, list_sort, int_sort}
@@ -18,7 +18,7 @@ use Rattle.model_commands.specs.Commands.{Command, node_name, child_nodes, paren
 use Rattle.model_groves.specs.Groves.{has_root, numbered, listed, parental, nodes_where, node_at, list_at, first_number, number_at, item_of}
 use Rattle.model_machine.specs.ClassicalTriples.{Ends, Stands, TripleFor}
 use Rattle.model_groves.specs.Picks.{Pick}
-use Rattle.model_machine.specs.Machine.{run, move, reading, runs, FaultKind, no_node, no_list}
+use Rattle.model_machine.specs.Machine.{beginning, run, move, reading, runs, FaultKind, no_node, no_list}
 use Rattle.model_commands.specs.Sorting.{Sorted}
 use Rattle.model_terms.specs.Stores.{ProgVar, as_var, Store, set, lookup, value_of, int_in}
 use Rattle.model_terms.specs.Computing.{Computes}
@@ -162,7 +162,7 @@ module _ (ps : Procedures) (e : Environment) (st : Store) (d : DataSort) (c : Tr
         → (FreeIn (as_var x) N → ⊥) → (InTerm (as_var x) t → ⊥) → Meets N env (shape d) r
         → val (v s i k l) ≡ meaning_of env t
         → Ends ⊥ (Stands d c (conjunction N (equality (variable (as_var x)) t)) e)
-        (runs ps picks (run cmd ∷ []) st (fill c r))
+        (runs ps picks (beginning cmd st (fill c r)))
     read N t x cmd found f v picks moves s i k l is not_n not_t m q =
         one-step ps J picks (run cmd) st (fill c r)
         (λ k. subst (Lands J) (sym (moves k))
@@ -293,7 +293,7 @@ module _ (ps : Procedures) (N : ℕ → Type 0) where
 
           with_child : ParentMet s i p t j q m r l env' d
               → Ends ⊥ (Stands tree c (conjunction family (equality (variable (as_var x)) i)) e)
-              (runs ps picks (run (parent_node x u) ∷ []) st (fill c d))
+              (runs ps picks (beginning (parent_node x u) st (fill c d)))
           with_child y =
               read ps e st tree c wc d wd w family i x (parent_node x u) _ no_node
               (λ s i k l. first_number (nodes_where (parental i) (fill c d))) picks
@@ -351,7 +351,7 @@ module _ (ps : Procedures) (N : ℕ → Type 0) where
           with_child : ParentMet s i (conjunction p (length_is g)) t j q m r l env' d
               → Ends ⊥ (Stands tree c (conjunction counted_family
               (equality (variable (as_var x)) j)) e)
-              (runs ps picks (run (list_item x u f) ∷ []) st (fill c d))
+              (runs ps picks (beginning (list_item x u f) st (fill c d)))
           with_child y =
               read ps e st tree c wc d wd w counted_family j x (list_item x u f) _ no_list
               (λ s i k l. item_of (value_of st f) k) picks

@@ -1,5 +1,5 @@
 -- The axiom remove holds in every context.
-use Rattle.std.proofs.Common.{◌≡◌, ℕ, ◌≤◌, ◌+◌, List, [], ◌∷◌, true, false, cond, refl, sym, ap, ◌∙◌, subst, arith}
+use Rattle.std.proofs.Common.{◌≡◌, ℕ, ◌≤◌, ◌+◌, List, [], true, false, cond, refl, sym, ap, ◌∙◌, subst, arith}
 use Rattle.std.proofs.Math.Decide.{ℕ_discrete}
 use mathlib.Core.HLevel.{Stable}
 use Rattle.model_shapes.specs.Shapes.{holes, Shaped, SameAt}
@@ -13,12 +13,13 @@ use Rattle.model_formulas.specs.Formulas.{grove_sum, Formula, node_formula, appl
 use Rattle.model_formulas.specs.Satisfaction.{Environment, Meets, Proper, with_store}
 use Rattle.model_terms.specs.Terms.{Term}
 use Rattle.model_commands.specs.Commands.{remove_child}
-use Rattle.model_commands.specs.SortTests.{BodiesSorted}
+use Rattle.model_commands.specs.SortTests.{is_sorted, BodiesSorted}
 use Rattle.model_groves.specs.Groves.{nodes_where, numbered, node_at, without, has_root}
 use Rattle.model_machine.specs.ClassicalTriples.{Ends, Stands}
 use Rattle.model_groves.specs.Picks.{Pick}
-use Rattle.model_machine.specs.Machine.{run, runs, becomes, faults, not_child, removing}
+use Rattle.model_machine.specs.Machine.{beginning, run, runs, becomes, faults, not_child, removing}
 use Rattle.model_commands.specs.Sorting.{Sorted}
+use Rattle.model_commands.proofs.Sorting.{sorted-command}
 use Rattle.model_groves.specs.Groves.{is_yes}
 use Rattle.model_terms.specs.Stores.{Store, lookup, value_of}
 use Rattle.model_commands.specs.Theories.{Procedures}
@@ -48,9 +49,13 @@ removing-lands J i j s k l t q m st g e e' c h =
 
 module _ (ps : Procedures) (bodies : BodiesSorted ps) (k : Formula) (a b s i : Term) (p : Formula)
     (t j : Term) (q : Formula) (m : Term) (r : Formula) (l : Term)
-    (so : Sorted ps (remove_child a b)) (e : Environment) (st : Store)
+    (fits : is_sorted ps (remove_child a b) ≡ true) (e : Environment) (st : Store)
     (pr : Proper (with_store (lookup st) e))
   where
+    -- what its terms are
+    so : Sorted ps (remove_child a b)
+    so = sorted-command ps (remove_child a b) fits
+
     abbrev env : Environment
     env = with_store (lookup st) e
 
@@ -235,23 +240,21 @@ module _ (ps : Procedures) (bodies : BodiesSorted ps) (k : Formula) (a b s i : T
         (equality a i)) (equality b j)) env (shape grove) d
         → (c : Trees) → Shaped (context grove grove) c → Shaped (shape grove) (fill c d)
         → (picks : List Pick)
-        → Ends ⊥ (Stands grove c post e) (runs ps picks (run (remove_child a b) ∷ []) st (fill c d))
+        → Ends ⊥ (Stands grove c post e) (runs ps picks (beginning (remove_child a b) st (fill c d)))
     remove-sound d wd mt c wc w picks = stable-goal (λ n. mt.0.0 (λ x. x.2 (λ y.
         n (with_parent x.0 x.1 y.0 y.1 y.2.0 y.2.1
         (parent-met _ stable-goal s i p t j q m r l env y.0 y.2.2)))))
       where
         stable-goal : Stable (Ends ⊥ (Stands grove c post e)
-            (runs ps picks (run (remove_child a b) ∷ []) st (fill c d)))
-        stable-goal = stable-ends grove c post e (runs ps picks (run (remove_child a b) ∷ []) st
-            (fill c d))
+            (runs ps picks (beginning (remove_child a b) st (fill c d))))
+        stable-goal = stable-ends grove c post e (runs ps picks (beginning (remove_child a b) st (fill c d)))
 
         with_child : (c1 : Trees) → Shaped (context tree grove) c1 → (n : Trees)
             → Shaped (shape tree) n → SameAt grove d (fill c1 n)
             → Meets k env (context tree grove) c1 → ParentMet s i p t j q m r l env n
-            → Ends ⊥ (Stands grove c post e) (runs ps picks (run (remove_child a b) ∷ []) st
-            (fill c d))
+            → Ends ⊥ (Stands grove c post e) (runs ps picks (beginning (remove_child a b) st (fill c d)))
         with_child c1 wc1 n wn same mk y =
-            on-same ps bodies grove c post e (remove_child a b) st (fill c d) start' picks so
+            on-same ps bodies grove c post e (remove_child a b) st (fill c d) start' picks fits
             (proper-store st e pr) whole-there (SameAt-sym grove (fill c d) start' same-there)
             (one-step ps (Stands grove c post e) picks (run (remove_child a b)) st start' (λ pick.
             subst (λ v. Lands (Stands grove c post e) (removing (node_at v start')
@@ -290,10 +293,7 @@ module _ (ps : Procedures) (bodies : BodiesSorted ps) (k : Formula) (a b s i : T
             → Shaped (shape tree) n → SameAt grove d (fill c1 n)
             → Meets k env (context tree grove) c1
             → ((ParentMet s i p t j q m r l env n
-            → Ends ⊥ (Stands grove c post e) (runs ps picks (run (remove_child a b) ∷ []) st
-            (fill c d)))
-            → Ends ⊥ (Stands grove c post e) (runs ps picks (run (remove_child a b) ∷ []) st
-            (fill c d)))
-            → Ends ⊥ (Stands grove c post e) (runs ps picks (run (remove_child a b) ∷ []) st
-            (fill c d))
+            → Ends ⊥ (Stands grove c post e) (runs ps picks (beginning (remove_child a b) st (fill c d))))
+            → Ends ⊥ (Stands grove c post e) (runs ps picks (beginning (remove_child a b) st (fill c d))))
+            → Ends ⊥ (Stands grove c post e) (runs ps picks (beginning (remove_child a b) st (fill c d)))
         with_parent c1 wc1 n wn same mk met = met (λ y. with_child c1 wc1 n wn same mk y)

@@ -1,5 +1,5 @@
 -- Each row of the table of triples is sound, by the number of steps.
-use Rattle.std.proofs.Common.{◌≡◌, ◌⊎◌, ℕ, List, [], ◌∷◌, Some, subst, inl, inr, ⊎_elim}
+use Rattle.std.proofs.Common.{◌≡◌, ◌⊎◌, ℕ, List, [], ◌∷◌, Some, subst, inl, inr, ⊎_elim, true}
 use Rattle.rule_table.specs.Triples as Tr
 use Rattle.triple_laws.proofs.Control as Co
 use Rattle.triple_laws.proofs.Framing as Fr
@@ -13,27 +13,23 @@ use Rattle.model_shapes.specs.Sorts.{DataSort, forest, grove}
 use Rattle.model_formulas.specs.Formulas.{Formula, node_formula, conjunction, length_is}
 use Rattle.model_formulas.specs.Substitution.{FreeIn}
 use Rattle.model_terms.specs.Terms.{Term}
-use Rattle.model_commands.specs.Commands.{Command}
+use Rattle.model_commands.specs.Commands.{Command, assign, create_node, node_name, child_nodes, parent_node, list_item, append_child, remove_child, if_else, while_do, call}
 use Rattle.model_commands.specs.SortTests.{BodiesSorted}
 use Rattle.model_commands.specs.Scopes.{IsScoped}
-use Rattle.model_programs.specs.Sorting.{InTerms}
-use Rattle.model_commands.specs.Sorting.{CallFits}
+use Rattle.rule_table.specs.Lines.{InTerms}
+use Rattle.model_commands.specs.Sorting.{CallFits, Sorted}
+use Rattle.model_commands.proofs.Sorting.{sorted-command}
 use Rattle.model_terms.specs.Stores.{ProgVar, as_var}
 use Rattle.model_commands.specs.Theories.{Procedures, Procedure, procedure_named, triple}
 use Rattle.model_rules.proofs.Ends.{Sound, to_sound, from_sound}
-use Rattle.triple_laws.specs.BySteps.{UpTo, Proved, HoldBelow}
+use Rattle.entailment_laws.specs.Judgements.{Proved}
+use Rattle.triple_laws.specs.BySteps.{UpTo, step_fits, in_steps, HoldBelow}
+use Rattle.triple_laws.proofs.Fitting.{step-sorted, call-apart}
 use Rattle.rule_table.specs.Lines.{FreeInSome}
 use Rattle.rule_table.specs.Triples.{axioms, triples}
-use Rattle.entailment_laws.proofs.Instances.{both-sound}
-use Rattle.entailment_laws.proofs.SoundRows.{term-stands}
-use Rattle.entailment_laws.proofs.SoundRows.{SoundRow, SoundEntries}
+use Rattle.entailment_laws.proofs.SoundRows.{SoundRow, SoundEntries, sound-append, term-stands, ◌&◌}
 use Rattle.triple_laws.proofs.NodesMet.{holding_child}
 
--- both
-abbrev ◌&◌ : {A B : Type 0} → A → B → A × B
-a & b = (a, b)
-
-infixr 10 ◌&◌
 -- THE CONDITION ASSIGNED: a variable that is in no letter of a row isn't in its formulas
 abbrev InNone : ProgVar → List Term → List Formula → Type 0
 InNone v ts ps = InTerms (as_var v) ts ⊎ FreeInSome (as_var v) ps → ⊥
@@ -111,130 +107,137 @@ Scoped ps = (name : List ℕ) (f : Procedure) → procedure_named name ps ≡ So
 
 module _ (ps : Procedures) (bodies : BodiesSorted ps) (n : ℕ) where
   -- a premise, from the start of its runs
-  begin : (p : Formula) (c : Command) (q : Formula) (d : DataSort) → Proved ps n (triple p c q d)
+  begin : (p : Formula) (c : Command) (q : Formula) (d : DataSort) → Proved (in_steps ps n) (triple p c q d)
       → Sound ps bodies n p c q d
-  begin p c q d h = to_sound ps bodies n p c q d h.0 h.1
+  begin p c q d h = to_sound ps bodies n p c q d (step-sorted ps c h.0) h.1
+
+  -- the parts of the command of a conclusion
+  parts : (c : Command) → step_fits ps c ≡ true → Sorted ps c
+  parts c e = sorted-command ps c (step-sorted ps c e)
 
   -- RULES
-  skip : SoundRow ps bodies n Tr.skip_rule
+  skip : SoundRow (in_steps ps n) Tr.skip_rule
   skip l so w c h = from_sound ps bodies n l.P _ l.P l.k (Co.skip-sound ps bodies n l.P l.k)
 
-  assign : SoundRow ps bodies n Tr.assign_rule
-  assign l so w c h =
-      from_sound ps bodies n _ _ l.Q l.k (Co.assign-sound ps bodies n l.Q l.v l.E l.k so)
+  assigns : SoundRow (in_steps ps n) Tr.assign_rule
+  assigns l so w c h =
+      from_sound ps bodies n _ _ l.Q l.k (Co.assign-sound ps bodies n l.Q l.v l.E l.k (parts (assign l.v l.E) so))
 
-  seq : SoundRow ps bodies n Tr.seq_rule
+  seq : SoundRow (in_steps ps n) Tr.seq_rule
   seq l so w c h =
       from_sound ps bodies n l.P _ _ l.k (Co.seq-sound ps bodies n l.k l.P l.links h)
 
-  if : SoundRow ps bodies n Tr.if_rule
+  if : SoundRow (in_steps ps n) Tr.if_rule
   if l so w c h =
       from_sound ps bodies n l.P _ l.Q l.k
-      (Co.if-sound ps bodies n l.P l.c l.b l.b' l.Q l.k so.0 (begin _ _ l.Q l.k h.0)
+      (Co.if-sound ps bodies n l.P l.c l.b l.b' l.Q l.k (parts (if_else l.c l.b l.b') so).0 (begin _ _ l.Q l.k h.0)
       (begin _ _ l.Q l.k h.1.0))
 
-  while : SoundRow ps bodies n Tr.while_rule
+  while : SoundRow (in_steps ps n) Tr.while_rule
   while l so w c h =
       from_sound ps bodies n l.P _ _ l.k
-      (Co.while-sound ps bodies l.P l.c l.b l.k so.0 n (begin _ _ l.P l.k h.0))
+      (Co.while-sound ps bodies l.P l.c l.b l.k (parts (while_do l.c l.b) so).0 n (begin _ _ l.P l.k h.0))
 
-  local : SoundRow ps bodies n Tr.local_rule
-  local l so w c h =
+  locals : SoundRow (in_steps ps n) Tr.local_rule
+  locals l so w c h =
       from_sound ps bodies n l.P _ l.Q l.k
       (Co.local-sound ps bodies l.P l.v l.b l.Q l.k (⊎_elim c.0 c.1.0) n (begin _ _ l.Q l.k h.0))
 
-  frame : SoundRow ps bodies n Tr.frame_rule
+  frame : SoundRow (in_steps ps n) Tr.frame_rule
   frame l so w c h =
       from_sound ps bodies n _ l.C _ l.k
       (Fr.frame-sound ps bodies n l.K l.P l.Q l.C l.h l.k c.0 (begin l.P l.C l.Q l.h h.0))
 
-  consequence : SoundRow ps bodies n Tr.consequence_rule
+  consequence : SoundRow (in_steps ps n) Tr.consequence_rule
   consequence l so w c h =
       from_sound ps bodies n l.P l.C l.Q l.k
       (Fr.consequence-sound ps bodies n l.P l.A l.Q l.B l.C l.k h.0.1 h.1.1.0.1
       (begin l.A l.C l.B l.k h.1.0))
 
-  eliminate : SoundRow ps bodies n Tr.eliminate_rule
+  eliminate : SoundRow (in_steps ps n) Tr.eliminate_rule
   eliminate l so w c h =
       from_sound ps bodies n _ l.C _ l.k
       (Lo.eliminate-sound ps bodies n l.x.name l.x.sort l.P l.Q l.C l.k
       (begin l.P l.C l.Q l.k h.0))
 
-  disjunction : SoundRow ps bodies n Tr.disjunction_rule
+  disjunction : SoundRow (in_steps ps n) Tr.disjunction_rule
   disjunction l so w c h =
       from_sound ps bodies n _ l.C l.Q l.k
       (Fr.disjunction-sound ps bodies n l.P l.A l.Q l.C l.k (begin l.P l.C l.Q l.k h.0)
       (begin l.A l.C l.Q l.k h.1.0))
 
-  absurd_row : SoundRow ps bodies n Tr.absurd_rule
+  absurd_row : SoundRow (in_steps ps n) Tr.absurd_rule
   absurd_row l so w c h =
       from_sound ps bodies n _ l.C l.Q l.k (Fr.absurd-sound ps bodies n l.Q l.C l.k)
 
-  instance : SoundRow ps bodies n Tr.instance_rule
+  instance : SoundRow (in_steps ps n) Tr.instance_rule
   instance l so w c h =
       from_sound ps bodies n _ l.C _ l.k
       (Lo.instance-sound ps bodies n l.x.name l.x.sort l.P l.Q l.C l.k
       (begin l.P l.C l.Q l.k h.0) l.E (term-stands l.x.sort l.E w.1.0) c.0)
 
   module _ (scoped : Scoped ps) (below : HoldBelow ps n) where
-    call : SoundRow ps bodies n (λ letters. Tr.call_rule letters ps)
-    call l so w c h =
-        let fits : CallFits (Some l.f) l.rs l.es = subst (λ o. CallFits o l.rs l.es) w.0 so.0 in
+    calls : SoundRow (in_steps ps n) (λ letters. Tr.call_rule letters ps)
+    calls l so w c h =
+        let sorted : Sorted ps (call l.rs l.f.name l.es) = parts (call l.rs l.f.name l.es) so in
+        let fits : CallFits (Some l.f) l.rs l.es =
+        subst (λ o. CallFits o l.rs l.es) w.0 sorted.0 in
         from_sound ps bodies n _ _ _ l.f.sort
-        (Ca.call-sound ps bodies l.f (scoped l.f.name l.f w.0) l.rs l.es fits.0 fits.1 so.1 so.2 n
+        (Ca.call-sound ps bodies l.f (scoped l.f.name l.f w.0) l.rs l.es fits.0 fits.1 sorted.1
+        (call-apart ps l.rs l.f.name l.es so) n
         l.f.name w.0 (below l.f.name l.f w.0))
 
   -- AXIOMS
-  name : SoundRow ps bodies n Tr.name_axiom
+  name : SoundRow (in_steps ps n) Tr.name_axiom
   name l so w c h =
-      Re.name-sound ps (UpTo n) l.v l.E l.S l.I l.P l.L (not-in-node l.v l.S l.I l.P l.L c.0) so
+      Re.name-sound ps (UpTo n) l.v l.E l.S l.I l.P l.L (not-in-node l.v l.S l.I l.P l.L c.0) (parts (node_name l.v l.E) so)
 
-  children : SoundRow ps bodies n Tr.children_axiom
+  children : SoundRow (in_steps ps n) Tr.children_axiom
   children l so w c h =
-      Re.children-sound ps (UpTo n) l.v l.E l.S l.I l.P l.L (not-in-node l.v l.S l.I l.P l.L c.0) so
+      Re.children-sound ps (UpTo n) l.v l.E l.S l.I l.P l.L (not-in-node l.v l.S l.I l.P l.L c.0) (parts (child_nodes l.v l.E) so)
 
-  item : SoundRow ps bodies n Tr.item_axiom
+  item : SoundRow (in_steps ps n) Tr.item_axiom
   item l so w c h =
       Re.item-sound ps (UpTo n) l.v l.E l.F l.G l.S l.I l.P l.T l.J l.Q l.M l.R l.L
-      (not-in-item l.v l.S l.I l.P l.G l.T l.J l.Q l.M l.R l.L c.0) so
+      (not-in-item l.v l.S l.I l.P l.G l.T l.J l.Q l.M l.R l.L c.0) (parts (list_item l.v l.E l.F) so)
 
-  item_none : SoundRow ps bodies n Tr.item_none_axiom
+  item_none : SoundRow (in_steps ps n) Tr.item_none_axiom
   item_none l so w c h =
       Re.item-none-sound ps (UpTo n) l.v l.E l.F l.G l.S l.I l.P l.L
-      (not-in-length l.v l.S l.I l.P l.L l.G c.0) so
+      (not-in-length l.v l.S l.I l.P l.L l.G c.0) (parts (list_item l.v l.E l.F) so)
 
-  parent : SoundRow ps bodies n Tr.parent_axiom
+  parent : SoundRow (in_steps ps n) Tr.parent_axiom
   parent l so w c h =
       Re.parent-sound ps (UpTo n) l.v l.E l.S l.I l.P l.T l.J l.Q l.M l.R l.L
-      (not-in-parent l.v l.S l.I l.P l.T l.J l.Q l.M l.R l.L c.0) so
+      (not-in-parent l.v l.S l.I l.P l.T l.J l.Q l.M l.R l.L c.0) (parts (parent_node l.v l.E) so)
 
-  parent_none : SoundRow ps bodies n Tr.parent_none_axiom
+  parent_none : SoundRow (in_steps ps n) Tr.parent_none_axiom
   parent_none l so w c h =
       Re.parent-none-sound ps (UpTo n) l.v l.E l.S l.I l.P l.L
-      (not-in-node l.v l.S l.I l.P l.L c.0) so
+      (not-in-node l.v l.S l.I l.P l.L c.0) (parts (parent_node l.v l.E) so)
 
-  create : SoundRow ps bodies n Tr.create_axiom
-  create l so w c h = Cr.create-sound ps (UpTo n) l.v l.E l.T (λ a. c.0 (inl (inl a))) so
+  create : SoundRow (in_steps ps n) Tr.create_axiom
+  create l so w c h = Cr.create-sound ps (UpTo n) l.v l.E l.T (λ a. c.0 (inl (inl a))) (parts (create_node l.v l.E) so)
 
-  append_in_forest : SoundRow ps bodies n Tr.append_in_forest
+  append_in_forest : SoundRow (in_steps ps n) Tr.append_in_forest
   append_in_forest l so w c h e st pr r wr mt around wc wf picks long =
-      Ap.append-sound ps bodies forest l.k (λ q. cc) l.K l.E l.F l.S l.I l.P l.L l.T l.J l.Q l.M so
+      Ap.append-sound ps bodies forest l.k (λ q. cc) l.K l.E l.F l.S l.I l.P l.L l.T l.J l.Q l.M (step-sorted ps (append_child l.E l.F) so)
       e
       st pr r wr mt around wc wf picks
 
-  append_in_grove : SoundRow ps bodies n Tr.append_in_grove
+  append_in_grove : SoundRow (in_steps ps n) Tr.append_in_grove
   append_in_grove l so w c h e st pr r wr mt around wc wf picks long =
-      Ap.append-sound ps bodies grove grove (λ q. cc) l.K l.E l.F l.S l.I l.P l.L l.T l.J l.Q l.M so
+      Ap.append-sound ps bodies grove grove (λ q. cc) l.K l.E l.F l.S l.I l.P l.L l.T l.J l.Q l.M (step-sorted ps (append_child l.E l.F) so)
       e
       st pr r wr mt around wc wf picks
 
-  remove : SoundRow ps bodies n Tr.remove_axiom
+  remove : SoundRow (in_steps ps n) Tr.remove_axiom
   remove l so w c h e st pr r wr mt around wc wf picks long =
-      Rm.remove-sound ps bodies l.K l.E l.F l.S l.I l.P l.T l.J l.Q l.M l.R l.L so e st pr r wr mt
+      Rm.remove-sound ps bodies l.K l.E l.F l.S l.I l.P l.T l.J l.Q l.M l.R l.L (step-sorted ps (remove_child l.E l.F) so) e st pr r wr mt
       around wc wf picks
 
   -- EACH AXIOM, AND EACH RULE
-  pub axioms-sound : SoundEntries ps bodies n Tr.axioms
+  pub axioms-sound : SoundEntries (in_steps ps n) Tr.axioms
   axioms-sound =
       (name & tt) &
       (children & tt) &
@@ -246,15 +249,15 @@ module _ (ps : Procedures) (bodies : BodiesSorted ps) (n : ℕ) where
       (append_in_forest & append_in_grove & tt) &
       (remove & tt) & tt
 
-  pub rules-sound : Scoped ps → HoldBelow ps n → SoundEntries ps bodies n (Tr.rules ps)
+  pub rules-sound : Scoped ps → HoldBelow ps n → SoundEntries (in_steps ps n) (Tr.rules ps)
   rules-sound scoped below =
       (skip & tt) &
-      (assign & tt) &
+      (assigns & tt) &
       (seq & tt) &
       (if & tt) &
       (while & tt) &
-      (local & tt) &
-      (call scoped below & tt) &
+      (locals & tt) &
+      (calls scoped below & tt) &
       (frame & tt) &
       (consequence & tt) &
       (eliminate & tt) &
@@ -262,6 +265,6 @@ module _ (ps : Procedures) (bodies : BodiesSorted ps) (n : ℕ) where
       (absurd_row & tt) &
       (instance & tt) & tt
 
-  pub triples-sound : Scoped ps → HoldBelow ps n → SoundEntries ps bodies n (Tr.triples ps)
+  pub triples-sound : Scoped ps → HoldBelow ps n → SoundEntries (in_steps ps n) (Tr.triples ps)
   triples-sound scoped below =
-      both-sound ps bodies n (Tr.rules ps) Tr.axioms (rules-sound scoped below) axioms-sound
+      sound-append (in_steps ps n) (Tr.rules ps) Tr.axioms (rules-sound scoped below) axioms-sound

@@ -1,35 +1,42 @@
--- Judgements for the runs of so many steps: the form in which the rules are sound. Only laws speak
--- of it.
-use Rattle.std.specs.Prelude.{◌≡◌, ℕ, ◌≤◌, ◌<◌, List, [], ◌∷◌, Some}
-use Rattle.model_formulas.specs.Satisfaction.{Entails}
-use Rattle.model_commands.specs.Theories.{Judgement, entails, triple, Procedure, Procedures, procedure_named}
-use Rattle.model_commands.specs.Sorting.{Sorted}
+-- Triples for the runs of so many steps: the form in which the rules are sound. Only laws speak of
+-- it.
+use Rattle.std.specs.Prelude.{◌≡◌, ℕ, ◌≤◌, ◌<◌, List, Some, Bool, true, ◌&&◌}
+use Rattle.std.specs.List.{list_all}
+use Rattle.model_commands.specs.Commands.{Command}
+use Rattle.model_commands.specs.CommandParts.{commands_in}
+use Rattle.model_commands.specs.SortTests.{is_sorted, results_apart}
+use Rattle.model_commands.specs.Theories.{Procedure, Procedures, procedure_named}
+use Rattle.model_machine.specs.LocalTriples.{HoldsLocally}
 use Rattle.model_machine.specs.ClassicalTriples.{TripleFor}
+use Rattle.entailment_laws.specs.Judgements.{Reading}
 
--- at most so many steps, and fewer
+-- at most so many steps
 abbrev pub UpTo : ℕ → ℕ → Type 0
 UpTo n m = m ≤ n
 
+-- fewer
 abbrev pub Below : ℕ → ℕ → Type 0
 Below n m = m < n
 
--- the command of a triple has parts of the right sorts
-abbrev pub JudgementSorted : Procedures → Judgement → Type 0
-JudgementSorted procedures (entails p q s) = Unit
-JudgementSorted procedures (triple p c q d) = Sorted procedures c
+-- what a well-formed theory asks of the command of a step: its parts have the right sorts and
+-- number, and the results of a call don't repeat and stand in none of its arguments
+abbrev pub step_fits : Procedures → Command → Bool
+step_fits procedures command =
+    is_sorted procedures command && list_all results_apart (commands_in command)
 
--- a judgement holds for the runs of at most n steps
-abbrev pub HoldsUpTo : Procedures → ℕ → Judgement → Type 0
-HoldsUpTo procedures n (entails p q s) = Entails p q s
-HoldsUpTo procedures n (triple p c q d) = TripleFor procedures (UpTo n) p c q d
+-- triples of such commands, in every context
+abbrev pub locally : Procedures → Reading
+locally procedures = record {
+  fits = λ command. step_fits procedures command ≡ true;
+  holds = HoldsLocally procedures;
+}
 
--- both of a judgement, and of each of these
-abbrev pub Proved : Procedures → ℕ → Judgement → Type 0
-Proved procedures n j = JudgementSorted procedures j × HoldsUpTo procedures n j
-
-abbrev pub AllProved : Procedures → ℕ → List Judgement → Type 0
-AllProved procedures n [] = Unit
-AllProved procedures n (j ∷ js) = Proved procedures n j × AllProved procedures n js
+-- the same for the runs of at most n steps, with "some data" read classically
+abbrev pub in_steps : Procedures → ℕ → Reading
+in_steps procedures n = record {
+  fits = λ command. step_fits procedures command ≡ true;
+  holds = TripleFor procedures (UpTo n);
+}
 
 -- the triple of each procedure that a call may mean holds for the runs of fewer than n steps
 abbrev pub HoldBelow : Procedures → ℕ → Type 0

@@ -1,14 +1,14 @@
 //! The rules for triples and the axioms of the commands are sound, with no Rust data: the laws are
-//! functions with an empty body. Stands on row_table and row_laws.
+//! functions with an empty body. Stands on rule_table and entailment_laws.
 #![tactic(auto)]
 
 ghost use Rattle.std.specs.Prelude.{◌≡◌, ℕ, List, [], Some};
 ghost use Rattle.model_commands.specs.Theories.{Judgement, Theory, procedures_of};
 ghost use Rattle.model_files.specs.FileFaults.{IsWellFormedTheory};
-ghost use Rattle.model_programs.specs.LocalTriples.{JudgementHolds};
 ghost use Rattle.model_machine.specs.LocalTriples.{MeetsItsSpecification};
 ghost use Rattle.rule_table.specs.Accepted.{IsAccepted, Each};
-ghost use Rattle.triple_laws.specs.BySteps.{JudgementSorted, HoldsUpTo, AllProved, HoldBelow};
+ghost use Rattle.entailment_laws.specs.Judgements.{Fitting, JudgementHolds, AllProved};
+ghost use Rattle.triple_laws.specs.BySteps.{in_steps, locally, HoldBelow};
 ghost use Rattle.rule_table.specs.Triples.{axioms, triples};
 ghost use Rattle.rule_table.specs.Verdicts.{Written, IsInstance, readings_in};
 
@@ -17,19 +17,19 @@ ghost use Rattle.rule_table.specs.Verdicts.{Written, IsInstance, readings_in};
 pub fn rules_are_sound()
     ensures { (theory : Theory) → IsWellFormedTheory theory → (n : ℕ)
         → HoldBelow (procedures_of theory) n → (name : List ℕ) (written : Written)
-        → JudgementSorted (procedures_of theory) written.conclusion
+        → Fitting (in_steps (procedures_of theory) n) written.conclusion
         → ((premises : List Judgement) → written.premises ≡ Some premises
-        → AllProved (procedures_of theory) n premises)
+        → AllProved (in_steps (procedures_of theory) n) premises)
         → IsInstance (readings_in (triples (procedures_of theory)) name) written
-        → HoldsUpTo (procedures_of theory) n written.conclusion }
+        → JudgementHolds (in_steps (procedures_of theory) n) written.conclusion }
 {}
 
 /// An instance of an axiom holds in every context.
 pub fn axioms_hold()
     ensures { (theory : Theory) → IsWellFormedTheory theory → (name : List ℕ) (written : Written)
-        → JudgementSorted (procedures_of theory) written.conclusion
+        → Fitting (locally (procedures_of theory)) written.conclusion
         → written.premises ≡ Some [] → IsInstance (readings_in axioms name) written
-        → JudgementHolds (procedures_of theory) written.conclusion }
+        → JudgementHolds (locally (procedures_of theory)) written.conclusion }
 {}
 
 /// In an accepted theory each procedure meets its specification: it never faults and ends as its
