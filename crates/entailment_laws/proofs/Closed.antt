@@ -7,13 +7,19 @@ use Rattle.model_shapes.specs.Trees.{Trees, WellFormed, none, node, hole, beside
 use Rattle.model_shapes.specs.Shapes.{Shaped}
 use Rattle.model_shapes.specs.Things.{val, trees}
 use Rattle.model_shapes.proofs.Shapes.{IsList, left-WellFormed, right-WellFormed}
+use Rattle.model_terms.specs.Variables.{bound}
+use Rattle.model_terms.specs.Terms.{Term, variable}
 use Rattle.model_formulas.specs.Formulas.{Formula, existential, truth, empty, one_tree, same_as}
 use Rattle.model_formulas.specs.Satisfaction.{Environment, Meets, Entails, choosing}
-use Rattle.rule_table.specs.Lines.{◌or◌, ◌∗◌}
-use Rattle.rule_table.specs.Closed.{binder, some_node, first_and_rest, root_and_rest, some_length}
+use Rattle.rule_table.specs.Notation.{◌or◌, ◌∗◌}
+use Rattle.rule_table.specs.Closed.{some_node, first_and_rest, root_and_rest, some_length}
 use Rattle.entailment_laws.proofs.Mono.{kids-Shaped}
 use Rattle.entailment_laws.proofs.Shared.{surely, SameAt-refl, split}
 use Rattle.entailment_laws.proofs.Nodes.{tally_self}
+
+-- the variable of the i-th binder outwards
+abbrev binder : ℕ → Sort → Term
+binder i s = variable (bound i s)
 
 -- A NODE HAS A NAME, NUMBERS AND CHILDREN
 one_node : (r : Trees) → Shaped (shape tree) r

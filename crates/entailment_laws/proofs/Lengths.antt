@@ -11,7 +11,7 @@ use Rattle.model_terms.specs.Terms.{Term, sum}
 use Rattle.model_formulas.specs.Formulas.{Formula, length_is}
 use Rattle.model_formulas.specs.Satisfaction.{Meets, Entails, meaning_of, number_of}
 use Rattle.model_formulas.proofs.Stable.{stable}
-use Rattle.rule_table.specs.Lines.{◌and◌, ◌∗◌}
+use Rattle.rule_table.specs.Notation.{◌and◌, ◌∗◌}
 use Rattle.entailment_laws.proofs.Shared.{◌>>=◌, surely, split}
 
 -- a number as a thing

@@ -12,7 +12,7 @@ use Rattle.model_shapes.proofs.Inhabited.{some_thing, fits-is_sort}
 use Rattle.model_shapes.proofs.Truth.{false≢true, both_true}
 use Rattle.model_formulas.specs.WellSorted.{is_form, first_fault, flags}
 use Rattle.std.specs.List.{position_from}
-use Rattle.rule_table.specs.Lines.{TermAt}
+use Rattle.rule_table.specs.Conditions.{TermAt}
 use Rattle.model_terms.specs.Variables.{logic}
 use Rattle.model_terms.specs.Terms.{literal, variable}
 use Rattle.model_formulas.specs.Formulas.{Named, Formula, truth, falsity, negation, empty, whole, bare_hole, concatenation, application, hole_adjoint, length_is, value_meets}

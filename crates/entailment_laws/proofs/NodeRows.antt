@@ -6,7 +6,7 @@ use Rattle.model_shapes.specs.Trees.{width}
 use Rattle.model_shapes.specs.Things.{Thing, val}
 use Rattle.model_formulas.specs.Satisfaction.{Meets, IfNode, meaning_of}
 use Rattle.entailment_laws.specs.Judgements.{Reading}
-use Rattle.rule_table.specs.Lines.{◌and◌}
+use Rattle.rule_table.specs.Notation.{◌and◌}
 use Rattle.rule_table.specs.Nodes as Ta
 use Rattle.entailment_laws.proofs.SoundRows.{SoundRow, SoundEntries, ◌&◌}
 use Rattle.entailment_laws.proofs.Nodes as No

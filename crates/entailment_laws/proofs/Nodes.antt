@@ -14,7 +14,7 @@ use Rattle.model_terms.specs.Terms.{Term}
 use Rattle.model_formulas.specs.Formulas.{Formula, negation, node_formula, application}
 use Rattle.model_formulas.specs.Satisfaction.{Environment, Meets, Entails, Classically, IfNode, meaning_of}
 use Rattle.model_formulas.proofs.Stable.{stable}
-use Rattle.rule_table.specs.Lines.{◌and◌, ◌∗◌, ◌⊹◌, ◌equals◌}
+use Rattle.rule_table.specs.Notation.{◌and◌, ◌∗◌, ◌⊹◌, ◌equals◌}
 use Rattle.entailment_laws.proofs.Mono.{kids-Shaped}
 use Rattle.entailment_laws.proofs.Shared.{◌>>=◌, surely, App, app, SameAt-refl, width_one}
 

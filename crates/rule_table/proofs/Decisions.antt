@@ -5,8 +5,8 @@ use Rattle.model_shapes.specs.Sorts.{ValueSort, value}
 use Rattle.model_terms.specs.Terms.{Term}
 use Rattle.model_formulas.specs.Formulas.{Formula, at_most, equality, falsity}
 use Rattle.model_terms.specs.TermSorts.{has_sort}
-use Rattle.rule_table.specs.Lines.{TermAt, of_sort}
-use Rattle.rule_table.specs.Verdicts.{AllHold}
+use Rattle.rule_table.specs.Conditions.{TermAt, of_sort}
+use Rattle.rule_table.specs.Verdicts.{AllMet}
 
 abbrev pub test_holds : (b : Bool) → Dec (b ≡ true)
 test_holds true = yes refl
@@ -23,7 +23,7 @@ at_sort u t = test_holds (has_sort u t)
 
 -- and all terms
 abbrev pub all_at_sort : (u : ValueSort) (ts : List Term)
-    → Dec (AllHold (map (of_sort (value u)) ts))
+    → Dec (AllMet (map (of_sort (value u)) ts))
 all_at_sort u [] = yes tt
 all_at_sort u (t ∷ ts) = both_hold (at_sort u t) (all_at_sort u ts)
 

@@ -2,9 +2,11 @@
 use Rattle.std.proofs.Common.{◌≡◌, ◌⊎◌, ℕ, suc, refl, sym, ap, ◌∙◌, subst, inl, inr, List, [], ◌∷◌, Option, Some, None}
 use Rattle.model_commands.specs.Theories.{Judgement}
 use Rattle.rule_table.specs.Letters.{Letters}
-use Rattle.rule_table.specs.Lines.{Line, Condition, Holds, SideName}
+use Rattle.rule_table.specs.Lines.{Line}
+use Rattle.rule_table.specs.Conditions.{Condition, Holds, SideName}
 use Rattle.rule_table.specs.Entries.{Row}
-use Rattle.rule_table.specs.Verdicts.{Written, Concludes, AllHold, first, side_of, side_at, Some_line, Verdict, instance_of, no_shape, no_premises, no_side, IsVerdict}
+use Rattle.rule_table.specs.Verdicts.{Written, Concludes, AllHold, first, side_at, SomeLine, Verdict, instance_verdict, shape_verdict, premises_verdict, side_verdict, IsVerdict}
+use Rattle.rule_table.specs.Conditions.{side_of}
 
 -- the line of each choice
 abbrev pub Each_line : List Row → (Line → Type 0) → Type 0
@@ -12,13 +14,13 @@ Each_line [] P = Unit
 Each_line (row ∷ rows) P = ((letters : Letters) → P (row letters)) × Each_line rows P
 
 pub each-some-map : {P Q R : Line → Type 0} (rows : List Row) → Each_line rows P
-    → ((line : Line) → P line → Q line → R line) → Some_line rows Q → Some_line rows R
+    → ((line : Line) → P line → Q line → R line) → SomeLine rows Q → SomeLine rows R
 each-some-map [] e f m = m
 each-some-map (row ∷ rows) e f (inl a) = inl (a.0, f (row a.0) (e.0 a.0) a.1)
 each-some-map (row ∷ rows) e f (inr m) = inr (each-some-map rows e.1 f m)
 
 pub each-some : {P Q : Line → Type 0} {X : Type 0} (rows : List Row) → Each_line rows P
-    → ((line : Line) → P line → Q line → X) → Some_line rows Q → X
+    → ((line : Line) → P line → Q line → X) → SomeLine rows Q → X
 each-some [] e f m = absurd m
 each-some (row ∷ rows) e f (inl a) = f (row a.0) (e.0 a.0) a.1
 each-some (row ∷ rows) e f (inr m) = each-some rows e.1 f m
@@ -26,7 +28,7 @@ each-some (row ∷ rows) e f (inr m) = each-some rows e.1 f m
 -- no choice has the written conclusion
 abbrev pub refuted : (rows : List Row) (w : Written) → Each_line rows (λ line. Concludes w line → ⊥)
     → (v : Verdict) × IsVerdict rows w v
-refuted rows w e = (no_shape, each-some rows e (λ line p q. p q))
+refuted rows w e = (shape_verdict, each-some rows e (λ line p q. p q))
 
 -- the same premises and conditions
 abbrev pub Like : Line → Line → Type 0
@@ -34,7 +36,7 @@ Like line other = (other.premises ≡ line.premises) × (other.conditions ≡ li
 
 -- some choice has the written conclusion, and each that has it makes a line like this one
 pub record Determined (rows : List Row) (w : Written) (line : Line) : Type 0 where
-  pub found : Some_line rows (Concludes w)
+  pub found : SomeLine rows (Concludes w)
   pub alone : Each_line rows (λ other. Concludes w other → Like line other)
 
 -- each condition holds or not
@@ -89,12 +91,12 @@ module _ (rows : List Row) (w : Written) (line : Line) (d : Determined rows w li
   abbrev by_conditions : Some line.premises ≡ w.premises
       → AllHold line.conditions ⊎ Failing line.conditions → (v : Verdict) × IsVerdict rows w v
   by_conditions e (inl all) = (
-    instance_of,
+    instance_verdict,
     each-some-map rows d.alone
         (λ other p q. ((q, ap Some (p q).0 ∙ e), subst AllHold (sym (p q).1) all)) d.found,
   )
   by_conditions e (inr f) = (
-    no_side f.name,
+    side_verdict f.name,
     (
       f.place,
       each-some-map rows d.alone
@@ -115,7 +117,7 @@ module _ (rows : List Row) (w : Written) (line : Line) (d : Determined rows w li
   abbrev pub verdict_on : Dec (Some line.premises ≡ w.premises) → Decided line.conditions
       → (v : Verdict) × IsVerdict rows w v
   verdict_on (no n) c = (
-    no_premises,
+    premises_verdict,
     (d.found, λ m. each-some rows d.alone (λ other p q. n (sym (ap Some (p q.0).0) ∙ q.1)) m),
   )
   verdict_on (yes e) c = by_conditions e (first_failing line.conditions c)

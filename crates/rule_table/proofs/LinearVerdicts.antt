@@ -9,11 +9,11 @@ use Rattle.model_formulas.specs.Formulas.{Formula, conjunction, at_most, equalit
 use Rattle.model_commands.specs.Theories.{Judgement, entails, triple}
 use Rattle.rule_table.specs.Linear.{Weighed, order, equation, both_of, comparisons, numbers, sides, sum_of, rest, are_fair, equations_alone, at_least_zero, below_zero, is_zero}
 use Rattle.rule_table.specs.Letters.{Letters}
-use Rattle.rule_table.specs.Lines.{TermAt, of_sort, tested, coefficient_side, sum_side}
+use Rattle.rule_table.specs.Conditions.{TermAt, of_sort, tested, coefficient_side, sum_side}
 use Rattle.rule_table.specs.Entries.{Row}
-use Rattle.rule_table.specs.Verdicts.{Written, Concludes, AllHold, Verdict, IsVerdict, readings_of}
-use Rattle.rule_table.specs.Terms as Te
-use Rattle.rule_table.proofs.SomeLetters.{plain_letters, left_in, right_in, is_entailment}
+use Rattle.rule_table.specs.Verdicts.{Written, Concludes, AllMet, Verdict, IsVerdict}
+use Rattle.rule_table.specs.Equations as Te
+use Rattle.rule_table.proofs.SomeLetters.{readings_of, plain_letters, left_in, right_in, is_entailment}
 use Rattle.rule_table.proofs.Decisions.{test_holds, both_hold, at_sort, all_at_sort, Form, an_order, an_equation, just_false, another, Kind, order_kind, equation_kind, false_kind, other_kind, kind_of, form_of}
 use Rattle.rule_table.proofs.Determined.{Each_line, refuted, Like, Determined, verdict_on, none_cited}
 
@@ -119,7 +119,7 @@ module _ (ts : List Term) (o : Option (List Judgement)) (p q : Formula) (s : Sor
 
   -- no choice concludes
   abbrev shape : ((l : Letters) (b : Formula) → numbers l.W ≡ ts
-      → AllHold (map (of_sort (value int_sort)) (sides l.W))
+      → AllMet (map (of_sort (value int_sort)) (sides l.W))
       → entails (comparisons l.W) b l.s ≡ entails p q s → ⊥)
       → (v : Verdict) × IsVerdict rows written v
   shape f =
@@ -143,7 +143,7 @@ module _ (ts : List Term) (o : Option (List Judgement)) (p q : Formula) (s : Sor
 
   -- where the comparisons are read, and are comparisons of integers
   module _ (w : Weighed) (h : weighed p ts ≡ Some (w, []))
-      (ints : AllHold (map (of_sort (value int_sort)) (sides w))) where
+      (ints : AllMet (map (of_sort (value int_sort)) (sides w))) where
     there : (comparisons w ≡ p) × (numbers w ++ [] ≡ ts)
     there = weighed-there p ts w [] h
 
@@ -185,7 +185,7 @@ module _ (ts : List Term) (o : Option (List Judgement)) (p q : Formula) (s : Sor
       found =
           inr
           (inl
-          (chosen a b, (all_numbers, (tb, (ta, ints)), (λ i. entails (there.0 i) (sym e i) s))));
+          (chosen a b, (all_numbers, (ta, (tb, ints)), (λ i. entails (there.0 i) (sym e i) s))));
       alone = (
         (λ l c. not_order equation_kind (ap kind_of e) (λ x. cc) l c.2),
         (
@@ -244,7 +244,7 @@ module _ (ts : List Term) (o : Option (List Judgement)) (p q : Formula) (s : Sor
     not_sorted a b e n = (
       (λ l c. not_order equation_kind (ap kind_of e) (λ x. cc) l c.2),
       (
-        (λ l c. here l c.1.1.0 c.1.0 c.2),
+        (λ l c. here l c.1.0 c.1.1.0 c.2),
         ((λ l c. not_false equation_kind (ap kind_of e) (λ x. cc) l c.2), tt),
       ),
     )
@@ -292,26 +292,26 @@ module _ (ts : List Term) (o : Option (List Judgement)) (p q : Formula) (s : Sor
 
   -- by the comparisons
   pub no_integers : (w : Weighed) → weighed p ts ≡ Some (w, [])
-      → (AllHold (map (of_sort (value int_sort)) (sides w)) → ⊥) → (l : Letters) (b : Formula)
-      → numbers l.W ≡ ts → AllHold (map (of_sort (value int_sort)) (sides l.W))
+      → (AllMet (map (of_sort (value int_sort)) (sides w)) → ⊥) → (l : Letters) (b : Formula)
+      → numbers l.W ≡ ts → AllMet (map (of_sort (value int_sort)) (sides l.W))
       → entails (comparisons l.W) b l.s ≡ entails p q s → ⊥
   no_integers w h n l b m ints e =
-      n (subst (λ v. AllHold (map (of_sort (value int_sort)) (sides v))) (same_W w h l b m e) ints)
+      n (subst (λ v. AllMet (map (of_sort (value int_sort)) (sides v))) (same_W w h l b m e) ints)
 
   pub not_read : weighed p ts ≡ None → (l : Letters) (b : Formula) → numbers l.W ≡ ts
-      → AllHold (map (of_sort (value int_sort)) (sides l.W))
+      → AllMet (map (of_sort (value int_sort)) (sides l.W))
       → entails (comparisons l.W) b l.s ≡ entails p q s → ⊥
   not_read h l b n ints e = let g : weighed p ts ≡ Some (l.W, []) = read l b n e in cc
 
   pub numbers_left : (w : Weighed) (t : Term) (us : List Term) → weighed p ts ≡ Some (w, t ∷ us)
       → (l : Letters) (b : Formula) → numbers l.W ≡ ts
-      → AllHold (map (of_sort (value int_sort)) (sides l.W))
+      → AllMet (map (of_sort (value int_sort)) (sides l.W))
       → entails (comparisons l.W) b l.s ≡ entails p q s → ⊥
   numbers_left w t us h l b n ints e =
       let g : [] ≡ t ∷ us = (some-pair l.W w [] (t ∷ us) (sym (read l b n e) ∙ h)).1 in cc
 
   abbrev by_integers : (w : Weighed) → weighed p ts ≡ Some (w, [])
-      → Dec (AllHold (map (of_sort (value int_sort)) (sides w)))
+      → Dec (AllMet (map (of_sort (value int_sort)) (sides w)))
       → (v : Verdict) × IsVerdict rows written v
   by_integers w h (no n) = shape (no_integers w h n)
   by_integers w h (yes ints) = by_form w h ints (form_of q)

@@ -1,22 +1,22 @@
 -- In the table of a theory the names of each rule's conditions are fixed, so a step has at most one
 -- verdict.
 use Rattle.std.proofs.Common.{◌≡◌, ℕ, List, [], ◌∷◌, ◌++◌, Bool, true, false, cond, bytes_eq, refl}
+use Rattle.std.specs.List.{flat_map}
 use Rattle.model_commands.specs.Theories.{Procedures}
-use Rattle.rule_table.specs.Lines.{free_side, pure_side, literal_side, coefficient_side, sum_side, texts_side, modified_side, assigned_side, SideName}
+use Rattle.rule_table.specs.Conditions.{free_side, pure_side, literal_side, coefficient_side, sum_side, texts_side, modified_side, assigned_side, SideName}
 use Rattle.rule_table.specs.Entries.{Entry}
-use Rattle.rule_table.specs.Table.{first_half, entailments}
-use Rattle.rule_table.specs.SecondHalf.{second_half}
+use Rattle.rule_table.specs.Table.{groups, entailments, triples, table}
 use Rattle.rule_table.specs.Logic as Logic
-use Rattle.rule_table.specs.Terms as Terms
+use Rattle.rule_table.specs.Equations as Equations
 use Rattle.rule_table.specs.Structure as Structure
 use Rattle.rule_table.specs.Monotony as Monotony
 use Rattle.rule_table.specs.Contexts as Contexts
 use Rattle.rule_table.specs.Variables as Variables
 use Rattle.rule_table.specs.Nodes as Nodes
 use Rattle.rule_table.specs.Lengths as Lengths
-use Rattle.rule_table.specs.Triples.{rules, axioms, triples}
+use Rattle.rule_table.specs.Rules.{rules}
+use Rattle.rule_table.specs.Axioms.{axioms}
 use Rattle.rule_table.specs.Verdicts.{Written, Verdict, IsVerdict, readings_in}
-use Rattle.rule_table.specs.Accepted.{table}
 use Rattle.rule_table.proofs.VerdictLaws.{FixedNames, one-verdict}
 
 abbrev AllFixed : List Entry → Type 0
@@ -32,6 +32,17 @@ append-fixed : (first second : List Entry) → AllFixed first → AllFixed secon
     → AllFixed (first ++ second)
 append-fixed [] second a b = b
 append-fixed (entry ∷ first) second a b = (a.0, append-fixed first second a.1 b)
+
+-- of each group
+abbrev GroupsFixed : List (List Entry) → Type 0
+GroupsFixed [] = Unit
+GroupsFixed (group ∷ more) = AllFixed group × GroupsFixed more
+
+groups-fixed : (all : List (List Entry)) → GroupsFixed all
+    → AllFixed (flat_map (λ entries. entries) all)
+groups-fixed [] h = tt
+groups-fixed (group ∷ more) h =
+    append-fixed group (flat_map (λ entries. entries) more) h.0 (groups-fixed more h.1)
 
 logic-fixed : AllFixed Logic.entries
 logic-fixed =
@@ -55,8 +66,8 @@ logic-fixed =
     ([], ((λ l. refl), tt)) &
     (free_side ∷ [], ((λ l. refl), tt)) & tt
 
-terms-fixed : AllFixed Terms.entries
-terms-fixed =
+equations-fixed : AllFixed Equations.entries
+equations-fixed =
     ([], ((λ l. refl), tt)) &
     ([], ((λ l. refl), tt)) &
     (literal_side ∷ [], ((λ l. refl), tt)) &
@@ -104,91 +115,13 @@ monotony-fixed =
     ([], ((λ l. refl), tt)) &
     ([], ((λ l. refl), tt)) &
     ([], ((λ l. refl), tt)) &
-    ([], ((λ l. refl), tt)) & (
-      pure_side ∷ [],
-      (
-        (λ l. refl),
-        (
-          (λ l. refl),
-          (
-            (λ l. refl),
-            (
-              (λ l. refl),
-              (
-                (λ l. refl),
-                (
-                  (λ l. refl),
-                  (
-                    (λ l. refl),
-                    (
-                      (λ l. refl),
-                      (
-                        (λ l. refl),
-                        (
-                          (λ l. refl),
-                          (
-                            (λ l. refl),
-                            (
-                              (λ l. refl),
-                              (
-                                (λ l. refl),
-                                ((λ l. refl), ((λ l. refl), tt)),
-                              ),
-                            ),
-                          ),
-                        ),
-                      ),
-                    ),
-                  ),
-                ),
-              ),
-            ),
-          ),
-        ),
-      ),
-    ) & (
-      pure_side ∷ [],
-      (
-        (λ l. refl),
-        (
-          (λ l. refl),
-          (
-            (λ l. refl),
-            (
-              (λ l. refl),
-              (
-                (λ l. refl),
-                (
-                  (λ l. refl),
-                  (
-                    (λ l. refl),
-                    (
-                      (λ l. refl),
-                      (
-                        (λ l. refl),
-                        (
-                          (λ l. refl),
-                          (
-                            (λ l. refl),
-                            (
-                              (λ l. refl),
-                              (
-                                (λ l. refl),
-                                ((λ l. refl), ((λ l. refl), tt)),
-                              ),
-                            ),
-                          ),
-                        ),
-                      ),
-                    ),
-                  ),
-                ),
-              ),
-            ),
-          ),
-        ),
-      ),
-    ) & tt
+    ([], ((λ l. refl), tt)) &
+    (pure_side ∷ [], ((λ l. refl) & (λ l. refl) & (λ l. refl) & (λ l. refl) & (λ l. refl)
+    & (λ l. refl) & (λ l. refl) & (λ l. refl) & (λ l. refl) & (λ l. refl)
+    & (λ l. refl) & (λ l. refl) & (λ l. refl) & (λ l. refl) & (λ l. refl) & tt)) &
+    (pure_side ∷ [], ((λ l. refl) & (λ l. refl) & (λ l. refl) & (λ l. refl) & (λ l. refl)
+    & (λ l. refl) & (λ l. refl) & (λ l. refl) & (λ l. refl) & (λ l. refl)
+    & (λ l. refl) & (λ l. refl) & (λ l. refl) & (λ l. refl) & (λ l. refl) & tt)) & tt
 
 contexts-fixed : AllFixed Contexts.entries
 contexts-fixed =
@@ -289,15 +222,8 @@ axioms-fixed =
 
 entailments-fixed : AllFixed entailments
 entailments-fixed =
-    append-fixed first_half second_half
-    (append-fixed Logic.entries (Terms.entries ++ (Structure.entries ++ Monotony.entries))
-    logic-fixed
-    (append-fixed Terms.entries (Structure.entries ++ Monotony.entries) terms-fixed
-    (append-fixed Structure.entries Monotony.entries structure-fixed monotony-fixed)))
-    (append-fixed Contexts.entries (Variables.entries ++ (Nodes.entries ++ Lengths.entries))
-    contexts-fixed
-    (append-fixed Variables.entries (Nodes.entries ++ Lengths.entries) variables-fixed
-    (append-fixed Nodes.entries Lengths.entries nodes-fixed lengths-fixed)))
+    groups-fixed groups (logic-fixed & equations-fixed & structure-fixed & monotony-fixed
+    & contexts-fixed & variables-fixed & nodes-fixed & lengths-fixed & tt)
 
 table-fixed : (procedures : Procedures) → AllFixed (table procedures)
 table-fixed procedures =

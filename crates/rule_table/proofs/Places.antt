@@ -2,8 +2,9 @@
 use Rattle.std.proofs.Common.{◌⊎◌, ℕ, ◌+◌, List, [], ◌∷◌, ◌++◌, subst, inl, inr, ⊎_elim}
 use Rattle.model_terms.specs.Terms.{Term}
 use Rattle.model_commands.specs.Theories.{Judgement, Reason, auto, by_rule, Step, Procedure, Procedures, Theory, procedures_of}
-use Rattle.rule_table.specs.Verdicts.{Verdict, instance_of, no_shape, no_premises, no_side, readings_in}
-use Rattle.rule_table.specs.Accepted.{table, written_at, InstanceBy, VerdictBy, AllInstances, EndsWell, IsProved, Each, IsAccepted, Fault, gap, fails, no_proof, BadPlace, Refuses, IsBadBy, FirstBadStep, here, later, at_end, FirstBadOf, in_first, in_later, IsFirstBad}
+use Rattle.rule_table.specs.Verdicts.{Verdict, instance_verdict, shape_verdict, premises_verdict, side_verdict, readings_in}
+use Rattle.rule_table.specs.Table.{table}
+use Rattle.rule_table.specs.Accepted.{written_at, InstanceBy, VerdictBy, AllInstances, EndsWell, IsProved, Each, IsAccepted, Fault, gap, fails, no_proof, BadPlace, Refuses, IsBadBy, FirstBadStep, here, later, at_end, FirstBadOf, in_first, in_later, IsFirstBad}
 use Rattle.rule_table.proofs.VerdictLaws.{instance-alone}
 
 module _ (ps : Procedures) where
@@ -49,10 +50,10 @@ module _ (ps : Procedures) where
           by_verdict : (v : Verdict) × VerdictBy ps (by_rule name ns arguments) earlier j v
               → InstanceBy ps (by_rule name ns arguments) earlier j
               ⊎ ((fault : Fault) × IsBadBy ps (by_rule name ns arguments) earlier j fault)
-          by_verdict (instance_of, m) = inl m
-          by_verdict (no_shape, m) = inr (fails no_shape, (m, tt))
-          by_verdict (no_premises, m) = inr (fails no_premises, (m, tt))
-          by_verdict (no_side name, m) = inr (fails (no_side name), (m, tt))
+          by_verdict (instance_verdict, m) = inl m
+          by_verdict (shape_verdict, m) = inr (fails shape_verdict, (m, tt))
+          by_verdict (premises_verdict, m) = inr (fails premises_verdict, (m, tt))
+          by_verdict (side_verdict name, m) = inr (fails (side_verdict name), (m, tt))
 
       abbrev BadStep : Procedure → List Step → List Step → ℕ → Type 0
       BadStep f earlier steps place = (bad : ℕ) × (fault : Fault)

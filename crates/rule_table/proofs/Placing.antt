@@ -11,8 +11,8 @@ use Rattle.model_formulas.specs.Formulas.{Formula, truth, falsity, conjunction, 
 use Rattle.model_formulas.specs.SameFormulas.{same_term, same_side}
 use Rattle.model_formulas.specs.Substitution.{FreeIn, formula_with}
 use Rattle.model_formulas.proofs.SameFormulas.{term-is, same_side-is}
-use Rattle.rule_table.specs.Places.{AsFormula}
-use Rattle.rule_table.specs.Replaced.{same_or, replaced_term, replaced}
+use Rattle.rule_table.specs.Occurrences.{AsFormula}
+use Rattle.rule_table.proofs.Replaced.{same_or, replaced_term, replaced}
 
 either_true : {P : Type 0} (x y : Bool) → (x || y) ≡ true → (x ≡ true → P) → (y ≡ true → P) → P
 either_true true y h f g = f refl

@@ -12,8 +12,8 @@ use Rattle.model_formulas.specs.Formulas.{Formula, Side, whole, hole_left, hole_
 use Rattle.model_formulas.specs.SameFormulas.{same_term, same_side}
 use Rattle.model_formulas.specs.Substitution.{formula_with}
 use Rattle.model_shapes.proofs.Tests.{same_value-refl}
-use Rattle.rule_table.specs.Places.{AsFormula}
-use Rattle.rule_table.specs.Replaced.{same_or, replaced_term, replaced}
+use Rattle.rule_table.specs.Occurrences.{AsFormula}
+use Rattle.rule_table.proofs.Replaced.{same_or, replaced_term, replaced}
 
 -- tests
 pub both : (x y : Bool) → x ≡ true → y ≡ true → (x && y) ≡ true

@@ -3,7 +3,7 @@ use Rattle.std.proofs.Common.{◌≡◌, List, map, ◌++◌, ℕ, refl}
 use Rattle.model_commands.specs.Theories.{Procedures}
 use Rattle.model_files.specs.RuleNames.{entailment_rule_names, triple_rule_names}
 use Rattle.rule_table.specs.Entries.{Entry}
-use Rattle.rule_table.specs.Accepted.{table}
+use Rattle.rule_table.specs.Table.{table}
 
 abbrev names_of : List Entry → List (List ℕ)
 names_of = map (λ entry. entry.name)

@@ -1,7 +1,8 @@
--- A choice of the letters to begin with, and the parts of an entailment.
-use Rattle.std.proofs.Common.{Bool, true, false, pos, [], None, codes}
+-- What proofs about verdicts begin with: a choice of the letters, the parts of an entailment, and
+-- the rows of a rule of entailment.
+use Rattle.std.proofs.Common.{Bool, true, false, pos, List, [], None, codes}
+use Rattle.model_shapes.specs.Values.{Name, null}
 use Rattle.model_shapes.specs.Sorts.{Sort, value, shape, tree, grove, node_sort}
-use Rattle.model_shapes.specs.Values.{null}
 use Rattle.model_terms.specs.Terms.{literal}
 use Rattle.model_formulas.specs.Formulas.{Formula, truth}
 use Rattle.model_terms.specs.Stores.{named}
@@ -10,6 +11,9 @@ use Rattle.model_terms.specs.Conditions.{cond_true}
 use Rattle.model_commands.specs.Theories.{Judgement, entails, triple}
 use Rattle.rule_table.specs.Linear.{order}
 use Rattle.rule_table.specs.Letters.{Letters}
+use Rattle.rule_table.specs.Entries.{Row}
+use Rattle.rule_table.specs.Table.{entailments}
+use Rattle.rule_table.specs.Verdicts.{readings_in}
 
 -- true for each formula, null for each term
 abbrev pub plain_letters : Letters
@@ -75,3 +79,7 @@ sort_in (triple p c q d) = shape d
 abbrev pub is_entailment : Judgement → Bool
 is_entailment (entails p q s) = true
 is_entailment (triple p c q d) = false
+
+-- the rows of the rule of entailment of that name
+abbrev pub readings_of : Name → List Row
+readings_of = readings_in entailments

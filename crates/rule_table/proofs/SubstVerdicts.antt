@@ -8,14 +8,14 @@ use Rattle.model_formulas.specs.Formulas.{Formula, conjunction, equality}
 use Rattle.model_formulas.specs.Substitution.{replacing, replacing_at}
 use Rattle.model_commands.specs.Theories.{Judgement, entails}
 use Rattle.rule_table.specs.Letters.{Letters, as_logic}
-use Rattle.rule_table.specs.Lines.{instead}
-use Rattle.rule_table.specs.Places.{AsFormula}
-use Rattle.rule_table.specs.Replaced.{replaced}
-use Rattle.rule_table.specs.Verdicts.{Written, Concludes, Some_line, readings_of}
-use Rattle.rule_table.proofs.SomeLetters.{plain_letters, left_in, right_in}
+use Rattle.rule_table.specs.Notation.{instead}
+use Rattle.rule_table.specs.Occurrences.{AsFormula}
+use Rattle.rule_table.specs.Verdicts.{Written, Concludes, SomeLine}
+use Rattle.rule_table.proofs.SomeLetters.{readings_of, plain_letters, left_in, right_in}
 use Rattle.rule_table.proofs.Replacing.{Differ, replaced-formula}
 use Rattle.rule_table.proofs.Placing.{Keeps, Place, place_of}
 use Rattle.rule_table.proofs.NewNames.{new_name, new_name-new}
+use Rattle.rule_table.proofs.Replaced.{replaced}
 
 -- a term for a variable gives it there
 replacing-gives : (x : Var) (t : Term) → replacing x t x ≡ t
@@ -59,12 +59,12 @@ module _ (a b : Term) (p q : Formula) (s : Sort) (o : Option (List Judgement)) w
 
   -- where the test says yes, it is a conclusion of the row
   pub test-concludes : replaced a b p q ≡ true
-      → Some_line (readings_of (codes "eq_subst")) (Concludes written)
+      → SomeLine (readings_of (codes "eq_subst")) (Concludes written)
   test-concludes h =
       at (place_of (new_name p) (value int_sort) p q a b h (new_name-new p (value int_sort)))
     where
       at : Place (new_name p) (value int_sort) a b p q
-          → Some_line (readings_of (codes "eq_subst")) (Concludes written)
+          → SomeLine (readings_of (codes "eq_subst")) (Concludes written)
       at m = inl (
         record plain_letters {
           P = m.place;
@@ -87,7 +87,7 @@ module _ (a b : Term) (p q : Formula) (s : Sort) (o : Option (List Judgement)) w
       )
 
   -- and where it is one, the test says yes
-  pub concludes-test : Some_line (readings_of (codes "eq_subst")) (Concludes written)
+  pub concludes-test : SomeLine (readings_of (codes "eq_subst")) (Concludes written)
       → replaced a b p q ≡ true
   concludes-test m =
       ⊎_elim (λ c. at c.0 c.1.1.0 (ap left_in c.1.2) (ap right_in c.1.2)) (λ n. absurd n) m

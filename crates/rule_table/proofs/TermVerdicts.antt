@@ -11,17 +11,18 @@ use Rattle.model_formulas.specs.Formulas.{Formula, conjunction, equality, falsit
 use Rattle.model_commands.specs.Commands.{Command}
 use Rattle.model_commands.specs.Theories.{Judgement, entails, triple}
 use Rattle.rule_table.specs.Texts.{Piece, character, text_of_variable, pieces}
-use Rattle.rule_table.specs.Replaced.{replaced}
 use Rattle.rule_table.specs.Letters.{Letters}
-use Rattle.rule_table.specs.Lines.{TermAt, same_texts, tested, literal_side, instead}
+use Rattle.rule_table.specs.Conditions.{TermAt, same_texts, tested, literal_side}
+use Rattle.rule_table.specs.Notation.{instead}
 use Rattle.rule_table.specs.Entries.{Row}
-use Rattle.rule_table.specs.Verdicts.{Written, Concludes, Some_line, Verdict, IsVerdict, readings_of}
-use Rattle.rule_table.specs.Terms as Te
-use Rattle.rule_table.specs.Terms.{different_literals}
-use Rattle.rule_table.proofs.SomeLetters.{plain_letters, left_in, right_in, is_entailment}
+use Rattle.rule_table.specs.Verdicts.{Written, Concludes, SomeLine, Verdict, IsVerdict}
+use Rattle.rule_table.specs.Equations as Te
+use Rattle.rule_table.specs.Equations.{different_literals}
+use Rattle.rule_table.proofs.SomeLetters.{readings_of, plain_letters, left_in, right_in, is_entailment}
 use Rattle.rule_table.proofs.Decisions.{test_holds, both_hold, at_sort, Form, an_order, an_equation, just_false, another, Kind, order_kind, equation_kind, false_kind, other_kind, kind_of, form_of, equation≢order, equation≢false, equation≢other, false≢order, false≢equation, false≢other}
 use Rattle.rule_table.proofs.Determined.{refuted, Like, Determined, verdict_on, none_cited}
 use Rattle.rule_table.proofs.SubstVerdicts.{test-concludes, concludes-test}
+use Rattle.rule_table.proofs.Replaced.{replaced}
 
 -- WHAT ALL THREE SHARE
 pub no_arguments : {t : Term} {ts : List Term} → [] ≡ t ∷ ts → ⊥
@@ -134,7 +135,7 @@ module _ (o : Option (List Judgement)) (p q : Formula) (s : Sort) where
       → Determined (Te.concat ∷ []) written (Te.concat (record (chosen a b) { P = p }))
   concat_line a b e ta tb = record {
     found =
-        inl (record (chosen a b) { P = p }, (refl, (tb, (ta, tt)), (λ i. entails p (sym e i) s)));
+        inl (record (chosen a b) { P = p }, (refl, (ta, (tb, tt)), (λ i. entails p (sym e i) s)));
     alone = ((λ l c. here l c.2), tt);
   }
     where
@@ -153,7 +154,7 @@ module _ (o : Option (List Judgement)) (p q : Formula) (s : Sort) where
       → Concludes written (Te.concat l) → ⊥
   concat_not_sorted a b e n l c =
       let g : (l.E ≡ a) × (l.F ≡ b) = same_equation l.E l.F a b (ap right_in c.2 ∙ e) in
-      n (subst (TermAt (value str_sort)) g.0 c.1.1.0, subst (TermAt (value str_sort)) g.1 c.1.0)
+      n (subst (TermAt (value str_sort)) g.0 c.1.0, subst (TermAt (value str_sort)) g.1 c.1.1.0)
 
   abbrev pub concat_sorted : (a b : Term) → q ≡ equality a b
       → Dec (TermAt (value str_sort) a × TermAt (value str_sort) b)
@@ -186,7 +187,7 @@ module _ (o : Option (List Judgement)) (p q : Formula) (s : Sort) where
       → Determined (Te.eq_subst ∷ []) written (Te.eq_subst (chosen a b))
   subst_line a b r e h = record {
     found =
-        subst (λ z. Some_line (Te.eq_subst ∷ [])
+        subst (λ z. SomeLine (Te.eq_subst ∷ [])
         (Concludes (record { arguments = []; premises = o; conclusion = entails z q s }))) (sym e)
         (test-concludes a b r q s o h);
     alone = ((λ l c. (refl, refl)), tt);
@@ -196,7 +197,7 @@ module _ (o : Option (List Judgement)) (p q : Formula) (s : Sort) where
       → (replaced a b r q ≡ true → ⊥) → (l : Letters) → Concludes written (Te.eq_subst l) → ⊥
   not_replaced a b r e n l c =
       n (concludes-test a b r q s o
-      (subst (λ z. Some_line (Te.eq_subst ∷ [])
+      (subst (λ z. SomeLine (Te.eq_subst ∷ [])
       (Concludes (record { arguments = []; premises = o; conclusion = entails z q s }))) e
       (inl (l, c))))
 

@@ -1,13 +1,15 @@
 -- A step has at most one verdict, where the names of a rule's conditions are fixed.
 use Rattle.std.proofs.Common.{◌≡◌, ◌⊎◌, ℕ, zero, suc, ◌≤◌, ◌<◌, List, [], ◌∷◌, map, Option, Some, None, refl, sym, ap, ◌∙◌, arith, inl, inr, ⊎_elim}
 use Rattle.rule_table.specs.Letters.{Letters}
-use Rattle.rule_table.specs.Lines.{Line, Condition}
+use Rattle.rule_table.specs.Lines.{Line}
+use Rattle.rule_table.specs.Conditions.{Condition}
 use Rattle.rule_table.specs.Entries.{Row}
-use Rattle.rule_table.specs.Verdicts.{Written, AllHold, first, Concludes, Follows, MeetsFirst, MeetsAll, Some_line, SideName, side_of, side_at, Verdict, instance_of, no_shape, no_premises, no_side, IsInstance, IsVerdict}
+use Rattle.rule_table.specs.Verdicts.{Written, AllHold, first, Concludes, Follows, MeetsFirst, MeetsAll, SomeLine, side_at, Verdict, instance_verdict, shape_verdict, premises_verdict, side_verdict, IsInstance, IsVerdict}
+use Rattle.rule_table.specs.Conditions.{SideName, side_of}
 
 -- SOME LINE
 some-map : (rows : List Row) (P Q : Line → Type 0) → ((line : Line) → P line → Q line)
-    → Some_line rows P → Some_line rows Q
+    → SomeLine rows P → SomeLine rows Q
 some-map [] P Q f m = m
 some-map (row ∷ rows) P Q f m =
     ⊎_elim (λ x. inl (x.0, f (row x.0) x.1)) (λ y. inr (some-map rows P Q f y)) m
@@ -26,13 +28,13 @@ more-first (suc n) (suc m) (c ∷ cs) le h = (h.0, more-first n m cs (omega arit
 
 -- an instance has no other verdict
 pub instance-alone : (rows : List Row) (w : Written) (v : Verdict) → IsInstance rows w
-    → IsVerdict rows w v → v ≡ instance_of
-instance-alone rows w instance_of i m = refl
-instance-alone rows w no_shape i m =
+    → IsVerdict rows w v → v ≡ instance_verdict
+instance-alone rows w instance_verdict i m = refl
+instance-alone rows w shape_verdict i m =
     absurd (m (some-map rows (MeetsAll w) (Concludes w) (λ line h. h.0.0) i))
-instance-alone rows w no_premises i m =
+instance-alone rows w premises_verdict i m =
     absurd (m.1 (some-map rows (MeetsAll w) (Follows w) (λ line h. h.0) i))
-instance-alone rows w (no_side name) i m =
+instance-alone rows w (side_verdict name) i m =
     absurd (m.2 (some-map rows (MeetsAll w) (MeetsFirst (suc m.0) w)
     (λ line h. (h.0, all-first (suc m.0) line.conditions h.1)) i))
 
@@ -58,7 +60,7 @@ side-is (suc n) (c ∷ cs) = side-is n cs
 
 fixed-side : (names : List SideName) (rows : List Row) → FixedNames names rows → (w : Written)
     (n : ℕ) (name : SideName)
-    → Some_line rows (λ line. MeetsFirst n w line × (side_at n line.conditions ≡ Some name))
+    → SomeLine rows (λ line. MeetsFirst n w line × (side_at n line.conditions ≡ Some name))
     → nth_name n names ≡ Some name
 fixed-side names [] fixed w n name m = absurd m
 fixed-side names (row ∷ rows) fixed w n name m = ⊎_elim
@@ -78,14 +80,14 @@ module _ (names : List SideName) (rows : List Row) (fixed : FixedNames names row
   where
     -- the first condition that fails is one
     beyond : (n m : ℕ) (name : SideName) → n < m
-        → Some_line rows (λ line. MeetsFirst m w line × (side_at m line.conditions ≡ Some name))
-        → Some_line rows (MeetsFirst (suc n) w)
+        → SomeLine rows (λ line. MeetsFirst m w line × (side_at m line.conditions ≡ Some name))
+        → SomeLine rows (MeetsFirst (suc n) w)
     beyond n m name less =
         some-map rows _ (MeetsFirst (suc n) w)
         (λ line h. (h.0.0, more-first (suc n) m line.conditions (omega (arith, less)) h.0.1))
 
-    same-side : (name name' : SideName) → IsVerdict rows w (no_side name)
-        → IsVerdict rows w (no_side name') → name ≡ name'
+    same-side : (name name' : SideName) → IsVerdict rows w (side_verdict name)
+        → IsVerdict rows w (side_verdict name') → name ≡ name'
     same-side name name' a b = ⊎_elim
         (λ less. absurd (a.2 (beyond a.0 b.0 name' less b.1)))
         (λ o. ⊎_elim
@@ -97,22 +99,22 @@ module _ (names : List SideName) (rows : List Row) (fixed : FixedNames names row
         some-is : Some name ≡ Some name' → name ≡ name'
         some-is e = cc
 
-    follows-of : (name : SideName) → IsVerdict rows w (no_side name) → Some_line rows (Follows w)
+    follows-of : (name : SideName) → IsVerdict rows w (side_verdict name) → SomeLine rows (Follows w)
     follows-of name a = some-map rows _ (Follows w) (λ line h. h.0.0) a.1
 
-    concludes-of : Some_line rows (Follows w) → Some_line rows (Concludes w)
+    concludes-of : SomeLine rows (Follows w) → SomeLine rows (Concludes w)
     concludes-of = some-map rows (Follows w) (Concludes w) (λ line h. h.0)
 
     -- ONE VERDICT
     pub one-verdict : (v v' : Verdict) → IsVerdict rows w v → IsVerdict rows w v' → v ≡ v'
-    one-verdict instance_of v' a b = sym (instance-alone rows w v' a b)
-    one-verdict v instance_of a b = instance-alone rows w v b a
-    one-verdict no_shape no_shape a b = refl
-    one-verdict no_shape no_premises a b = absurd (a b.0)
-    one-verdict no_shape (no_side name) a b = absurd (a (concludes-of (follows-of name b)))
-    one-verdict no_premises no_shape a b = absurd (b a.0)
-    one-verdict no_premises no_premises a b = refl
-    one-verdict no_premises (no_side name) a b = absurd (a.1 (follows-of name b))
-    one-verdict (no_side name) no_shape a b = absurd (b (concludes-of (follows-of name a)))
-    one-verdict (no_side name) no_premises a b = absurd (b.1 (follows-of name a))
-    one-verdict (no_side name) (no_side name') a b = ap no_side (same-side name name' a b)
+    one-verdict instance_verdict v' a b = sym (instance-alone rows w v' a b)
+    one-verdict v instance_verdict a b = instance-alone rows w v b a
+    one-verdict shape_verdict shape_verdict a b = refl
+    one-verdict shape_verdict premises_verdict a b = absurd (a b.0)
+    one-verdict shape_verdict (side_verdict name) a b = absurd (a (concludes-of (follows-of name b)))
+    one-verdict premises_verdict shape_verdict a b = absurd (b a.0)
+    one-verdict premises_verdict premises_verdict a b = refl
+    one-verdict premises_verdict (side_verdict name) a b = absurd (a.1 (follows-of name b))
+    one-verdict (side_verdict name) shape_verdict a b = absurd (b (concludes-of (follows-of name a)))
+    one-verdict (side_verdict name) premises_verdict a b = absurd (b.1 (follows-of name a))
+    one-verdict (side_verdict name) (side_verdict name') a b = ap side_verdict (same-side name name' a b)

@@ -8,9 +8,10 @@ use Rattle.model_formulas.specs.Substitution.{FreeIn, closing_at}
 use Rattle.model_formulas.specs.Formulas.{Formula, truth, equality, universal, application, hole_adjoint}
 use Rattle.model_commands.specs.Theories.{Judgement, entails}
 use Rattle.rule_table.specs.Letters.{Letters, LogicVar, as_logic, as_term}
-use Rattle.rule_table.proofs.SomeLetters.{plain_letters, right_in, sort_in}
-use Rattle.rule_table.specs.Lines.{for_each}
-use Rattle.rule_table.specs.Verdicts.{IsVerdict, instance_of, no_shape, no_premises, no_side, free_side, readings_of}
+use Rattle.rule_table.proofs.SomeLetters.{readings_of, plain_letters, right_in, sort_in}
+use Rattle.rule_table.specs.Notation.{for_each}
+use Rattle.rule_table.specs.Verdicts.{IsVerdict, instance_verdict, shape_verdict, premises_verdict, side_verdict}
+use Rattle.rule_table.specs.Conditions.{free_side}
 
 -- ((true -o true) @t true) entails true at tt is no instance's conclusion
 pub adjoint_at_a_context : IsVerdict (readings_of (codes "hole_adj_out"))
@@ -20,7 +21,7 @@ pub adjoint_at_a_context : IsVerdict (readings_of (codes "hole_adj_out"))
       conclusion = entails
           (application tree (hole_adjoint truth truth) truth) truth (context tree tree);
     })
-    no_shape
+    shape_verdict
 adjoint_at_a_context (inl m) =
     let e : shape m.0.k ≡ context tree tree = ap sort_in m.1.2 in absurd cc
 adjoint_at_a_context (inr m) = m
@@ -33,7 +34,7 @@ pub adjoint_at_data : IsVerdict (readings_of (codes "hole_adj_out"))
       conclusion = entails
           (application tree (hole_adjoint truth truth) truth) truth (shape tree);
     })
-    instance_of
+    instance_verdict
 adjoint_at_data = inl (record plain_letters { k = tree }, (((refl, tt, refl), refl), tt))
 
 -- a premise at another sort
@@ -44,7 +45,7 @@ pub premise_at_another_sort : IsVerdict (readings_of (codes "cut"))
           (entails truth truth (shape tree) ∷ entails truth truth (shape grove) ∷ []);
       conclusion = entails truth truth (shape grove);
     })
-    no_premises
+    premises_verdict
 premise_at_another_sort = (
   inl (plain_letters, (refl, tt, refl)),
   λ m. ⊎_elim (λ x. wrong x.0 (ap sort_in x.1.0.2) x.1.1)
@@ -69,7 +70,7 @@ pub free_on_the_left : IsVerdict (readings_of (codes "forall_in"))
       premises = Some (entails z_is_null z_is_null (shape grove) ∷ []);
       conclusion = entails z_is_null (for_each z z_is_null) (shape grove);
     })
-    (no_side free_side)
+    (side_verdict free_side)
 free_on_the_left = (
   0,
   inl (

@@ -4,8 +4,8 @@ use Rattle.model_shapes.specs.Sorts.{DataSort, shape, context, tree, forest}
 use Rattle.model_formulas.specs.Formulas.{truth, bare_hole, empty, one_tree, application}
 use Rattle.model_commands.specs.Theories.{Judgement, entails}
 use Rattle.rule_table.specs.Letters.{Letters, sort_at}
-use Rattle.rule_table.specs.Verdicts.{Written, IsVerdict, instance_of, no_premises, readings_of}
-use Rattle.rule_table.proofs.SomeLetters.{plain_letters}
+use Rattle.rule_table.specs.Verdicts.{Written, IsVerdict, instance_verdict, premises_verdict}
+use Rattle.rule_table.proofs.SomeLetters.{readings_of, plain_letters}
 
 -- a step that cites these
 abbrev citing : List Judgement → Judgement → Written
@@ -15,14 +15,14 @@ citing js j = record { arguments = []; premises = Some js; conclusion = j }
 pub tree_at_a_shape : IsVerdict (readings_of (codes "mono_tree"))
     (citing (entails truth truth (shape tree) ∷ [])
     (entails (one_tree truth) (one_tree truth) (shape forest)))
-    instance_of
+    instance_verdict
 tree_at_a_shape = inl (record plain_letters { o = None }, (((refl, tt, refl), refl), tt))
 
 -- <?t> entails <true> at tf, from ?t entails true at tt
 pub tree_at_a_context : IsVerdict (readings_of (codes "mono_tree"))
     (citing (entails (bare_hole tree) truth (context tree tree) ∷ [])
     (entails (one_tree (bare_hole tree)) (one_tree truth) (context tree forest)))
-    instance_of
+    instance_verdict
 tree_at_a_context = inl (
   record plain_letters { P = bare_hole tree; Q = truth; o = Some tree },
   (((refl, tt, refl), refl), tt),
@@ -32,7 +32,7 @@ tree_at_a_context = inl (
 pub tree_from_a_shape : IsVerdict (readings_of (codes "mono_tree"))
     (citing (entails (bare_hole tree) truth (shape tree) ∷ [])
     (entails (one_tree (bare_hole tree)) (one_tree truth) (context tree forest)))
-    no_premises
+    premises_verdict
 tree_from_a_shape = (
   inl (record plain_letters { P = bare_hole tree; Q = truth; o = Some tree }, (refl, tt, refl)),
   λ m. ⊎_elim (λ a. wrong a.0 a.1.0.2 a.1.1) (λ n. n) m,
@@ -60,7 +60,7 @@ pub application_at_a_shape : IsVerdict (readings_of (codes "mono_app"))
     (shape forest) ∷ [])
     (entails (application forest (bare_hole forest) (empty forest)) (application forest truth truth)
     (shape forest)))
-    instance_of
+    instance_verdict
 application_at_a_shape = inl (
   record plain_letters {
     K = bare_hole forest;
@@ -81,7 +81,7 @@ pub application_at_a_context : IsVerdict (readings_of (codes "mono_app"))
     ∷ entails (one_tree (bare_hole tree)) truth (context tree forest) ∷ [])
     (entails (application forest (bare_hole forest) (one_tree (bare_hole tree)))
     (application forest truth truth) (context tree forest)))
-    instance_of
+    instance_verdict
 application_at_a_context = inl (
   record plain_letters {
     K = bare_hole forest;

@@ -10,11 +10,11 @@ use Rattle.model_formulas.specs.Substitution.{FreeIn, closing_at}
 use Rattle.model_formulas.specs.Formulas.{Named, one_tree, concatenation, whole, disjunction, empty, Formula, truth, existential, application, bare_hole, hole_adjoint, context_adjoint, same_as}
 use Rattle.model_commands.specs.Theories.{Judgement, entails, triple}
 use Rattle.rule_table.specs.Letters.{Letters, LogicVar, as_logic, as_term}
-use Rattle.rule_table.specs.Lines.{◌and◌, ◌∗◌, ◌·∗◌, for_some}
-use Rattle.rule_table.specs.Verdicts.{Written, IsVerdict, instance_of, no_shape, no_premises, no_side, free_side, readings_in}
+use Rattle.rule_table.specs.Notation.{◌and◌, ◌∗◌, ◌·∗◌, for_some}
+use Rattle.rule_table.specs.Verdicts.{Written, IsVerdict, instance_verdict, shape_verdict, premises_verdict, side_verdict, readings_in}
+use Rattle.rule_table.specs.Conditions.{free_side}
 use Rattle.rule_table.specs.Contexts as Co
 use Rattle.rule_table.specs.Variables as Va
-use Rattle.rule_table.specs.SecondHalf.{second_half}
 use Rattle.rule_table.specs.Entries.{Entry}
 use Rattle.rule_table.proofs.SomeLetters.{plain_letters}
 use Rattle.model_files.specs.RuleNames.{entailment_rule_names}
@@ -40,7 +40,7 @@ left_in (triple p c q d) = p
 pub adjoint_at_a_context : IsVerdict (readings_in Co.entries (codes "hole_adj_out"))
     (step []
     (entails (application tree (hole_adjoint truth truth) truth) truth (context tree tree)))
-    no_shape
+    shape_verdict
 unfolding sort_in
 adjoint_at_a_context m = ⊎_elim (λ y. wrong y.0 (ap sort_in y.1.2)) (λ none. none) m
   where
@@ -50,7 +50,7 @@ adjoint_at_a_context m = ⊎_elim (λ y. wrong y.0 (ap sort_in y.1.2)) (λ none.
 -- at t it does
 pub adjoint_at_data : IsVerdict (readings_in Co.entries (codes "hole_adj_out"))
     (step [] (entails (application tree (hole_adjoint truth truth) truth) truth (shape tree)))
-    instance_of
+    instance_verdict
 adjoint_at_data = inl (record plain_letters { k = tree }, (((refl, tt, refl), refl), tt))
 
 -- ((?t @t ?t) @t true) entails (?t @t (?t @t true)) at t
@@ -58,7 +58,7 @@ pub assoc_at_data : IsVerdict (readings_in Co.entries (codes "app_assoc"))
     (step [] (entails
     (application tree (application tree (bare_hole tree) (bare_hole tree)) truth)
     (application tree (bare_hole tree) (application tree (bare_hole tree) truth)) (shape tree)))
-    instance_of
+    instance_verdict
 assoc_at_data =
     inl (
       record plain_letters { K = bare_hole tree; H = bare_hole tree; s = shape tree },
@@ -71,7 +71,7 @@ pub assoc_at_a_context : IsVerdict (readings_in Co.entries (codes "app_assoc"))
     (application tree (application tree (bare_hole tree) (bare_hole tree)) truth)
     (application tree (bare_hole tree) (application tree (bare_hole tree) truth))
     (context forest tree)))
-    instance_of
+    instance_verdict
 assoc_at_a_context =
     inl (
       record plain_letters { K = bare_hole tree; H = bare_hole tree; s = context forest tree },
@@ -82,7 +82,7 @@ assoc_at_a_context =
 pub star_at_a_context : IsVerdict (readings_in Co.entries (codes "app_star_left"))
     (step [] (entails (application forest (bare_hole forest ·∗ truth) truth)
     (application forest (bare_hole forest) truth ∗ truth) (context forest forest)))
-    no_shape
+    shape_verdict
 unfolding sort_in right_in
 star_at_a_context m = ⊎_elim (λ y. whole y.0 (ap sort_in y.1.2))
     (λ r. ⊎_elim (λ y. left y.0 (ap right_in y.1.2)) (λ none. none) r) m
@@ -98,7 +98,7 @@ star_at_a_context m = ⊎_elim (λ y. whole y.0 (ap sort_in y.1.2))
 pub premise_at_another_sort : IsVerdict (readings_in Co.entries (codes "ctx_adj_in"))
     (step (entails (application tree truth truth) truth (shape tree) ∷ [])
     (entails truth (context_adjoint grove truth truth) (shape tree)))
-    no_premises
+    premises_verdict
 unfolding right_in
 premise_at_another_sort = (
   inl (plain_letters, (refl, tt, refl)),
@@ -122,7 +122,7 @@ z_as_formula = same_as (as_term z)
 -- $z entails (exists $z . ($z and $z)): some, but for the condition
 pub free_in_what_is_given : IsVerdict (readings_in Va.entries (codes "some"))
     (step [] (entails z_as_formula (for_some z (z_as_formula and z_as_formula)) (shape tree)))
-    (no_side free_side)
+    (side_verdict free_side)
 unfolding left_in right_in
 free_in_what_is_given = (
   0,
@@ -155,15 +155,10 @@ cases_named t f =
 
 pub cases_of_a_forest : IsVerdict (readings_in No.entries (codes "forest_cases"))
     (step [] (entails truth (nameless (cases_named (codes "t") (codes "f"))) (shape forest)))
-    instance_of
+    instance_verdict
 cases_of_a_forest = inl (plain_letters, (((refl, tt, refl), refl), tt))
 
 pub cases_with_one_name : IsVerdict (readings_in No.entries (codes "forest_cases"))
     (step [] (entails truth (nameless (cases_named (codes "a") (codes "a"))) (shape forest)))
-    instance_of
+    instance_verdict
 cases_with_one_name = inl (plain_letters, (((refl, tt, refl), refl), tt))
-
--- the names are those of the manual, in its order: the first 63 belong to the first half
-pub names_of_the_manual :
-    map (λ (entry : Entry). entry.name) second_half ≡ drop 63 entailment_rule_names
-names_of_the_manual = refl

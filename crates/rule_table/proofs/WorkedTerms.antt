@@ -6,9 +6,10 @@ use Rattle.model_terms.specs.Variables.{prog, logic, bound}
 use Rattle.model_terms.specs.Terms.{Term, literal, variable, sum, appended}
 use Rattle.model_formulas.specs.Formulas.{Formula, truth, falsity, conjunction, equality, existential, same_as}
 use Rattle.model_commands.specs.Theories.{entails}
-use Rattle.rule_table.specs.Lines.{literal_side, texts_side}
-use Rattle.rule_table.specs.Verdicts.{Verdict, IsVerdict, instance_of, no_shape, no_premises, no_side, readings_of}
+use Rattle.rule_table.specs.Conditions.{literal_side, texts_side}
+use Rattle.rule_table.specs.Verdicts.{Verdict, IsVerdict, instance_verdict, shape_verdict, premises_verdict, side_verdict}
 use Rattle.rule_table.proofs.TermVerdicts.{subst_verdict, distinct_verdict, concat_verdict}
+use Rattle.rule_table.proofs.SomeLetters.{readings_of}
 
 -- the verdict of a rule without arguments on a step that cites nothing: the left formula entails
 -- the right one at g
@@ -31,12 +32,12 @@ by_subst p q = subst_verdict [] (Some []) (entails p q (shape grove))
 
 -- (x = y and x = x) entails x = y: one of two occurrences
 pub one_of_two : Says (codes "eq_subst") (conjunction (equality x y) (equality x x)) (equality x y)
-    instance_of
+    instance_verdict
 one_of_two = (by_subst (conjunction (equality x y) (equality x x)) (equality x y)).1
 
 -- not the other way
 pub not_back : Says (codes "eq_subst") (conjunction (equality x y) (equality x y)) (equality x x)
-    no_shape
+    shape_verdict
 not_back = (by_subst (conjunction (equality x y) (equality x y)) (equality x x)).1
 
 -- ({x + 1} = y and x = {{x + 1} + 1}) entails x = {y + 1}: in a term
@@ -44,7 +45,7 @@ abbrev in_a_term : Formula
 in_a_term =
     conjunction (equality (sum x (number 1)) y) (equality x (sum (sum x (number 1)) (number 1)))
 
-pub within_a_term : Says (codes "eq_subst") in_a_term (equality x (sum y (number 1))) instance_of
+pub within_a_term : Says (codes "eq_subst") in_a_term (equality x (sum y (number 1))) instance_verdict
 within_a_term = (by_subst in_a_term (equality x (sum y (number 1)))).1
 
 -- (x = $v and (exists $w . x = $w)) entails (exists $w . $v = $w), also where the binder is called
@@ -56,14 +57,14 @@ abbrev bound_to : Term → Formula
 bound_to t = existential (value int_sort) (equality t (variable (bound 0 (value int_sort))))
 
 pub under_a_binder : Says (codes "eq_subst") (conjunction (equality x v) (bound_to x)) (bound_to v)
-    instance_of
+    instance_verdict
 under_a_binder = (by_subst (conjunction (equality x v) (bound_to x)) (bound_to v)).1
 
 -- nor is anything caught: it doesn't entail (exists $w . $w = $w)
 abbrev caught : Formula
 caught = bound_to (variable (bound 0 (value int_sort)))
 
-pub none_caught : Says (codes "eq_subst") (conjunction (equality x v) (bound_to x)) caught no_shape
+pub none_caught : Says (codes "eq_subst") (conjunction (equality x v) (bound_to x)) caught shape_verdict
 none_caught = (by_subst (conjunction (equality x v) (bound_to x)) caught).1
 
 -- ($g = $h and $g) doesn't entail $h: `$g` as a formula is no term
@@ -73,12 +74,12 @@ g = variable (logic (codes "g") (shape grove))
 abbrev h : Term
 h = variable (logic (codes "h") (shape grove))
 
-pub no_term : Says (codes "eq_subst") (conjunction (equality g h) (same_as g)) (same_as h) no_shape
+pub no_term : Says (codes "eq_subst") (conjunction (equality g h) (same_as g)) (same_as h) shape_verdict
 no_term = (by_subst (conjunction (equality g h) (same_as g)) (same_as h)).1
 
 -- but ($g = $h and $g = $g) entails $g = $h
 pub terms_of_groves : Says (codes "eq_subst") (conjunction (equality g h) (equality g g))
-    (equality g h) instance_of
+    (equality g h) instance_verdict
 terms_of_groves = (by_subst (conjunction (equality g h) (equality g g)) (equality g h)).1
 
 -- a citation that isn't wanted
@@ -87,7 +88,7 @@ pub cited : IsVerdict (readings_of (codes "eq_subst"))
       arguments = [];
       premises = Some (entails truth truth (shape grove) ∷ []);
       conclusion = entails (conjunction (equality x y) truth) truth (shape grove);
-    }) no_premises
+    }) premises_verdict
 cited =
     (subst_verdict [] (Some (entails truth truth (shape grove) ∷ []))
     (entails (conjunction (equality x y) truth) truth (shape grove))).1
@@ -96,17 +97,17 @@ cited =
 abbrev by_distinct : (p q : Formula) → (v : Verdict) × Says (codes "distinct") p q v
 by_distinct p q = distinct_verdict [] (Some []) (entails p q (shape grove))
 
-pub one_and_two : Says (codes "distinct") (equality (number 1) (number 2)) falsity instance_of
+pub one_and_two : Says (codes "distinct") (equality (number 1) (number 2)) falsity instance_verdict
 one_and_two = (by_distinct (equality (number 1) (number 2)) falsity).1
 
 pub one_and_one : Says (codes "distinct") (equality (number 1) (number 1)) falsity
-    (no_side literal_side)
+    (side_verdict literal_side)
 one_and_one = (by_distinct (equality (number 1) (number 1)) falsity).1
 
-pub no_literal : Says (codes "distinct") (equality x (number 1)) falsity (no_side literal_side)
+pub no_literal : Says (codes "distinct") (equality x (number 1)) falsity (side_verdict literal_side)
 no_literal = (by_distinct (equality x (number 1)) falsity).1
 
-pub no_falsity : Says (codes "distinct") (equality (number 1) (number 2)) truth no_shape
+pub no_falsity : Says (codes "distinct") (equality (number 1) (number 2)) truth shape_verdict
 no_falsity = (by_distinct (equality (number 1) (number 2)) truth).1
 
 -- CONCAT
@@ -125,16 +126,16 @@ joined =
     equality (appended (appended (text (codes "a")) (text (codes "b"))) u)
     (appended (text (codes "ab")) (appended (text []) u))
 
-pub joined_literals : Says (codes "concat") truth joined instance_of
+pub joined_literals : Says (codes "concat") truth joined instance_verdict
 joined_literals = (by_concat truth joined).1
 
 -- {"a" ++ u} = {u ++ "a"}
 abbrev turned : Formula
 turned = equality (appended (text (codes "a")) u) (appended u (text (codes "a")))
 
-pub other_order : Says (codes "concat") truth turned (no_side texts_side)
+pub other_order : Says (codes "concat") truth turned (side_verdict texts_side)
 other_order = (by_concat truth turned).1
 
 -- integers are no texts
-pub no_texts : Says (codes "concat") truth (equality x x) no_shape
+pub no_texts : Says (codes "concat") truth (equality x x) shape_verdict
 no_texts = (by_concat truth (equality x x)).1

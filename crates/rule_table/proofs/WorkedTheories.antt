@@ -10,10 +10,10 @@ use Rattle.model_formulas.specs.Nameless.{nameless}
 use Rattle.model_terms.specs.Stores.{ProgVar, named, as_var}
 use Rattle.model_commands.specs.Commands.{Command, skip, assign, block, stop, ◌then◌, call}
 use Rattle.model_commands.specs.Theories.{JudgementOf, entails, triple, auto, by_rule, StepOf, ProcedureOf, Theory, nameless_procedure}
-use Rattle.rule_table.specs.Letters.{Letters}
-use Rattle.rule_table.specs.Lines.{prog_term}
-use Rattle.rule_table.specs.Triples.{chain, block_of}
-use Rattle.rule_table.specs.Verdicts.{no_shape, no_premises}
+use Rattle.rule_table.specs.Letters.{Letters, Link}
+use Rattle.rule_table.specs.Notation.{prog_term}
+use Rattle.rule_table.specs.Rules.{chain, block_of}
+use Rattle.rule_table.specs.Verdicts.{shape_verdict, premises_verdict}
 use Rattle.rule_table.specs.Accepted.{IsAccepted, IsFirstBad, gap, fails, no_proof, here, later, at_end, in_first}
 use Rattle.rule_table.proofs.SomeLetters.{plain_letters}
 use Rattle.rule_table.proofs.WorkedTriples.{command_of, pre_of, post_of}
@@ -138,10 +138,10 @@ pub file_inc_fails : IsFirstBad (file_inc 2) (record {
   procedure = 1;
   step = 1;
   fault = fails
-      no_shape;
+      shape_verdict;
 })
-file_inc_fails = in_first _ [] 1 1 (fails no_shape)
-    (here [] _ [] 1 (fails no_shape) (
+file_inc_fails = in_first _ [] 1 1 (fails shape_verdict)
+    (here [] _ [] 1 (fails shape_verdict) (
       (λ m. ⊎_elim (λ x. wrong x.0 (ap command_of x.1.2)
           (ap post_of x.1.2) (ap pre_of x.1.2)) (λ z. z) m),
       tt,
@@ -190,44 +190,45 @@ pub file_two_fails : IsFirstBad file_two (record {
   procedure = 1;
   step = 3;
   fault = fails
-      no_premises;
+      premises_verdict;
 })
-file_two_fails = in_first _ [] 1 3 (fails no_premises)
-    (later [] _ _ 1 3 (fails no_premises) (inl (
+file_two_fails = in_first _ [] 1 3 (fails premises_verdict)
+    (later [] _ _ 1 3 (fails premises_verdict) (inl (
       record plain_letters { P = equals_a; k = grove },
       (((refl, tt, refl), refl), tt),
     ))
-    (later _ _ _ 2 3 (fails no_premises) (inl (
+    (later _ _ _ 2 3 (fails premises_verdict) (inl (
       record plain_letters { P = empty grove; k = grove },
       (((refl, tt, refl), refl), tt),
     ))
-    (here _ _ [] 3 (fails no_premises) (
+    (here _ _ [] 3 (fails premises_verdict) (
       (
         inl (
           record plain_letters {
             P = equals_a;
+            C = skip;
+            Q = equals_a;
+            links = record { command = skip; behind = equals_a } ∷ [];
             k = grove;
-            links = (skip, equals_a) ∷ (skip, equals_a)
-                ∷ [];
           },
           (refl, tt, refl),
         ),
-        λ m. ⊎_elim (λ x. wrong x.0.P x.0.k x.0.links (ap command_of x.1.0.2) x.1.1) (λ z. z) m,
+        λ m. ⊎_elim (λ x. wrong x.0.P x.0.Q x.0.C x.0.k x.0.links (ap command_of x.1.0.2) x.1.1) (λ z. z) m,
       ),
       tt,
     ))))
   where
-    wrong : (p : Formula) (k : DataSort) (links : List (Command × Formula)) → block (block_of links)
-        ≡ two_skips
-        → Some (chain p links k) ≡ Some (triple equals_a skip equals_a grove ∷ triple (empty grove)
-        skip (empty grove) grove ∷ []) → ⊥
-    wrong p k [] b e = cc
-    wrong p k (x ∷ []) b e = cc
-    wrong p k (x ∷ y ∷ []) b e =
-        let one : x.1 ≡ equals_a = cc in
-        let other : x.1 ≡ empty grove = cc in
+    wrong : (p q : Formula) (c : Command) (k : DataSort) (links : List Link)
+        → block (c then block_of links) ≡ two_skips
+        → Some (triple p c q k ∷ chain q links k)
+        ≡ Some (triple equals_a skip equals_a grove ∷ triple (empty grove) skip (empty grove) grove
+        ∷ []) → ⊥
+    wrong p q c k [] b e = cc
+    wrong p q c k (y ∷ []) b e =
+        let one : q ≡ equals_a = cc in
+        let other : q ≡ empty grove = cc in
         cc
-    wrong p k (x ∷ y ∷ z ∷ links) b e = cc
+    wrong p q c k (y ∷ z ∷ links) b e = cc
 
 -- a gap
 abbrev file_same : Theory

@@ -10,12 +10,12 @@ use Rattle.model_formulas.specs.Substitution.{FreeIn, closing_at}
 use Rattle.model_formulas.specs.Formulas.{Formula, whole, truth, falsity, conjunction, negation, equality, existential, application, empty, bare_hole, node_formula, one_tree, one_root, concatenation, grove_sum}
 use Rattle.model_terms.specs.Stores.{ProgVar, named, as_var}
 use Rattle.model_commands.specs.Commands.{Command, Modifies, skip, assign, parent_node, remove_child}
-use Rattle.rule_table.specs.Lines.{InTerms}
 use Rattle.model_commands.specs.Theories.{Judgement, entails, triple}
 use Rattle.rule_table.specs.Letters.{Letters, LogicVar, as_logic, as_term}
-use Rattle.rule_table.specs.Lines.{FreeInSome, hoare, for_some, prog_term}
-use Rattle.rule_table.specs.Triples.{triples}
-use Rattle.rule_table.specs.Verdicts.{IsVerdict, Verdict, no_shape, no_premises, no_side, modified_side, assigned_side, readings_in}
+use Rattle.rule_table.specs.Notation.{hoare, for_some, prog_term}
+use Rattle.rule_table.specs.Table.{triples}
+use Rattle.rule_table.specs.Verdicts.{IsVerdict, Verdict, shape_verdict, premises_verdict, side_verdict, readings_in}
+use Rattle.rule_table.specs.Conditions.{modified_side, assigned_side}
 use Rattle.rule_table.proofs.SomeLetters.{plain_letters}
 
 -- the verdict on a step of this rule, with these arguments, these premises and this conclusion
@@ -52,7 +52,7 @@ never = conjunction truth (negation truth)
 pub turned_premises : Verdict_is (codes "consequence") []
     (entails never falsity (shape grove) ∷ hoare truth skip never grove ∷ entails truth truth
     (shape grove) ∷ [])
-    (hoare truth skip falsity grove) no_premises
+    (hoare truth skip falsity grove) premises_verdict
 turned_premises = (
   inl (record plain_letters { Q = falsity }, (refl, tt, refl)),
   λ m. ⊎_elim
@@ -81,7 +81,7 @@ some_is_null = for_some first_variable (is_null first_variable)
 pub two_binder_names : Verdict_is (codes "eliminate") []
     (hoare (is_null first_variable) skip (is_null second_variable) grove ∷ [])
     (hoare (for_some first_variable (is_null first_variable)) skip
-    (for_some second_variable (is_null second_variable)) grove) no_premises
+    (for_some second_variable (is_null second_variable)) grove) premises_verdict
 two_binder_names = (
   inl (
     record plain_letters {
@@ -132,7 +132,7 @@ pub modified_frame : Verdict_is (codes "frame") []
     (hoare (empty grove) (assign x_int one) (empty grove) grove ∷ [])
     (hoare (application grove framed (empty grove)) (assign x_int one)
     (application grove framed (empty grove)) grove)
-    (no_side modified_side)
+    (side_verdict modified_side)
 modified_frame = (
   0,
   inl (
@@ -169,7 +169,7 @@ pub assigned_parent_none : Verdict_is (codes "parent_none") [] []
     (hoare (conjunction root_at_x (equality (prog_term x_node) (prog_term x_node)))
     (parent_node x_node (prog_term x_node)) (conjunction root_at_x
     (equality (prog_term x_node) (literal null))) grove)
-    (no_side assigned_side)
+    (side_verdict assigned_side)
 assigned_parent_none = (
   0,
   inl (
@@ -190,12 +190,12 @@ assigned_parent_none = (
     wrong : (l : Letters) → conjunction (one_root (node_formula l.S l.I l.P l.L)) (equality l.E l.I)
         ≡ conjunction root_at_x (equality (prog_term x_node) (prog_term x_node))
         → parent_node l.v l.E ≡ parent_node x_node (prog_term x_node)
-        → (InTerms (as_var l.v) (l.S ∷ l.I ∷ l.L ∷ []) ⊎ FreeInSome (as_var l.v) (l.P ∷ []) → ⊥) → ⊥
+        → (FreeIn (as_var l.v) (node_formula l.S l.I l.P l.L) → ⊥) → ⊥
     wrong l p c n =
         let number_is : l.I ≡ prog_term x_node = cc in
         let variable_is : l.v ≡ x_node = cc in
-        n (inl (inr (inl (subst (λ v. InTerm (as_var v) l.I) (sym variable_is)
-        (subst (InTerm (as_var x_node)) (sym number_is) refl)))))
+        n (inr (inl (subst (λ v. InTerm (as_var v) l.I) (sym variable_is)
+        (subst (InTerm (as_var x_node)) (sym number_is) refl))))
 
 -- remove without its second part
 abbrev child : Formula
@@ -212,7 +212,7 @@ pub no_removed_root : Verdict_is (codes "remove") [] []
     (equality (prog_term x_node) (prog_term x_node))) (equality
     (prog_term (named (codes "n") node_sort)) (prog_term (named (codes "n") node_sort))))
     (remove_child (prog_term x_node) (prog_term (named (codes "n") node_sort)))
-    (parent_with (concatenation whole truth truth)) grove) no_shape
+    (parent_with (concatenation whole truth truth)) grove) shape_verdict
 no_removed_root m = ⊎_elim (λ y. wrong y.0 (ap post_of y.1.2)) (λ z. z) m
   where
     wrong : (l : Letters) → grove_sum (application tree l.K (node_formula l.S l.I

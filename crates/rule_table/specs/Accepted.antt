@@ -2,14 +2,8 @@
 use Rattle.std.specs.Prelude.{◌≡◌, ℕ, ◌+◌, ◌==◌, cond, List, [], ◌∷◌, ◌++◌, Option, Some, None}
 use Rattle.model_terms.specs.Terms.{Term}
 use Rattle.model_commands.specs.Theories.{Judgement, Reason, auto, by_rule, Step, Procedure, Procedures, Theory, procedures_of, own_triple}
-use Rattle.rule_table.specs.Entries.{Entry}
-use Rattle.rule_table.specs.Table.{entailments}
-use Rattle.rule_table.specs.Triples.{triples}
-use Rattle.rule_table.specs.Verdicts.{Written, IsInstance, Verdict, instance_of, IsVerdict, readings_in}
-
--- THE TABLE of a theory with these procedures
-abbrev pub table : Procedures → List Entry
-table procedures = entailments ++ triples procedures
+use Rattle.rule_table.specs.Table.{table}
+use Rattle.rule_table.specs.Verdicts.{Written, IsInstance, Verdict, instance_verdict, IsVerdict, readings_in}
 
 -- the judgement of the first step with the number
 abbrev pub judgement_numbered : ℕ → List Step → Option Judgement
@@ -98,7 +92,7 @@ pub record BadPlace : Type 0 where
 
 -- a verdict that isn't instance
 abbrev pub Refuses : Verdict → Type 0
-Refuses instance_of = ⊥
+Refuses instance_verdict = ⊥
 Refuses verdict = Unit {0}
 
 -- why a step with this reason is bad

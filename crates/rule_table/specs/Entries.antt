@@ -1,5 +1,6 @@
--- The entries of a table of rules.
-use Rattle.std.specs.Prelude.{ℕ, List, [], ◌∷◌, ◌++◌, codes}
+-- The entries of the tables of rules.
+use Rattle.std.specs.Prelude.{List, [], ◌∷◌, ◌++◌, map, codes}
+use Rattle.model_shapes.specs.Values.{Name}
 use Rattle.rule_table.specs.Letters.{Letters}
 use Rattle.rule_table.specs.Lines.{Line}
 
@@ -9,15 +10,16 @@ Row = Letters → Line
 
 -- the rows of a rule, one for each of its readings
 pub record Entry : Type 0 where
-  pub name : List ℕ
+  pub name : Name
   pub readings : List Row
 
 -- an entry
-abbrev pub ◌is◌ : List ℕ → List Row → Entry
+abbrev pub ◌is◌ : Name → List Row → Entry
 name is readings = record { name = name; readings = readings }
 
 infix 30 ◌is◌
 -- both ways: the rule reads from left to right, and that with `_back` from right to left
-abbrev pub both_ways : List ℕ → (Letters → Line × Line) → List Entry
-both_ways name row =
-    (name is (λ l. (row l).0) ∷ []) ∷ (name ++ codes "_back" is (λ l. (row l).1) ∷ []) ∷ []
+abbrev pub both_ways : Name → List (Letters → Line × Line) → List Entry
+both_ways name rows =
+    (name is map (λ row l. (row l).0) rows)
+    ∷ (name ++ codes "_back" is map (λ row l. (row l).1) rows) ∷ []

@@ -1,10 +1,11 @@
--- The table of entailment rules: the length of a forest.
+-- Rules of entailment: the length of a forest.
 use Rattle.std.specs.Prelude.{List, [], ◌∷◌, codes}
 use Rattle.model_shapes.specs.Sorts.{shape, forest}
 use Rattle.model_terms.specs.Terms.{sum}
 use Rattle.model_formulas.specs.Formulas.{truth, at_most, empty, one_tree, length_is}
 use Rattle.rule_table.specs.Letters.{Letters}
-use Rattle.rule_table.specs.Lines.{Line, always, ◌⊢◌, ◌at◌, ◌and◌, ◌∗◌, ◌equals◌}
+use Rattle.rule_table.specs.Notation.{◌⊢◌, ◌at◌, ◌and◌, ◌∗◌, ◌equals◌}
+use Rattle.rule_table.specs.Lines.{Line, always}
 use Rattle.rule_table.specs.Entries.{Entry, ◌is◌}
 use Rattle.rule_table.specs.Closed.{number, some_length}
 
@@ -40,7 +41,7 @@ module _ (letters : Letters) where
   abbrev pub len_nonneg : Line
   len_nonneg = always (length_is E ⊢ at_most (number 0) E at shape forest)
 
--- the rules
+-- the entries
 abbrev pub entries : List Entry
 entries =
     (codes "len_empty" is len_empty ∷ []) ∷

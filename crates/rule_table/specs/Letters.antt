@@ -1,9 +1,10 @@
--- The letters of the tables of rules: what a choice gives to each of them.
+-- The letters of the tables of rules, and the things that a choice gives to them.
 use Rattle.std.specs.Prelude.{ℕ, List, Option, Some, None}
+use Rattle.model_shapes.specs.Values.{Name}
 use Rattle.model_shapes.specs.Sorts.{Sort, shape, context, DataSort}
 use Rattle.model_terms.specs.Variables.{Var, logic}
 use Rattle.model_terms.specs.Terms.{Term, variable}
-use Rattle.model_formulas.specs.Formulas.{Formula}
+use Rattle.model_formulas.specs.Formulas.{Formula, node_formula}
 use Rattle.model_terms.specs.Stores.{ProgVar}
 use Rattle.model_commands.specs.Commands.{Command, Block}
 use Rattle.model_terms.specs.Conditions.{Cond}
@@ -12,7 +13,7 @@ use Rattle.rule_table.specs.Linear.{Weighed}
 
 -- a logic variable: its name and its sort
 pub record LogicVar : Type 0 where
-  pub name : List ℕ
+  pub name : Name
   pub sort : Sort
 
 -- as a variable of formulas
@@ -27,6 +28,11 @@ as_term x = variable (as_logic x)
 abbrev pub sort_at : Option DataSort → DataSort → Sort
 sort_at None k = shape k
 sort_at (Some h) k = context h k
+
+-- A command, and the formula that holds behind it.
+pub record Link : Type 0 where
+  pub command : Command
+  pub behind : Formula
 
 -- One thing for each letter. Formulas stand without the names of bound variables.
 pub record Letters : Type 0 where
@@ -49,19 +55,18 @@ pub record Letters : Type 0 where
   pub J : Term
   pub M : Term
   pub G : Term
-  -- the logic variable $x
+  -- the logic variable, written $x in the rows
   pub x : LogicVar
-  -- comparisons, each with a number
+  -- comparisons, each with the number that it is multiplied by
   pub W : Weighed
-  -- the program variable of a command
+  -- the program variable of a command, written x in the rows
   pub v : ProgVar
-  -- a command; the parts of the others: a condition, blocks, and the commands of a block, each
-  -- with the formula behind it
+  -- a command; a condition and two blocks of others; the commands of a block behind its first
   pub C : Command
   pub c : Cond
   pub b : Block
   pub b' : Block
-  pub links : List (Command × Formula)
+  pub links : List Link
   -- of a call: the procedure, the variables that take the results, and the arguments
   pub f : Procedure
   pub rs : List ProgVar
@@ -72,3 +77,11 @@ pub record Letters : Type 0 where
   pub h : DataSort
   pub k : DataSort
   pub j : DataSort
+
+-- S#I[p]%L, the one node of the rows that speak of nodes
+abbrev pub one_node : Letters → Formula → Formula
+one_node l p = node_formula l.S l.I p l.L
+
+-- T#J[Q]%M, the other
+abbrev pub other_node : Letters → Formula
+other_node l = node_formula l.T l.J l.Q l.M

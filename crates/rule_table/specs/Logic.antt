@@ -2,7 +2,9 @@
 use Rattle.std.specs.Prelude.{List, [], ◌∷◌, codes}
 use Rattle.model_formulas.specs.Formulas.{truth, falsity, negation}
 use Rattle.rule_table.specs.Letters.{Letters}
-use Rattle.rule_table.specs.Lines.{Line, always, ◌⟹◌, ◌provided◌, ◌with_argument◌, not_free, of_sort, ◌⊢◌, ◌at◌, ◌and◌, ◌or◌, ◌implies◌, for_some, for_each, instead}
+use Rattle.rule_table.specs.Notation.{◌⊢◌, ◌at◌, ◌and◌, ◌or◌, ◌implies◌, for_some, for_each, instead}
+use Rattle.rule_table.specs.Conditions.{not_free, of_sort}
+use Rattle.rule_table.specs.Lines.{Line, always, ◌⟹◌, ◌provided◌, ◌given◌, ◌with_arguments◌}
 use Rattle.rule_table.specs.Entries.{Entry, ◌is◌}
 
 module _ (letters : Letters) where
@@ -74,11 +76,15 @@ module _ (letters : Letters) where
 
   -- with (E): (forall $x . P) entails P with E for $x
   abbrev pub forall_out : Line
-  forall_out = always (for_each x P ⊢ instead E x P at s) with_argument of_sort x.sort E
+  forall_out = always (for_each x P ⊢ instead E x P at s)
+      with_arguments (E ∷ [])
+      given of_sort x.sort E
 
   -- with (E): P with E for $x entails (exists $x . P)
   abbrev pub exists_in : Line
-  exists_in = always (instead E x P ⊢ for_some x P at s) with_argument of_sort x.sort E
+  exists_in = always (instead E x P ⊢ for_some x P at s)
+      with_arguments (E ∷ [])
+      given of_sort x.sort E
 
   -- P entails Q ==> (exists $x . P) entails Q; free: $x not free in Q
   abbrev pub exists_out : Line

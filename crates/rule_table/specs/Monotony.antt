@@ -1,13 +1,15 @@
 -- Rules of entailment: what is entailed may stand in its place, and pure formulas move freely.
 use Rattle.std.specs.Prelude.{List, [], ◌∷◌, map, codes}
 use Rattle.model_shapes.specs.Sorts.{shape, context, tree, forest, grove}
-use Rattle.model_formulas.specs.Formulas.{Formula, application, context_adjoint, node_formula, one_tree, one_root}
-use Rattle.rule_table.specs.Letters.{Letters, sort_at}
-use Rattle.rule_table.specs.Lines.{Line, always, ◌⟹◌, ◌provided◌, pure, ◌⊢◌, ◌at◌, ◌and◌, ◌∗◌, ◌·∗◌, ◌∗·◌, ◌⊹◌, ◌·⊹◌, ◌⊸◌}
+use Rattle.model_formulas.specs.Formulas.{Formula, application, context_adjoint, one_tree, one_root}
+use Rattle.rule_table.specs.Letters.{Letters, sort_at, one_node}
+use Rattle.rule_table.specs.Notation.{◌⊢◌, ◌at◌, ◌and◌, ◌∗◌, ◌·∗◌, ◌∗·◌, ◌⊹◌, ◌·⊹◌, ◌⊸◌}
+use Rattle.rule_table.specs.Conditions.{pure}
+use Rattle.rule_table.specs.Lines.{Line, always, ◌⟹◌, ◌provided◌}
 use Rattle.rule_table.specs.Entries.{Entry, ◌is◌}
 
 module _ (letters : Letters) where
-  open letters use {P, Q, A, B, K, H, S, I, L, s, o, h, k}
+  open letters use {P, Q, A, B, K, H, s, o, h, k}
 
   -- P entails A, Q entails B ==> (P * Q) entails (A * B)
   abbrev pub mono_star : Line
@@ -37,7 +39,7 @@ module _ (letters : Letters) where
   -- P entails Q ==> S#I[P]%L entails S#I[Q]%L
   abbrev pub mono_node : Line
   mono_node = (P ⊢ Q at sort_at o forest) ∷ []
-      ⟹ node_formula S I P L ⊢ node_formula S I Q L at sort_at o tree
+      ⟹ one_node letters P ⊢ one_node letters Q at sort_at o tree
 
   -- P entails Q ==> <P> entails <Q>
   abbrev pub mono_tree : Line
@@ -74,7 +76,7 @@ abbrev pub parts : List (Letters → Formula → Formula)
 parts =
     (λ l z. z ∗ l.B) ∷ (λ l z. l.B ∗ z) ∷ (λ l z. z ·∗ l.B) ∷ (λ l z. l.B ·∗ z) ∷
     (λ l z. z ∗· l.B) ∷ (λ l z. l.B ∗· z) ∷ (λ l z. z ⊹ l.B) ∷ (λ l z. l.B ⊹ z) ∷
-    (λ l z. z ·⊹ l.B) ∷ (λ l z. l.B ·⊹ z) ∷ (λ l z. node_formula l.S l.I z l.L) ∷
+    (λ l z. z ·⊹ l.B) ∷ (λ l z. l.B ·⊹ z) ∷ (λ l z. one_node l z) ∷
     (λ l z. one_tree z) ∷ (λ l z. one_root z) ∷ (λ l z. application l.h z l.B) ∷
     (λ l z. application l.h l.B z) ∷ []
 

@@ -1,23 +1,24 @@
--- The table of entailment rules: nodes and their numbers, roots, and what is first or last.
+-- Rules of entailment: nodes and their numbers, roots, and what is first or last.
 use Rattle.std.specs.Prelude.{List, [], ◌∷◌, codes}
 use Rattle.model_shapes.specs.Sorts.{shape, tree, forest, grove}
 use Rattle.model_shapes.specs.Values.{null, nolist}
 use Rattle.model_terms.specs.Terms.{literal}
-use Rattle.model_formulas.specs.Formulas.{Formula, truth, falsity, negation, empty, node_formula, one_tree, one_root, application}
-use Rattle.rule_table.specs.Letters.{Letters}
-use Rattle.rule_table.specs.Lines.{Line, always, ◌⊢◌, ◌at◌, ◌and◌, ◌or◌, ◌∗◌, ◌⊹◌, ◌equals◌}
+use Rattle.model_formulas.specs.Formulas.{Formula, truth, falsity, negation, empty, one_tree, one_root, application}
+use Rattle.rule_table.specs.Letters.{Letters, one_node, other_node}
+use Rattle.rule_table.specs.Notation.{◌⊢◌, ◌at◌, ◌and◌, ◌or◌, ◌∗◌, ◌⊹◌, ◌equals◌}
+use Rattle.rule_table.specs.Lines.{Line, always}
 use Rattle.rule_table.specs.Entries.{Entry, ◌is◌}
 use Rattle.rule_table.specs.Closed.{some_node, first_and_rest, root_and_rest}
 
 module _ (letters : Letters) where
   open letters use {P, Q, A, B, K, H, S, I, L, T, J, M, s}
 
-  -- S#I[P]%L and T#J[Q]%M
-  abbrev one_node : Formula → Formula
-  one_node p = node_formula S I p L
+  -- S#I[p]%L, and T#J[Q]%M
+  abbrev one : Formula → Formula
+  one = one_node letters
 
-  abbrev other_node : Formula
-  other_node = node_formula T J Q M
+  abbrev other : Formula
+  other = other_node letters
 
   -- ((not I = J) and (not L = M))
   abbrev other_numbers : Formula
@@ -25,8 +26,8 @@ module _ (letters : Letters) where
 
   -- (S#I[P]%L and T#J[Q]%M) entails (S#I[(P and Q)]%L and ((S = T and I = J) and L = M))
   abbrev pub node_and : Line
-  node_and = always (one_node P and other_node
-      ⊢ one_node (P and Q) and (((S equals T) and (I equals J)) and (L equals M)) at s)
+  node_and = always (one P and other
+      ⊢ one (P and Q) and (((S equals T) and (I equals J)) and (L equals M)) at s)
 
   -- (<P> and <Q>) entails <(P and Q)>
   abbrev pub tree_and : Line
@@ -42,22 +43,22 @@ module _ (letters : Letters) where
 
   -- S#I[P]%L entails ((not I = null) and (not L = nolist))
   abbrev pub not_null : Line
-  not_null = always (one_node P
+  not_null = always (one P
       ⊢ negation (I equals literal null) and negation (L equals literal nolist) at s)
 
   -- ((K @t S#I[P]%L) * (H @t T#J[Q]%M)) entails ((not I = J) and (not L = M))
   abbrev pub apart_star : Line
-  apart_star = always (application tree K (one_node P) ∗ application tree H other_node
+  apart_star = always (application tree K (one P) ∗ application tree H other
       ⊢ other_numbers at shape forest)
 
   -- ((K @t S#I[P]%L) + (H @t T#J[Q]%M)) entails ((not I = J) and (not L = M)), at g
   abbrev pub apart_plus : Line
-  apart_plus = always (application tree K (one_node P) ⊹ application tree H other_node
+  apart_plus = always (application tree K (one P) ⊹ application tree H other
       ⊢ other_numbers at shape grove)
 
   -- S#I[(K @t T#J[Q]%M)]%L entails ((not I = J) and (not L = M)), at t
   abbrev pub apart_up : Line
-  apart_up = always (one_node (application tree K other_node) ⊢ other_numbers at shape tree)
+  apart_up = always (one (application tree K other) ⊢ other_numbers at shape tree)
 
   -- true entails (0f or (exists $t . (exists $f . (<$t> * $f)))), at f
   abbrev pub forest_cases : Line
@@ -95,7 +96,7 @@ module _ (letters : Letters) where
   last = always ((Q ∗ one_tree P) and (B ∗ one_tree A)
       ⊢ (Q and B) ∗ one_tree (P and A) at shape forest)
 
--- the rules
+-- the entries
 abbrev pub entries : List Entry
 entries =
     (codes "node_and" is node_and ∷ []) ∷

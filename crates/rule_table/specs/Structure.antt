@@ -3,7 +3,8 @@ use Rattle.std.specs.Prelude.{List, [], ◌∷◌, ◌++◌, codes}
 use Rattle.model_shapes.specs.Sorts.{shape, context, forest, grove}
 use Rattle.model_formulas.specs.Formulas.{empty}
 use Rattle.rule_table.specs.Letters.{Letters}
-use Rattle.rule_table.specs.Lines.{Line, always, ◌⊢◌, ◌⊣⊢◌, ◌at◌, ◌∗◌, ◌·∗◌, ◌∗·◌, ◌⊹◌, ◌·⊹◌}
+use Rattle.rule_table.specs.Notation.{◌⊢◌, ◌at◌, ◌∗◌, ◌·∗◌, ◌∗·◌, ◌⊹◌, ◌·⊹◌}
+use Rattle.rule_table.specs.Lines.{Line, always, ◌⊣⊢◌}
 use Rattle.rule_table.specs.Entries.{Entry, ◌is◌, both_ways}
 
 module _ (letters : Letters) where
@@ -64,16 +65,16 @@ module _ (letters : Letters) where
 -- the entries
 abbrev pub entries : List Entry
 entries =
-    both_ways (codes "star_assoc") star_assoc ++
-    both_ways (codes "star_left_assoc") star_left_assoc ++
-    both_ways (codes "star_right_assoc") star_right_assoc ++
-    both_ways (codes "star_mid_assoc") star_mid_assoc ++
-    both_ways (codes "star_unit") star_unit ++
-    both_ways (codes "unit_star") unit_star ++
-    both_ways (codes "star_left_unit") star_left_unit ++
-    both_ways (codes "star_right_unit") star_right_unit ++
-    both_ways (codes "plus_assoc") plus_assoc ++
+    both_ways (codes "star_assoc") (star_assoc ∷ []) ++
+    both_ways (codes "star_left_assoc") (star_left_assoc ∷ []) ++
+    both_ways (codes "star_right_assoc") (star_right_assoc ∷ []) ++
+    both_ways (codes "star_mid_assoc") (star_mid_assoc ∷ []) ++
+    both_ways (codes "star_unit") (star_unit ∷ []) ++
+    both_ways (codes "unit_star") (unit_star ∷ []) ++
+    both_ways (codes "star_left_unit") (star_left_unit ∷ []) ++
+    both_ways (codes "star_right_unit") (star_right_unit ∷ []) ++
+    both_ways (codes "plus_assoc") (plus_assoc ∷ []) ++
     (codes "plus_comm" is plus_comm ∷ []) ∷
-    both_ways (codes "plus_unit") plus_unit ++
-    both_ways (codes "plus_left_assoc") plus_left_assoc ++
-    both_ways (codes "plus_left_unit") plus_left_unit
+    both_ways (codes "plus_unit") (plus_unit ∷ []) ++
+    both_ways (codes "plus_left_assoc") (plus_left_assoc ∷ []) ++
+    both_ways (codes "plus_left_unit") (plus_left_unit ∷ [])

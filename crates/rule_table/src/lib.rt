@@ -8,7 +8,8 @@ ghost use Rattle.model_files.specs.RuleNames.{entailment_rule_names, triple_rule
 ghost use Rattle.model_commands.specs.Theories.{Judgement, by_rule, Step, Procedure, Procedures, Theory, procedures_of};
 ghost use Rattle.rule_table.specs.Entries.{Entry};
 ghost use Rattle.rule_table.specs.Verdicts.{Written, Verdict, IsVerdict, readings_in};
-ghost use Rattle.rule_table.specs.Accepted.{table, VerdictBy, EndsWell, IsAccepted, BadPlace, IsFirstBad};
+ghost use Rattle.rule_table.specs.Table.{table};
+ghost use Rattle.rule_table.specs.Accepted.{VerdictBy, EndsWell, IsAccepted, BadPlace, IsFirstBad};
 
 /// The table has the names of the language, in their order.
 pub fn the_table_has_the_names()

@@ -15,7 +15,6 @@ use Rattle.model_commands.specs.SortTests.{BodiesSorted}
 use Rattle.model_commands.specs.Scopes.{IsScoped}
 use Rattle.model_machine.specs.ClassicalTriples.{TripleFor}
 use Rattle.model_machine.specs.Machine.{run, entering, returning, return, calling}
-use Rattle.rule_table.specs.Lines.{InTerms}
 use Rattle.model_commands.specs.Sorting.{Feed, Receive, Distinct}
 use Rattle.model_terms.specs.Stores.{Store, lookup, ProperStore, ProgVar, named, as_var, value_in}
 use Rattle.model_commands.specs.Theories.{Procedures, Procedure, procedure_named}
@@ -25,7 +24,8 @@ use Rattle.model_commands.proofs.StoreLaws.{proper-store, other-store}
 use Rattle.model_machine.proofs.Unmodified.{returning-other}
 use Rattle.model_rules.proofs.Ends.{At, Sound, At-map, to_sound}
 use Rattle.triple_laws.specs.BySteps.{Below}
-use Rattle.rule_table.specs.Lines.{passing, itself, prog_term}
+use Rattle.rule_table.specs.Rules.{passing, itself}
+use Rattle.rule_table.specs.Notation.{prog_term}
 use Rattle.triple_laws.proofs.Control.{step-first}
 use Rattle.triple_laws.proofs.Keeping.{Kept, with-kept}
 use Rattle.triple_laws.proofs.Passing.{passed-param, passed-logic, passed-bound, passed-other, passed-result, entering-agrees}

@@ -30,7 +30,7 @@ use Rattle.triple_laws.proofs.Endings.{set-env}
 use Rattle.entailment_laws.specs.Judgements.{AllProved}
 use Rattle.triple_laws.specs.BySteps.{in_steps}
 use Rattle.triple_laws.proofs.Fitting.{step-sorted}
-use Rattle.rule_table.specs.Triples.{chain, block_of, last_of}
+use Rattle.rule_table.specs.Rules.{chain, block_of, last_of}
 use Rattle.entailment_laws.proofs.Quantified.{setting-agrees}
 
 -- one step, and then what is left with fewer steps

@@ -14,7 +14,6 @@ use Rattle.model_commands.specs.SortTests.{is_sorted, stands_in, distinct_by, re
 use Rattle.model_commands.specs.Theories.{Procedures}
 use Rattle.model_commands.proofs.Sorting.{not-both, left-true}
 use Rattle.model_files.proofs.FileTests.{stands-left, stands-right}
-use Rattle.rule_table.specs.Lines.{InTerms}
 use Rattle.triple_laws.specs.BySteps.{step_fits}
 
 -- its parts have the right sorts and number

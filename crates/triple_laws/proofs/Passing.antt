@@ -10,14 +10,14 @@ use Rattle.model_terms.specs.Variables.{bound, Var, prog, logic}
 use Rattle.model_formulas.proofs.Substitutes.{after}
 use Rattle.model_commands.specs.Commands.{Among}
 use Rattle.model_machine.specs.Machine.{entering, returning}
-use Rattle.rule_table.specs.Lines.{InTerms}
 use Rattle.model_commands.specs.Sorting.{Feed, Receive, Distinct}
 use Rattle.model_groves.specs.Groves.{is_yes}
 use Rattle.model_terms.specs.Stores.{Store, lookup, value_of, text_in, ProgVar, named, as_var, set, value_in, int_in, sort_of}
 use Rattle.model_commands.proofs.StoreLaws.{meaning-value, set-meaning}
 use Rattle.model_terms.proofs.StoreLaws.{set-same, set-other}
 use Rattle.triple_laws.proofs.Endings.{value_in-decided}
-use Rattle.rule_table.specs.Lines.{passing, passed_at, itself, prog_term}
+use Rattle.rule_table.specs.Rules.{passing, passed_at, itself}
+use Rattle.rule_table.specs.Notation.{prog_term}
 
 var-is : (x y : ProgVar) → as_var x ≡ as_var y → x ≡ y
 var-is (named x s) (named y u) e = cc

@@ -1,7 +1,8 @@
 -- The last judgement of a proof holds, where each step is an instance and the rows are sound.
 use Rattle.std.proofs.Common.{◌≡◌, ℕ, List, [], ◌∷◌, ◌++◌, Bool, true, false, cond, ◌==◌, Option, Some, None, subst, refl}
 use Rattle.model_commands.specs.Theories.{Judgement, Reason, auto, by_rule, Step, Procedure, Procedures, own_triple}
-use Rattle.rule_table.specs.Accepted.{judgement_numbered, InstanceBy, AllInstances, last_judgement, IsProved, table, cited, in_front, written_at}
+use Rattle.rule_table.specs.Accepted.{judgement_numbered, InstanceBy, AllInstances, last_judgement, IsProved, cited, in_front, written_at}
+use Rattle.rule_table.specs.Table.{table}
 use Rattle.rule_table.specs.Verdicts.{readings_in}
 use Rattle.entailment_laws.specs.Judgements.{Reading, Fitting, JudgementHolds, Proved, AllProved}
 use Rattle.entailment_laws.proofs.Instances.{rows-sound, named-sound}

@@ -1,6 +1,7 @@
 -- Each row of the table of triples is sound, by the number of steps.
 use Rattle.std.proofs.Common.{◌≡◌, ◌⊎◌, ℕ, List, [], ◌∷◌, Some, subst, inl, inr, ⊎_elim, true}
-use Rattle.rule_table.specs.Triples as Tr
+use Rattle.rule_table.specs.Rules as Tr
+use Rattle.rule_table.specs.Axioms as Ax
 use Rattle.triple_laws.proofs.Control as Co
 use Rattle.triple_laws.proofs.Framing as Fr
 use Rattle.triple_laws.proofs.LogicVariables as Lo
@@ -16,7 +17,6 @@ use Rattle.model_terms.specs.Terms.{Term}
 use Rattle.model_commands.specs.Commands.{Command, assign, create_node, node_name, child_nodes, parent_node, list_item, append_child, remove_child, if_else, while_do, call}
 use Rattle.model_commands.specs.SortTests.{BodiesSorted}
 use Rattle.model_commands.specs.Scopes.{IsScoped}
-use Rattle.rule_table.specs.Lines.{InTerms}
 use Rattle.model_commands.specs.Sorting.{CallFits, Sorted}
 use Rattle.model_commands.proofs.Sorting.{sorted-command}
 use Rattle.model_terms.specs.Stores.{ProgVar, as_var}
@@ -25,8 +25,8 @@ use Rattle.model_rules.proofs.Ends.{Sound, to_sound, from_sound}
 use Rattle.entailment_laws.specs.Judgements.{Proved}
 use Rattle.triple_laws.specs.BySteps.{UpTo, step_fits, in_steps, HoldBelow}
 use Rattle.triple_laws.proofs.Fitting.{step-sorted, call-apart}
-use Rattle.rule_table.specs.Lines.{FreeInSome}
-use Rattle.rule_table.specs.Triples.{axioms, triples}
+use Rattle.rule_table.specs.Axioms.{axioms}
+use Rattle.rule_table.specs.Table.{triples}
 use Rattle.entailment_laws.proofs.SoundRows.{SoundRow, SoundEntries, sound-append, term-stands, ◌&◌}
 use Rattle.triple_laws.proofs.NodesMet.{holding_child}
 

@@ -6,9 +6,11 @@ use Rattle.model_machine.specs.LocalTriples.{MeetsItsSpecification}
 use Rattle.model_commands.specs.Theories.{Theory, Judgement, entails, triple, Step, Procedure, Procedures, procedures_of, procedure_named, own_triple}
 use Rattle.model_machine.proofs.Plain.{classical-plain}
 use Rattle.model_files.proofs.WellFormedTheories.{well-formed-bodies, well-formed-scopes}
-use Rattle.rule_table.specs.Accepted.{Each, IsProved, IsAccepted, table}
+use Rattle.rule_table.specs.Accepted.{Each, IsProved, IsAccepted}
+use Rattle.rule_table.specs.Table.{table}
 use Rattle.rule_table.specs.Table.{entailments}
-use Rattle.rule_table.specs.Triples.{triples, axioms}
+use Rattle.rule_table.specs.Table.{triples}
+use Rattle.rule_table.specs.Axioms.{axioms}
 use Rattle.rule_table.specs.Verdicts.{readings_in, Written, IsInstance}
 use Rattle.entailment_laws.specs.Judgements.{Fitting, JudgementHolds, AllProved}
 use Rattle.entailment_laws.proofs.Instances.{rows-sound, named-sound}

@@ -1,5 +1,5 @@
--- The row eq_subst as a test that goes through two formulas at once. A law says that the two are
--- the same.
+-- The row eq_subst as a test that goes through two formulas at once: its conclusions are those to
+-- which the test says yes.
 use Rattle.std.specs.Prelude.{Bool, true, false, ◌&&◌, ◌||◌}
 use Rattle.model_shapes.specs.Tests.{same_data_sort, same_sort}
 use Rattle.model_terms.specs.Terms.{Term, sum, difference, appended, raised}

@@ -1,4 +1,4 @@
--- The row eq_subst: where a variable stands in a formula as a formula, and not in a term.
+-- Where a variable stands in a formula as a formula, and not in a term; the row eq_subst asks of it.
 use Rattle.std.specs.Prelude.{◌⊎◌}
 use Rattle.model_terms.specs.Variables.{Var}
 use Rattle.model_terms.specs.Terms.{raised_var, InTerm}

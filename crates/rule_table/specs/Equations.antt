@@ -7,7 +7,9 @@ use Rattle.model_formulas.specs.Formulas.{Formula, falsity, at_most}
 use Rattle.model_shapes.specs.Tests.{same_value}
 use Rattle.rule_table.specs.Linear.{comparisons, numbers, sides, sum_of, rest, are_fair, equations_alone, at_least_zero, below_zero, is_zero}
 use Rattle.rule_table.specs.Letters.{Letters}
-use Rattle.rule_table.specs.Lines.{Line, always, ◌provided◌, ◌given◌, of_sort, in_terms, same_texts, tested, literal_side, coefficient_side, sum_side, ◌⊢◌, ◌at◌, ◌and◌, ◌or◌, ◌equals◌, instead}
+use Rattle.rule_table.specs.Notation.{◌⊢◌, ◌at◌, ◌and◌, ◌or◌, ◌equals◌, instead}
+use Rattle.rule_table.specs.Conditions.{Requirement, of_sort, in_terms, same_texts, tested, literal_side, coefficient_side, sum_side}
+use Rattle.rule_table.specs.Lines.{Line, always, ◌provided◌, ◌given◌, ◌given_each◌, ◌with_arguments◌}
 use Rattle.rule_table.specs.Entries.{Entry, ◌is◌}
 
 -- two literals that are not the same
@@ -42,27 +44,28 @@ module _ (letters : Letters) where
 
   -- with (a1, .., an): A entails B; A's conjuncts in order are n int comparisons Li <= Ri or
   -- Li = Ri; coefficient: each ai is in range, and at least 0 at a `<=`
-  abbrev pub linear : Formula → Line
-  linear B = record (always (comparisons W ⊢ B at s)) {
-    arguments = numbers W;
-    sorting = map (of_sort (value int_sort)) (sides W);
-  } provided tested coefficient_side (are_fair W)
+  abbrev pub linear : List Requirement → Formula → Line
+  linear of_sides B = always (comparisons W ⊢ B at s)
+      with_arguments numbers W
+      given_each of_sides
+      given_each map (of_sort (value int_sort)) (sides W)
+      provided tested coefficient_side (are_fair W)
 
-  -- B is E <= F; sum: F - E - s is a constant that is at least 0
+  -- B is E <= F; sum: F - E - s is a constant that is at least 0, s being the sum of ai times
+  -- (Ri - Li)
   abbrev pub linear_order : Line
-  linear_order = linear (at_most E F) provided
+  linear_order = linear [] (at_most E F) provided
       tested sum_side (at_least_zero (rest E F (sum_of W)))
 
   -- B is E = F on int; sum: F - E and s are equal as forms, and ai is 0 at each `<=`
   abbrev pub linear_equation : Line
-  linear_equation = linear (E equals F)
-      given of_sort (value int_sort) E
-      given of_sort (value int_sort) F
-      provided tested sum_side (is_zero (rest E F (sum_of W)) && equations_alone W)
+  linear_equation =
+      linear (of_sort (value int_sort) E ∷ of_sort (value int_sort) F ∷ []) (E equals F) provided
+      tested sum_side (is_zero (rest E F (sum_of W)) && equations_alone W)
 
   -- B is false; sum: s is a constant below 0
   abbrev pub linear_false : Line
-  linear_false = linear falsity provided tested sum_side (below_zero (sum_of W))
+  linear_false = linear [] falsity provided tested sum_side (below_zero (sum_of W))
 
   -- P entails E = F, on str; texts: E and F have the same pieces in order
   abbrev pub concat : Line

@@ -10,13 +10,13 @@ use Rattle.model_formulas.specs.Satisfaction.{Entails}
 use Rattle.model_shapes.proofs.Tests.{same_value-refl}
 use Rattle.entailment_laws.specs.Judgements.{Reading}
 use Rattle.rule_table.specs.Letters.{as_logic}
-use Rattle.rule_table.specs.Terms as Te
-use Rattle.rule_table.specs.Terms.{different_literals}
+use Rattle.rule_table.specs.Equations as Te
+use Rattle.rule_table.specs.Equations.{different_literals}
 use Rattle.entailment_laws.proofs.SoundRows.{SoundRow, SoundEntries, term-stands, ◌&◌}
 use Rattle.entailment_laws.proofs.Plain as Pl
 use Rattle.entailment_laws.proofs.Quantified as Qu
-use Rattle.entailment_laws.proofs.LinearRows as Li
-use Rattle.entailment_laws.proofs.TextRows as Tx
+use Rattle.entailment_laws.proofs.Linear as Li
+use Rattle.entailment_laws.proofs.Texts as Tx
 
 -- two literals that fail the test of sameness
 literals-differ : (v w : Value) → cond (same_value v w) false true ≡ true → v ≡ w → ⊥
@@ -51,13 +51,13 @@ module _ (reading : Reading) where
 
   linear_equation : SoundRow reading Te.linear_equation
   linear_equation l so w c h =
-      Li.linear_equation l.W l.s c.0 l.E l.F (term-stands (value int_sort) l.E w.1.0)
-      (term-stands (value int_sort) l.F w.0) c.1.0
+      Li.linear_equation l.W l.s c.0 l.E l.F (term-stands (value int_sort) l.E w.0)
+      (term-stands (value int_sort) l.F w.1.0) c.1.0
 
   concat : SoundRow reading Te.concat
   concat l so w c h =
-      Tx.concat l.P l.E l.F l.s (term-stands (value str_sort) l.E w.1.0)
-      (term-stands (value str_sort) l.F w.0) c.0
+      Tx.concat l.P l.E l.F l.s (term-stands (value str_sort) l.E w.0)
+      (term-stands (value str_sort) l.F w.1.0) c.0
 
   pub sound : SoundEntries reading Te.entries
   sound =
