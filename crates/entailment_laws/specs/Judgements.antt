@@ -14,11 +14,11 @@ pub record Reading : Type 1 where
   -- {P} C {Q} at a sort holds
   pub holds : Formula → Command → Formula → DataSort → Type 0
 
--- no triple fits or holds: what is left is entailments
+-- no triple holds, so what holds is an entailment
 abbrev pub entailments_alone : Reading
-entailments_alone = record { fits = λ command. ⊥; holds = λ p command q d. ⊥ }
+entailments_alone = record { fits = λ command. Unit; holds = λ p command q d. ⊥ }
 
--- a judgement has a command that fits, if it is a triple
+-- a judgement has a command that fits, or none
 abbrev pub Fitting : Reading → Judgement → Type 0
 Fitting reading (entails p q s) = Unit
 Fitting reading (triple p command q d) = reading.fits command

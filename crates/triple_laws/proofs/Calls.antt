@@ -29,6 +29,7 @@ use Rattle.rule_table.specs.Notation.{prog_term}
 use Rattle.triple_laws.proofs.Control.{step-first}
 use Rattle.triple_laws.proofs.Keeping.{Kept, with-kept}
 use Rattle.triple_laws.proofs.Passing.{passed-param, passed-logic, passed-bound, passed-other, passed-result, entering-agrees}
+use Rattle.triple_laws.proofs.Fitting.{InTerms}
 
 module _ (ps : Procedures) (bodies : BodiesSorted ps) (f : Procedure) (scoped : IsScoped f)
     (xs : List ProgVar) (ts : List Term) (feed : Feed f.params ts) (receive : Receive f.results xs)

@@ -12,7 +12,7 @@ use Rattle.model_formulas.specs.Substitution.{FreeIn, formula_with, replacing}
 use Rattle.model_terms.specs.Terms.{literal, variable, Term}
 use Rattle.model_formulas.proofs.Quantified.{replacing-env}
 use Rattle.model_formulas.proofs.Substitutes.{meets-with, meets-agrees, after}
-use Rattle.model_commands.specs.Commands.{Command, Block, skip, block, assign, if_else, while_do, local}
+use Rattle.model_commands.specs.Commands.{Command, Block, ◌then◌, skip, block, assign, if_else, while_do, local}
 use Rattle.model_terms.specs.Conditions.{Cond, truth_of}
 use Rattle.model_terms.specs.Computing.{Tests}
 use Rattle.model_commands.specs.ConditionFormulas.{formula_of}
@@ -32,6 +32,8 @@ use Rattle.triple_laws.specs.BySteps.{in_steps}
 use Rattle.triple_laws.proofs.Fitting.{step-sorted}
 use Rattle.rule_table.specs.Rules.{chain, block_of, last_of}
 use Rattle.entailment_laws.proofs.Quantified.{setting-agrees}
+use Rattle.rule_table.specs.Letters.{Link}
+use Rattle.rule_table.specs.Notation.{hoare}
 
 -- one step, and then what is left with fewer steps
 pub step-first : (th : Procedures) (n : ℕ) (J : Store → Trees → Type 0) (x : Piece)
@@ -108,26 +110,27 @@ module _ (th : Procedures) (bodies : BodiesSorted th) where
       Well-less th ⊥ n m _ (run cmd ∷ []) st g (omega arith) (s e c wc st g a)
 
   -- BLOCKS: the commands one after the other
-  chain-sound : (n : ℕ) (d : DataSort) (p : Formula) (links : List (Command × Formula))
+  chain-sound : (n : ℕ) (d : DataSort) (p : Formula) (links : List Link)
       → AllProved (in_steps th n) (chain p links d)
       → (e : Environment) (c : Trees) → Shaped (context d grove) c
       → (st : Store) (g : Trees) → At d c p e st g
       → Well th ⊥ n (At d c (last_of p links) e) (pieces_of (block_of links)) st g
   chain-sound n d p [] h e c wc st g a = at_end th ⊥ n (At d c p e) st g a
   chain-sound n d p (link ∷ links) h e c wc st g a =
-      followed th ⊥ n (At d c link.1 e) _ (run link.0 ∷ []) (pieces_of (block_of links))
-      (λ st' g' a'. chain-sound n d link.1 links h.1 e c wc st' g' a') st g
-      (to_sound th bodies n p link.0 link.1 d (step-sorted th link.0 h.0.0) h.0.1 e c wc st g a)
+      followed th ⊥ n (At d c link.behind e) _ (run link.command ∷ []) (pieces_of (block_of links))
+      (λ st' g' a'. chain-sound n d link.behind links h.1 e c wc st' g' a') st g
+      (to_sound th bodies n p link.command link.behind d (step-sorted th link.command h.0.0) h.0.1 e c wc st g a)
 
-  pub seq-sound : (n : ℕ) (d : DataSort) (p : Formula) (links : List (Command × Formula))
-      → AllProved (in_steps th n) (chain p links d)
-      → Sound th bodies n p (block (block_of links)) (last_of p links) d
-  seq-sound n d p links h e c wc st g a =
-      step-first th n _ (run (block (block_of links))) [] st g (λ m l k.
-      subst (λ z. Well th ⊥ m (At d c (last_of p links) e) z st g)
-      (sym (append-nil (pieces_of (block_of links))))
-      (Well-less th ⊥ n m _ (pieces_of (block_of links)) st g (omega arith)
-      (chain-sound n d p links h e c wc st g a)))
+  pub seq-sound : (n : ℕ) (d : DataSort) (p : Formula) (first : Command) (q : Formula)
+      (links : List Link)
+      → AllProved (in_steps th n) (hoare p first q d ∷ chain q links d)
+      → Sound th bodies n p (block (first then block_of links)) (last_of q links) d
+  seq-sound n d p first q links h e c wc st g a =
+      step-first th n _ (run (block (first then block_of links))) [] st g (λ m l k.
+      subst (λ z. Well th ⊥ m (At d c (last_of q links) e) z st g)
+      (sym (append-nil (run first ∷ pieces_of (block_of links))))
+      (Well-less th ⊥ n m _ (run first ∷ pieces_of (block_of links)) st g (omega arith)
+      (chain-sound n d p (record { command = first; behind = q } ∷ links) h e c wc st g a)))
 
   -- CHOICE
   pub if-sound : (n : ℕ) (p : Formula) (b : Cond) (x y : Block) (q : Formula) (d : DataSort)

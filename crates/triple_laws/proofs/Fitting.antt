@@ -1,6 +1,6 @@
 -- What the test of a step's command gives: parts of the right sorts and number, and calls none of
 -- whose results stands in an argument.
-use Rattle.std.proofs.Common.{◌≡◌, ℕ, List, [], ◌∷◌, true, not, inl, inr, subst}
+use Rattle.std.proofs.Common.{◌⊎◌, ◌≡◌, ℕ, List, [], ◌∷◌, true, not, inl, inr, subst}
 use Rattle.std.specs.List.{list_all, flat_map}
 use Rattle.model_shapes.proofs.Truth.{both_true}
 use Rattle.model_terms.specs.Terms.{Term, literal, variable, sum, difference, appended, InTerm}
@@ -19,6 +19,11 @@ use Rattle.triple_laws.specs.BySteps.{step_fits}
 -- its parts have the right sorts and number
 pub step-sorted : (ps : Procedures) (c : Command) → step_fits ps c ≡ true → is_sorted ps c ≡ true
 step-sorted ps c e = (both_true (is_sorted ps c) (list_all results_apart (commands_in c)) e).0
+
+-- the variable stands in one of the terms
+abbrev pub InTerms : Var → List Term → Type 0
+InTerms x [] = ⊥
+InTerms x (t ∷ ts) = InTerm x t ⊎ InTerms x ts
 
 -- what stands in a term is one of its variables
 stands-itself : (y : Var) (x : ProgVar) → as_var x ≡ y → stands_in (y ∷ []) x ≡ true

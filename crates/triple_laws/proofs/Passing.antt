@@ -18,6 +18,7 @@ use Rattle.model_terms.proofs.StoreLaws.{set-same, set-other}
 use Rattle.triple_laws.proofs.Endings.{value_in-decided}
 use Rattle.rule_table.specs.Rules.{passing, passed_at, itself}
 use Rattle.rule_table.specs.Notation.{prog_term}
+use Rattle.triple_laws.proofs.Fitting.{InTerms}
 
 var-is : (x y : ProgVar) → as_var x ≡ as_var y → x ≡ y
 var-is (named x s) (named y u) e = cc

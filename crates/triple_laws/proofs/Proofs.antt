@@ -5,11 +5,8 @@ use Rattle.rule_table.specs.Accepted.{judgement_numbered, InstanceBy, AllInstanc
 use Rattle.rule_table.specs.Table.{table}
 use Rattle.rule_table.specs.Verdicts.{readings_in}
 use Rattle.entailment_laws.specs.Judgements.{Reading, Fitting, JudgementHolds, Proved, AllProved}
-use Rattle.entailment_laws.proofs.Instances.{rows-sound, named-sound}
+use Rattle.entailment_laws.proofs.Instances.{some-is, rows-sound, named-sound}
 use Rattle.entailment_laws.proofs.SoundRows.{SoundEntries}
-
-pub some-is : {A : Type 0} (x y : A) → Some x ≡ Some y → x ≡ y
-some-is x y e = cc
 
 module _ (reading : Reading) where
   -- the judgements of these steps fit, and hold

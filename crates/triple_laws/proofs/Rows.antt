@@ -30,77 +30,6 @@ use Rattle.rule_table.specs.Table.{triples}
 use Rattle.entailment_laws.proofs.SoundRows.{SoundRow, SoundEntries, sound-append, term-stands, ◌&◌}
 use Rattle.triple_laws.proofs.NodesMet.{holding_child}
 
--- THE CONDITION ASSIGNED: a variable that is in no letter of a row isn't in its formulas
-abbrev InNone : ProgVar → List Term → List Formula → Type 0
-InNone v ts ps = InTerms (as_var v) ts ⊎ FreeInSome (as_var v) ps → ⊥
-
-module _ (v : ProgVar) (s i : Term) (p : Formula) (l : Term) where
-  not-in-node : InNone v (s ∷ i ∷ l ∷ []) (p ∷ []) → FreeIn (as_var v) (node_formula s i p l) → ⊥
-  not-in-node n (inl a) = n (inl (inl a))
-  not-in-node n (inr (inl a)) = n (inl (inr (inl a)))
-  not-in-node n (inr (inr (inl a))) = n (inr (inl a))
-  not-in-node n (inr (inr (inr a))) = n (inl (inr (inr (inl a))))
-
--- in a node of a length
-not-in-length : (v : ProgVar) (s i : Term) (p : Formula) (l g : Term)
-    → InNone v (s ∷ i ∷ l ∷ g ∷ []) (p ∷ [])
-    → FreeIn (as_var v) (node_formula s i (conjunction p (length_is g)) l) → ⊥
-not-in-length v s i p l g n a = not-in-node v s i (conjunction p (length_is g)) l
-    (⊎_elim terms formulas) a
-  where
-    terms : InTerms (as_var v) (s ∷ i ∷ l ∷ []) → ⊥
-    terms (inl a) = n (inl (inl a))
-    terms (inr (inl a)) = n (inl (inr (inl a)))
-    terms (inr (inr (inl a))) = n (inl (inr (inr (inl a))))
-    terms (inr (inr (inr a))) = a
-
-    formulas : FreeInSome (as_var v) (conjunction p (length_is g) ∷ []) → ⊥
-    formulas (inl (inl a)) = n (inr (inl a))
-    formulas (inl (inr a)) = n (inl (inr (inr (inr (inl a)))))
-    formulas (inr a) = a
-
--- in a node with a child
-module _ (v : ProgVar) (s i : Term) (p : Formula) (t j : Term) (q : Formula) (m : Term)
-    (r : Formula) (l : Term) (n : InNone v (s ∷ i ∷ l ∷ t ∷ j ∷ m ∷ []) (p ∷ q ∷ r ∷ []))
-  where
-    not-in-child : FreeIn (as_var v) (node_formula t j q m) → ⊥
-    not-in-child (inl a) = n (inl (inr (inr (inr (inl a)))))
-    not-in-child (inr (inl a)) = n (inl (inr (inr (inr (inr (inl a))))))
-    not-in-child (inr (inr (inl a))) = n (inr (inr (inl a)))
-    not-in-child (inr (inr (inr a))) = n (inl (inr (inr (inr (inr (inr (inl a)))))))
-
-    not-in-parent : FreeIn (as_var v) (holding_child s i p t j q m r l) → ⊥
-    not-in-parent (inl a) = n (inl (inl a))
-    not-in-parent (inr (inl a)) = n (inl (inr (inl a)))
-    not-in-parent (inr (inr (inl (inl (inl a))))) = n (inr (inl a))
-    not-in-parent (inr (inr (inl (inl (inr a))))) = not-in-child a
-    not-in-parent (inr (inr (inl (inr a)))) = n (inr (inr (inr (inl a))))
-    not-in-parent (inr (inr (inr a))) = n (inl (inr (inr (inl a))))
-
--- where the children before it have a length
-module _ (v : ProgVar) (s i : Term) (p : Formula) (g t j : Term) (q : Formula) (m : Term)
-    (r : Formula) (l : Term) (n : InNone v (s ∷ i ∷ l ∷ t ∷ j ∷ m ∷ g ∷ []) (p ∷ q ∷ r ∷ []))
-  where
-    item-terms : InTerms (as_var v) (s ∷ i ∷ l ∷ t ∷ j ∷ m ∷ []) → ⊥
-    item-terms (inl a) = n (inl (inl a))
-    item-terms (inr (inl a)) = n (inl (inr (inl a)))
-    item-terms (inr (inr (inl a))) = n (inl (inr (inr (inl a))))
-    item-terms (inr (inr (inr (inl a)))) = n (inl (inr (inr (inr (inl a)))))
-    item-terms (inr (inr (inr (inr (inl a))))) = n (inl (inr (inr (inr (inr (inl a))))))
-    item-terms (inr (inr (inr (inr (inr (inl a)))))) = n (inl (inr (inr (inr (inr (inr (inl a)))))))
-    item-terms (inr (inr (inr (inr (inr (inr a)))))) = a
-
-    item-formulas : FreeInSome (as_var v) (conjunction p (length_is g) ∷ q ∷ r ∷ []) → ⊥
-    item-formulas (inl (inl a)) = n (inr (inl a))
-    item-formulas (inl (inr a)) = n (inl (inr (inr (inr (inr (inr (inr (inl a))))))))
-    item-formulas (inr a) = n (inr (inr a))
-
-    not-in-item : FreeIn (as_var v) (holding_child s i (conjunction p (length_is g)) t j q m r l)
-        → ⊥
-    not-in-item =
-        not-in-parent v s i (conjunction p (length_is g)) t j q m r l
-        (⊎_elim item-terms item-formulas)
-
 -- what calls need of the procedures that they mean
 abbrev pub Scoped : Procedures → Type 0
 Scoped ps = (name : List ℕ) (f : Procedure) → procedure_named name ps ≡ Some f → IsScoped f
@@ -125,7 +54,7 @@ module _ (ps : Procedures) (bodies : BodiesSorted ps) (n : ℕ) where
 
   seq : SoundRow (in_steps ps n) Tr.seq_rule
   seq l so w c h =
-      from_sound ps bodies n l.P _ _ l.k (Co.seq-sound ps bodies n l.k l.P l.links h)
+      from_sound ps bodies n l.P _ _ l.k (Co.seq-sound ps bodies n l.k l.P l.C l.Q l.links h)
 
   if : SoundRow (in_steps ps n) Tr.if_rule
   if l so w c h =
@@ -188,56 +117,56 @@ module _ (ps : Procedures) (bodies : BodiesSorted ps) (n : ℕ) where
         l.f.name w.0 (below l.f.name l.f w.0))
 
   -- AXIOMS
-  name : SoundRow (in_steps ps n) Tr.name_axiom
+  name : SoundRow (in_steps ps n) Ax.name_axiom
   name l so w c h =
-      Re.name-sound ps (UpTo n) l.v l.E l.S l.I l.P l.L (not-in-node l.v l.S l.I l.P l.L c.0) (parts (node_name l.v l.E) so)
+      Re.name-sound ps (UpTo n) l.v l.E l.S l.I l.P l.L c.0 (parts (node_name l.v l.E) so)
 
-  children : SoundRow (in_steps ps n) Tr.children_axiom
+  children : SoundRow (in_steps ps n) Ax.children_axiom
   children l so w c h =
-      Re.children-sound ps (UpTo n) l.v l.E l.S l.I l.P l.L (not-in-node l.v l.S l.I l.P l.L c.0) (parts (child_nodes l.v l.E) so)
+      Re.children-sound ps (UpTo n) l.v l.E l.S l.I l.P l.L c.0 (parts (child_nodes l.v l.E) so)
 
-  item : SoundRow (in_steps ps n) Tr.item_axiom
+  item : SoundRow (in_steps ps n) Ax.item_axiom
   item l so w c h =
       Re.item-sound ps (UpTo n) l.v l.E l.F l.G l.S l.I l.P l.T l.J l.Q l.M l.R l.L
-      (not-in-item l.v l.S l.I l.P l.G l.T l.J l.Q l.M l.R l.L c.0) (parts (list_item l.v l.E l.F) so)
+      c.0 (parts (list_item l.v l.E l.F) so)
 
-  item_none : SoundRow (in_steps ps n) Tr.item_none_axiom
+  item_none : SoundRow (in_steps ps n) Ax.item_none_axiom
   item_none l so w c h =
       Re.item-none-sound ps (UpTo n) l.v l.E l.F l.G l.S l.I l.P l.L
-      (not-in-length l.v l.S l.I l.P l.L l.G c.0) (parts (list_item l.v l.E l.F) so)
+      c.0 (parts (list_item l.v l.E l.F) so)
 
-  parent : SoundRow (in_steps ps n) Tr.parent_axiom
+  parent : SoundRow (in_steps ps n) Ax.parent_axiom
   parent l so w c h =
       Re.parent-sound ps (UpTo n) l.v l.E l.S l.I l.P l.T l.J l.Q l.M l.R l.L
-      (not-in-parent l.v l.S l.I l.P l.T l.J l.Q l.M l.R l.L c.0) (parts (parent_node l.v l.E) so)
+      c.0 (parts (parent_node l.v l.E) so)
 
-  parent_none : SoundRow (in_steps ps n) Tr.parent_none_axiom
+  parent_none : SoundRow (in_steps ps n) Ax.parent_none_axiom
   parent_none l so w c h =
       Re.parent-none-sound ps (UpTo n) l.v l.E l.S l.I l.P l.L
-      (not-in-node l.v l.S l.I l.P l.L c.0) (parts (parent_node l.v l.E) so)
+      c.0 (parts (parent_node l.v l.E) so)
 
-  create : SoundRow (in_steps ps n) Tr.create_axiom
-  create l so w c h = Cr.create-sound ps (UpTo n) l.v l.E l.T (λ a. c.0 (inl (inl a))) (parts (create_node l.v l.E) so)
+  create : SoundRow (in_steps ps n) Ax.create_axiom
+  create l so w c h = Cr.create-sound ps (UpTo n) l.v l.E l.T c.0 (parts (create_node l.v l.E) so)
 
-  append_in_forest : SoundRow (in_steps ps n) Tr.append_in_forest
+  append_in_forest : SoundRow (in_steps ps n) Ax.append_in_forest
   append_in_forest l so w c h e st pr r wr mt around wc wf picks long =
       Ap.append-sound ps bodies forest l.k (λ q. cc) l.K l.E l.F l.S l.I l.P l.L l.T l.J l.Q l.M (step-sorted ps (append_child l.E l.F) so)
       e
       st pr r wr mt around wc wf picks
 
-  append_in_grove : SoundRow (in_steps ps n) Tr.append_in_grove
+  append_in_grove : SoundRow (in_steps ps n) Ax.append_in_grove
   append_in_grove l so w c h e st pr r wr mt around wc wf picks long =
       Ap.append-sound ps bodies grove grove (λ q. cc) l.K l.E l.F l.S l.I l.P l.L l.T l.J l.Q l.M (step-sorted ps (append_child l.E l.F) so)
       e
       st pr r wr mt around wc wf picks
 
-  remove : SoundRow (in_steps ps n) Tr.remove_axiom
+  remove : SoundRow (in_steps ps n) Ax.remove_axiom
   remove l so w c h e st pr r wr mt around wc wf picks long =
       Rm.remove-sound ps bodies l.K l.E l.F l.S l.I l.P l.T l.J l.Q l.M l.R l.L (step-sorted ps (remove_child l.E l.F) so) e st pr r wr mt
       around wc wf picks
 
   -- EACH AXIOM, AND EACH RULE
-  pub axioms-sound : SoundEntries (in_steps ps n) Tr.axioms
+  pub axioms-sound : SoundEntries (in_steps ps n) Ax.axioms
   axioms-sound =
       (name & tt) &
       (children & tt) &
@@ -265,6 +194,6 @@ module _ (ps : Procedures) (bodies : BodiesSorted ps) (n : ℕ) where
       (absurd_row & tt) &
       (instance & tt) & tt
 
-  pub triples-sound : Scoped ps → HoldBelow ps n → SoundEntries (in_steps ps n) (Tr.triples ps)
+  pub triples-sound : Scoped ps → HoldBelow ps n → SoundEntries (in_steps ps n) (triples ps)
   triples-sound scoped below =
-      sound-append (in_steps ps n) (Tr.rules ps) Tr.axioms (rules-sound scoped below) axioms-sound
+      sound-append (in_steps ps n) (Tr.rules ps) Ax.axioms (rules-sound scoped below) axioms-sound

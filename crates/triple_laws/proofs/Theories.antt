@@ -1,5 +1,6 @@
 -- ACCEPTED THEORIES HOLD: each procedure of an accepted theory meets its specification.
 use Rattle.std.proofs.Common.{◌≡◌, ℕ, zero, suc, List, [], ◌∷◌, length, Bool, true, false, cond, Some, subst, sym, ◌∙◌, arith, bytes_eq}
+use Rattle.model_shapes.specs.Values.{Name}
 use Rattle.model_files.specs.FileFaults.{IsWellFormedTheory}
 use Rattle.model_commands.specs.SortTests.{BodiesSorted}
 use Rattle.model_machine.specs.LocalTriples.{MeetsItsSpecification}
@@ -13,12 +14,12 @@ use Rattle.rule_table.specs.Table.{triples}
 use Rattle.rule_table.specs.Axioms.{axioms}
 use Rattle.rule_table.specs.Verdicts.{readings_in, Written, IsInstance}
 use Rattle.entailment_laws.specs.Judgements.{Fitting, JudgementHolds, AllProved}
-use Rattle.entailment_laws.proofs.Instances.{rows-sound, named-sound}
+use Rattle.entailment_laws.proofs.Instances.{some-is, named-instance}
 use Rattle.entailment_laws.proofs.Sound.{entailments_sound}
 use Rattle.entailment_laws.proofs.SoundRows.{SoundEntries, sound-append}
 use Rattle.triple_laws.specs.BySteps.{in_steps, locally, HoldBelow}
 use Rattle.triple_laws.proofs.Fitting.{step-sorted}
-use Rattle.triple_laws.proofs.Proofs.{some-is, StepsFitting, procedure-holds, procedure-fits}
+use Rattle.triple_laws.proofs.Proofs.{StepsFitting, procedure-holds, procedure-fits}
 use Rattle.triple_laws.proofs.StepsFit.{well-formed-steps}
 use Rattle.triple_laws.proofs.Rows.{triples-sound, Scoped, axioms-sound}
 
@@ -102,21 +103,21 @@ accepted_theories_hold theory w accepted =
 
 -- THE RULES of a theory, by the number of steps
 pub table-of-triples-sound : (theory : Theory) → IsWellFormedTheory theory → (n : ℕ)
-    → HoldBelow (procedures_of theory) n → (name : List ℕ) (written : Written)
-    → Fitting (in_steps (procedures_of theory) n) written.conclusion
-    → ((premises : List Judgement) → written.premises ≡ Some premises
-    → AllProved (in_steps (procedures_of theory) n) premises)
+    → HoldBelow (procedures_of theory) n → (name : Name) (written : Written)
+    (premises : List Judgement) → Fitting (in_steps (procedures_of theory) n) written.conclusion
+    → written.premises ≡ Some premises
+    → AllProved (in_steps (procedures_of theory) n) premises
     → IsInstance (readings_in (triples (procedures_of theory)) name) written
     → JudgementHolds (in_steps (procedures_of theory) n) written.conclusion
-table-of-triples-sound theory w n below name written fit h i =
+table-of-triples-sound theory w n below name written premises fit cites h i =
     let ps : Procedures = procedures_of theory in
     let bodies : BodiesSorted ps = well-formed-bodies theory w in
-    rows-sound (in_steps ps n) (readings_in (triples ps) name)
-    (named-sound (in_steps ps n) (triples ps)
-    (triples-sound ps bodies n (well-formed-scopes theory w) below) name) written fit h i
+    named-instance (in_steps ps n) (triples ps)
+    (triples-sound ps bodies n (well-formed-scopes theory w) below) name written premises fit cites
+    h i
 
 -- AN AXIOM in every context
-pub axiom-holds : (theory : Theory) → IsWellFormedTheory theory → (name : List ℕ)
+pub axiom-holds : (theory : Theory) → IsWellFormedTheory theory → (name : Name)
     (written : Written) → Fitting (locally (procedures_of theory)) written.conclusion
     → written.premises ≡ Some [] → IsInstance (readings_in axioms name) written
     → JudgementHolds (locally (procedures_of theory)) written.conclusion
@@ -124,7 +125,5 @@ axiom-holds theory w name written fit none i =
     let ps : Procedures = procedures_of theory in
     let bodies : BodiesSorted ps = well-formed-bodies theory w in
     any-length ps bodies written.conclusion fit
-    (λ n. rows-sound (in_steps ps n) (readings_in axioms name)
-    (named-sound (in_steps ps n) axioms (axioms-sound ps bodies n) name) written
-    (fitting-judgement ps n written.conclusion fit)
-    (λ js e. subst (AllProved (in_steps ps n)) (some-is [] js (sym none ∙ e)) tt) i)
+    (λ n. named-instance (in_steps ps n) axioms (axioms-sound ps bodies n) name written []
+    (fitting-judgement ps n written.conclusion fit) none tt i)
