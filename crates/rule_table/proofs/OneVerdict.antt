@@ -115,13 +115,17 @@ monotony-fixed =
     ([], ((λ l. refl), tt)) &
     ([], ((λ l. refl), tt)) &
     ([], ((λ l. refl), tt)) &
-    ([], ((λ l. refl), tt)) &
-    (pure_side ∷ [], ((λ l. refl) & (λ l. refl) & (λ l. refl) & (λ l. refl) & (λ l. refl)
-    & (λ l. refl) & (λ l. refl) & (λ l. refl) & (λ l. refl) & (λ l. refl)
-    & (λ l. refl) & (λ l. refl) & (λ l. refl) & (λ l. refl) & (λ l. refl) & tt)) &
-    (pure_side ∷ [], ((λ l. refl) & (λ l. refl) & (λ l. refl) & (λ l. refl) & (λ l. refl)
-    & (λ l. refl) & (λ l. refl) & (λ l. refl) & (λ l. refl) & (λ l. refl)
-    & (λ l. refl) & (λ l. refl) & (λ l. refl) & (λ l. refl) & (λ l. refl) & tt)) & tt
+    ([], ((λ l. refl), tt)) & (
+      pure_side ∷ [],
+      ((λ l. refl) & (λ l. refl) & (λ l. refl) & (λ l. refl) & (λ l. refl)
+          & (λ l. refl) & (λ l. refl) & (λ l. refl) & (λ l. refl) & (λ l. refl)
+          & (λ l. refl) & (λ l. refl) & (λ l. refl) & (λ l. refl) & (λ l. refl) & tt),
+    ) & (
+      pure_side ∷ [],
+      ((λ l. refl) & (λ l. refl) & (λ l. refl) & (λ l. refl) & (λ l. refl)
+          & (λ l. refl) & (λ l. refl) & (λ l. refl) & (λ l. refl) & (λ l. refl)
+          & (λ l. refl) & (λ l. refl) & (λ l. refl) & (λ l. refl) & (λ l. refl) & tt),
+    ) & tt
 
 contexts-fixed : AllFixed Contexts.entries
 contexts-fixed =

@@ -1,11 +1,12 @@
--- A theory is accepted exactly where it has no bad place, given a verdict on each step.
-use Rattle.std.proofs.Common.{◌⊎◌, ℕ, ◌+◌, List, [], ◌∷◌, ◌++◌, subst, inl, inr, ⊎_elim}
+-- A theory is accepted or has one first bad place, given a verdict on each step.
+use Rattle.std.proofs.Common.{◌≡◌, ◌⊎◌, ◌∙◌, refl, sym, ap, ℕ, ◌+◌, List, [], ◌∷◌, ◌++◌, subst, inl, inr, ⊎_elim}
 use Rattle.model_terms.specs.Terms.{Term}
 use Rattle.model_commands.specs.Theories.{Judgement, Reason, auto, by_rule, Step, Procedure, Procedures, Theory, procedures_of}
 use Rattle.rule_table.specs.Verdicts.{Verdict, instance_verdict, shape_verdict, premises_verdict, side_verdict, readings_in}
 use Rattle.rule_table.specs.Table.{table}
-use Rattle.rule_table.specs.Accepted.{written_at, InstanceBy, VerdictBy, AllInstances, EndsWell, IsProved, Each, IsAccepted, Fault, gap, fails, no_proof, BadPlace, Refuses, IsBadBy, FirstBadStep, here, later, at_end, FirstBadOf, in_first, in_later, IsFirstBad}
+use Rattle.rule_table.specs.Accepted.{written_at, InstanceBy, VerdictBy, AllInstances, EndsWell, IsProved, Each, IsAccepted, Fault, gap, fails, no_proof, BadPlace, Refuses, IsBadBy, FirstBadStep, FirstBadOf, IsFirstBad}
 use Rattle.rule_table.proofs.VerdictLaws.{instance-alone}
+use Rattle.rule_table.proofs.OneVerdict.{one-verdict-of}
 
 module _ (ps : Procedures) where
   -- a step isn't both an instance and bad
@@ -22,20 +23,67 @@ module _ (ps : Procedures) where
   no-bad-step : (f : Procedure) (earlier steps : List Step) (place bad : ℕ) (fault : Fault)
       → AllInstances ps earlier steps → EndsWell f
       → FirstBadStep ps f earlier steps place bad fault → ⊥
-  no-bad-step f earlier steps place bad fault i ends
-      (here earlier' step steps' place' fault' b) =
-      not-both step.reason earlier' step.judgement fault' i.0 b
-  no-bad-step f earlier steps place bad fault i ends
-      (later earlier' step steps' place' bad' fault' now more) =
-      no-bad-step f (earlier' ++ step ∷ []) steps' (place' + 1) bad' fault' i.1 ends more
-  no-bad-step f earlier steps place bad fault i ends (at_end earlier' place' n) = n ends
+  no-bad-step f earlier [] place bad fault i ends b = b.2 ends
+  no-bad-step f earlier (step ∷ steps) place bad fault i ends b = ⊎_elim
+      (λ here. not-both step.reason earlier step.judgement fault i.0 here.1)
+      (λ later. no-bad-step f (earlier ++ step ∷ []) steps (place + 1) bad fault i.1 ends later.1) b
 
   no-bad-of : (fs : Procedures) (number : ℕ) (bad : BadPlace) → Each (IsProved ps) fs
       → FirstBadOf ps fs number bad → ⊥
-  no-bad-of fs number bad a (in_first f fs' number' step fault b) =
-      no-bad-step f [] f.proof 1 step fault a.0.steps a.0.ends b
-  no-bad-of fs number bad a (in_later f fs' number' bad' now more) =
-      no-bad-of fs' (number' + 1) bad' a.1 more
+  no-bad-of [] number bad a b = b
+  no-bad-of (f ∷ fs) number bad a b = ⊎_elim
+      (λ here. no-bad-step f [] f.proof 1 bad.step bad.fault a.0.steps a.0.ends here.1)
+      (λ later. no-bad-of fs (number + 1) bad a.1 later.1) b
+
+  -- ONE AT MOST
+  one-fault : (reason : Reason) (earlier : List Step) (j : Judgement) (a b : Fault)
+      → IsBadBy ps reason earlier j a → IsBadBy ps reason earlier j b → a ≡ b
+  one-fault auto earlier j gap gap x y = refl
+  one-fault auto earlier j gap (fails v) x y = absurd y
+  one-fault auto earlier j gap no_proof x y = absurd y
+  one-fault auto earlier j (fails v) b x y = absurd x
+  one-fault auto earlier j no_proof b x y = absurd x
+  one-fault (by_rule name ns arguments) earlier j gap b x y = absurd x
+  one-fault (by_rule name ns arguments) earlier j no_proof b x y = absurd x
+  one-fault (by_rule name ns arguments) earlier j (fails v) gap x y = absurd y
+  one-fault (by_rule name ns arguments) earlier j (fails v) no_proof x y = absurd y
+  one-fault (by_rule name ns arguments) earlier j (fails v) (fails w) x y =
+      ap fails (one-verdict-of ps name (written_at earlier ns arguments j) v w x.0 y.0)
+
+  abbrev Alike : ℕ → Fault → ℕ → Fault → Type 0
+  Alike m a n b = (m ≡ n) × (a ≡ b)
+
+  one-bad-step : (f : Procedure) (earlier steps : List Step) (place m n : ℕ) (a b : Fault)
+      → FirstBadStep ps f earlier steps place m a → FirstBadStep ps f earlier steps place n b
+      → Alike m a n b
+  one-bad-step f earlier [] place m n a b x y = (x.0 ∙ sym y.0, x.1 ∙ sym y.1)
+  one-bad-step f earlier (step ∷ steps) place m n a b x y = ⊎_elim
+      (λ here. ⊎_elim
+      (λ there. (
+        here.0 ∙ sym there.0,
+        one-fault step.reason earlier step.judgement a b here.1 there.1,
+      ))
+      (λ later. absurd (not-both step.reason earlier step.judgement a later.0 here.1)) y)
+      (λ later. ⊎_elim
+      (λ there. absurd (not-both step.reason earlier step.judgement b later.0 there.1))
+      (λ more. one-bad-step f (earlier ++ step ∷ []) steps (place + 1) m n a b later.1 more.1) y) x
+
+  one-bad-of : (fs : Procedures) (number : ℕ) (a b : BadPlace) → FirstBadOf ps fs number a
+      → FirstBadOf ps fs number b
+      → (a.procedure ≡ b.procedure) × Alike a.step a.fault b.step b.fault
+  one-bad-of [] number a b x y = absurd x
+  one-bad-of (f ∷ fs) number a b x y = ⊎_elim
+      (λ here. ⊎_elim
+      (λ there. (
+        here.0 ∙ sym there.0,
+        one-bad-step f [] f.proof 1 a.step b.step a.fault b.fault here.1 there.1,
+      ))
+      (λ later. absurd
+      (no-bad-step f [] f.proof 1 a.step a.fault later.0.steps later.0.ends here.1)) y)
+      (λ later. ⊎_elim
+      (λ there. absurd
+      (no-bad-step f [] f.proof 1 b.step b.fault later.0.steps later.0.ends there.1))
+      (λ more. one-bad-of fs (number + 1) a b later.1 more.1) y) x
 
   -- AND ONE WHERE IT ISN'T
   module _ (judge : (name : List ℕ) (ns : List ℕ) (arguments : List Term) (earlier : List Step)
@@ -65,13 +113,13 @@ module _ (ps : Procedures) where
         where
           by_end : Dec (EndsWell f) → (Unit {0} × EndsWell f) ⊎ BadStep f earlier [] place
           by_end (yes e) = inl (tt, e)
-          by_end (no n) = inr (place, no_proof, at_end earlier place n)
+          by_end (no n) = inr (place, no_proof, (refl, refl, n))
       proof-place f earlier (step ∷ steps) place = ⊎_elim
           (λ now. ⊎_elim
           (λ m. inl ((now, m.0), m.1))
-          (λ b. inr (b.0, b.1, later earlier step steps place b.0 b.1 now b.2))
+          (λ b. inr (b.0, b.1, inr (now, b.2)))
           (proof-place f (earlier ++ step ∷ []) steps (place + 1)))
-          (λ b. inr (place, b.0, here earlier step steps place b.0 b.1))
+          (λ b. inr (place, b.0, inl (refl, b.1)))
           (judged step.reason earlier step.judgement)
 
       procedures-place : (fs : Procedures) (number : ℕ)
@@ -80,12 +128,11 @@ module _ (ps : Procedures) where
       procedures-place (f ∷ fs) number = ⊎_elim
           (λ m. ⊎_elim
           (λ more. inl (record { steps = m.0; ends = m.1 }, more))
-          (λ b. inr (b.0, in_later f fs number b.0 (record { steps = m.0; ends = m.1 }) b.1))
+          (λ b. inr (b.0, inr (record { steps = m.0; ends = m.1 }, b.1)))
           (procedures-place fs (number + 1)))
           (λ b. inr (
             record { procedure = number; step = b.0; fault = b.1 },
-            in_first f fs number b.0
-                b.1 b.2,
+            inl (refl, b.2),
           ))
           (proof-place f [] f.proof 1)
 
@@ -102,3 +149,10 @@ pub accepted-or-bad : (theory : Theory)
     → IsAccepted theory ⊎ ((bad : BadPlace) × IsFirstBad theory bad)
 accepted-or-bad theory judge ends =
     procedures-place (procedures_of theory) judge ends (procedures_of theory) 1
+
+-- a theory has one first bad place
+pub one-first-bad : (theory : Theory) (a b : BadPlace) → IsFirstBad theory a → IsFirstBad theory b
+    → a ≡ b
+one-first-bad theory a b x y =
+    let same = one-bad-of (procedures_of theory) (procedures_of theory) 1 a b x y in
+    λ i. record { procedure = same.0 i; step = same.1.0 i; fault = same.1.1 i }

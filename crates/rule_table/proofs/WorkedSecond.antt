@@ -1,5 +1,5 @@
 -- Worked verdicts.
-use Rattle.std.proofs.Common.{ℕ, ◌≡◌, List, [], ◌∷◌, Some, refl, ap, sym, subst, inl, ⊎_elim, codes, map, drop}
+use Rattle.std.proofs.Common.{ℕ, ◌≡◌, List, [], ◌∷◌, Some, refl, ap, sym, subst, inl, ⊎_elim, codes}
 use Rattle.model_shapes.specs.Sorts.{Sort, shape, context, tree, forest, grove}
 use Rattle.model_terms.specs.Terms.{variable}
 use Rattle.model_terms.specs.VariableTests.{var_eq}
@@ -15,9 +15,7 @@ use Rattle.rule_table.specs.Verdicts.{Written, IsVerdict, instance_verdict, shap
 use Rattle.rule_table.specs.Conditions.{free_side}
 use Rattle.rule_table.specs.Contexts as Co
 use Rattle.rule_table.specs.Variables as Va
-use Rattle.rule_table.specs.Entries.{Entry}
 use Rattle.rule_table.proofs.SomeLetters.{plain_letters}
-use Rattle.model_files.specs.RuleNames.{entailment_rule_names}
 
 -- a step without arguments
 abbrev step : List Judgement → Judgement → Written

@@ -1,5 +1,5 @@
 -- Worked theories: accepted ones, and first bad places.
-use Rattle.std.proofs.Common.{◌≡◌, ℕ, List, [], ◌∷◌, Some, refl, ap, subst, inl, ⊎_elim, codes, pos}
+use Rattle.std.proofs.Common.{◌≡◌, ℕ, List, [], ◌∷◌, Some, refl, ap, subst, inl, inr, ⊎_elim, codes, pos}
 use Rattle.model_shapes.specs.Sorts.{value, shape, DataSort, grove, int_sort}
 use Rattle.model_shapes.specs.Values.{int}
 use Rattle.model_terms.specs.Variables.{Var, logic, bound}
@@ -14,7 +14,7 @@ use Rattle.rule_table.specs.Letters.{Letters, Link}
 use Rattle.rule_table.specs.Notation.{prog_term}
 use Rattle.rule_table.specs.Rules.{chain, block_of}
 use Rattle.rule_table.specs.Verdicts.{shape_verdict, premises_verdict}
-use Rattle.rule_table.specs.Accepted.{IsAccepted, IsFirstBad, gap, fails, no_proof, here, later, at_end, in_first}
+use Rattle.rule_table.specs.Accepted.{IsAccepted, IsFirstBad, gap, fails, no_proof}
 use Rattle.rule_table.proofs.SomeLetters.{plain_letters}
 use Rattle.rule_table.proofs.WorkedTriples.{command_of, pre_of, post_of}
 
@@ -140,12 +140,17 @@ pub file_inc_fails : IsFirstBad (file_inc 2) (record {
   fault = fails
       shape_verdict;
 })
-file_inc_fails = in_first _ [] 1 1 (fails shape_verdict)
-    (here [] _ [] 1 (fails shape_verdict) (
+file_inc_fails = inl (
+  refl,
+  inl (
+    refl,
+    (
       (λ m. ⊎_elim (λ x. wrong x.0 (ap command_of x.1.2)
           (ap post_of x.1.2) (ap pre_of x.1.2)) (λ z. z) m),
       tt,
-    ))
+    ),
+  ),
+)
   where
     wrong : (l : Letters) → assign l.v l.E ≡ assign x_int (more 1) → l.Q
         ≡ nameless (some_equals n_int (prog_term x_int))
@@ -192,31 +197,37 @@ pub file_two_fails : IsFirstBad file_two (record {
   fault = fails
       premises_verdict;
 })
-file_two_fails = in_first _ [] 1 3 (fails premises_verdict)
-    (later [] _ _ 1 3 (fails premises_verdict) (inl (
-      record plain_letters { P = equals_a; k = grove },
-      (((refl, tt, refl), refl), tt),
-    ))
-    (later _ _ _ 2 3 (fails premises_verdict) (inl (
-      record plain_letters { P = empty grove; k = grove },
-      (((refl, tt, refl), refl), tt),
-    ))
-    (here _ _ [] 3 (fails premises_verdict) (
-      (
-        inl (
-          record plain_letters {
-            P = equals_a;
-            C = skip;
-            Q = equals_a;
-            links = record { command = skip; behind = equals_a } ∷ [];
-            k = grove;
-          },
-          (refl, tt, refl),
-        ),
-        λ m. ⊎_elim (λ x. wrong x.0.P x.0.Q x.0.C x.0.k x.0.links (ap command_of x.1.0.2) x.1.1) (λ z. z) m,
+file_two_fails = inl (
+  refl,
+  inr (
+    inl (record plain_letters { P = equals_a; k = grove }, (((refl, tt, refl), refl), tt)),
+    inr (
+      inl (
+        record plain_letters { P = empty grove; k = grove },
+        (((refl, tt, refl), refl), tt),
       ),
-      tt,
-    ))))
+      inl (
+        refl,
+        (
+          (
+            inl (
+              record plain_letters {
+                P = equals_a;
+                C = skip;
+                Q = equals_a;
+                links = record { command = skip; behind = equals_a } ∷ [];
+                k = grove;
+              },
+              (refl, tt, refl),
+            ),
+            λ m. ⊎_elim (λ x. wrong x.0.P x.0.Q x.0.C x.0.k x.0.links (ap command_of x.1.0.2) x.1.1) (λ z. z) m,
+          ),
+          tt,
+        ),
+      ),
+    ),
+  ),
+)
   where
     wrong : (p q : Formula) (c : Command) (k : DataSort) (links : List Link)
         → block (c then block_of links) ≡ two_skips
@@ -244,12 +255,13 @@ file_same = one_procedure (procedure (codes "same") [] [] (empty grove)
     } ∷ []))
 
 pub file_same_has_a_gap : IsFirstBad file_same (record { procedure = 1; step = 2; fault = gap })
-file_same_has_a_gap = in_first _ [] 1 2 gap
-    (later [] _ _ 1 2 gap (inl (
-      record plain_letters { P = empty grove; k = grove },
-      (((refl, tt, refl), refl), tt),
-    ))
-    (here _ _ [] 2 gap tt))
+file_same_has_a_gap = inl (
+  refl,
+  inr (
+    inl (record plain_letters { P = empty grove; k = grove }, (((refl, tt, refl), refl), tt)),
+    inl (refl, tt),
+  ),
+)
 
 -- a procedure without a proof
 abbrev file_unproved : Theory
@@ -257,4 +269,4 @@ file_unproved = one_procedure (procedure (codes "app") [] [] (empty grove) (empt
 
 pub file_unproved_has_no_proof : IsFirstBad file_unproved (record
     { procedure = 1; step = 1; fault = no_proof })
-file_unproved_has_no_proof = in_first _ [] 1 1 no_proof (at_end [] 1 (λ e. cc))
+file_unproved_has_no_proof = inl (refl, (refl, refl, λ e. cc))

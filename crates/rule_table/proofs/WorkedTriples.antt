@@ -1,5 +1,5 @@
 -- Worked verdicts on triples.
-use Rattle.std.proofs.Common.{◌≡◌, ◌⊎◌, ℕ, List, [], ◌∷◌, Option, Some, refl, ap, sym, ◌∙◌, subst, inl, inr, ⊎_elim, codes, pos}
+use Rattle.std.proofs.Common.{◌≡◌, ℕ, List, [], ◌∷◌, Option, Some, refl, ap, sym, ◌∙◌, subst, inl, inr, ⊎_elim, codes, pos}
 use Rattle.model_shapes.specs.Sorts.{value, shape, tree, grove, node_sort, int_sort}
 use Rattle.model_shapes.specs.Values.{null, nolist, int, str}
 use Rattle.model_shapes.proofs.Truth.{false≢true}

@@ -1,5 +1,5 @@
 -- Instances over the earlier steps of a proof, accepted theories, and the first bad place.
-use Rattle.std.specs.Prelude.{◌≡◌, ℕ, ◌+◌, ◌==◌, cond, List, [], ◌∷◌, ◌++◌, Option, Some, None}
+use Rattle.std.specs.Prelude.{◌≡◌, ◌⊎◌, ℕ, ◌+◌, ◌==◌, cond, List, [], ◌∷◌, ◌++◌, Option, Some, None}
 use Rattle.model_terms.specs.Terms.{Term}
 use Rattle.model_commands.specs.Theories.{Judgement, Reason, auto, by_rule, Step, Procedure, Procedures, Theory, procedures_of, own_triple}
 use Rattle.rule_table.specs.Table.{table}
@@ -76,6 +76,7 @@ Each P (f ∷ fs) = P f × Each P fs
 abbrev pub IsAccepted : Theory → Type 0
 IsAccepted theory = Each (IsProved (procedures_of theory)) (procedures_of theory)
 
+-- THE FIRST BAD PLACE. The places are the steps of each procedure, and behind them its end.
 -- Why a place is bad: a gap, a step with another verdict than instance, or an end without the
 -- procedure's own triple.
 pub data Fault : Type 0 where
@@ -95,42 +96,32 @@ abbrev pub Refuses : Verdict → Type 0
 Refuses instance_verdict = ⊥
 Refuses verdict = Unit {0}
 
--- why a step with this reason is bad
-abbrev pub IsBadBy : Procedures → Reason → List Step → Judgement → Fault → Type 0
-IsBadBy procedures auto earlier judgement gap = Unit
-IsBadBy procedures auto earlier judgement fault = ⊥
-IsBadBy procedures reason earlier judgement (fails verdict) =
-    VerdictBy procedures reason earlier judgement verdict × Refuses verdict
-IsBadBy procedures reason earlier judgement fault = ⊥
+module _ (procedures : Procedures) where
+  -- why a step with this reason is bad
+  abbrev pub IsBadBy : Reason → List Step → Judgement → Fault → Type 0
+  IsBadBy auto earlier judgement gap = Unit
+  IsBadBy auto earlier judgement fault = ⊥
+  IsBadBy reason earlier judgement (fails verdict) =
+      VerdictBy procedures reason earlier judgement verdict × Refuses verdict
+  IsBadBy reason earlier judgement fault = ⊥
 
--- The first bad place of a proof, from this place on.
-pub data FirstBadStep (procedures : Procedures) (f : Procedure)
-    : List Step → List Step → ℕ → ℕ → Fault → Type 0 where
-  -- the step here
-  here : (earlier : List Step) (step : Step) (steps : List Step) (place : ℕ) (fault : Fault)
-      → IsBadBy procedures step.reason earlier step.judgement fault
-      → FirstBadStep procedures f earlier (step ∷ steps) place place fault
-  -- the step here is an instance
-  later : (earlier : List Step) (step : Step) (steps : List Step) (place bad : ℕ) (fault : Fault)
-      → InstanceBy procedures step.reason earlier step.judgement
-      → FirstBadStep procedures f (earlier ++ step ∷ []) steps (place + 1) bad fault
-      → FirstBadStep procedures f earlier (step ∷ steps) place bad fault
-  -- all steps are instances, and the end is bad
-  at_end : (earlier : List Step) (place : ℕ) → (EndsWell f → ⊥)
-      → FirstBadStep procedures f earlier [] place place no_proof
+  -- the first bad place of a proof from this place on, behind these earlier steps: the step here, or
+  -- one behind it where that is an instance; and else the end
+  abbrev pub FirstBadStep : Procedure → List Step → List Step → ℕ → ℕ → Fault → Type 0
+  FirstBadStep f earlier [] place bad fault =
+      (bad ≡ place) × (fault ≡ no_proof) × (EndsWell f → ⊥)
+  FirstBadStep f earlier (step ∷ steps) place bad fault =
+      ((bad ≡ place) × IsBadBy step.reason earlier step.judgement fault)
+      ⊎ (InstanceBy procedures step.reason earlier step.judgement
+      × FirstBadStep f (earlier ++ step ∷ []) steps (place + 1) bad fault)
 
--- The first bad place of these procedures, of which the first has the number.
-pub data FirstBadOf (procedures : Procedures) : Procedures → ℕ → BadPlace → Type 0 where
-  -- in the first procedure
-  in_first : (f : Procedure) (fs : Procedures) (number step : ℕ) (fault : Fault)
-      → FirstBadStep procedures f [] f.proof 1 step fault
-      → FirstBadOf procedures (f ∷ fs) number
-      (record { procedure = number; step = step; fault = fault })
-  -- the first procedure is proved
-  in_later : (f : Procedure) (fs : Procedures) (number : ℕ) (bad : BadPlace)
-      → IsProved procedures f → FirstBadOf procedures fs (number + 1) bad
-      → FirstBadOf procedures (f ∷ fs) number bad
+  -- of these procedures, of which the first has the number
+  abbrev pub FirstBadOf : Procedures → ℕ → BadPlace → Type 0
+  FirstBadOf [] number bad = ⊥
+  FirstBadOf (f ∷ fs) number bad =
+      ((bad.procedure ≡ number) × FirstBadStep f [] f.proof 1 bad.step bad.fault)
+      ⊎ (IsProved procedures f × FirstBadOf fs (number + 1) bad)
 
--- THE FIRST BAD PLACE of a theory
+-- of a theory
 abbrev pub IsFirstBad : Theory → BadPlace → Type 0
 IsFirstBad theory = FirstBadOf (procedures_of theory) (procedures_of theory) 1

@@ -1,7 +1,6 @@
 -- What a row asks: of the letters themselves, and as conditions that have a name.
 use Rattle.std.specs.Prelude.{◌≡◌, Bool, true, Some}
 use Rattle.model_shapes.specs.Sorts.{Sort, value, ValueSort, is_sort}
-use Rattle.model_terms.specs.Variables.{Var}
 use Rattle.model_terms.specs.Terms.{Term, InTerm}
 use Rattle.model_terms.specs.TermSorts.{has_sort, evaluates}
 use Rattle.model_terms.specs.Stores.{ProgVar, as_var}

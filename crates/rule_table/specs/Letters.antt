@@ -1,5 +1,5 @@
 -- The letters of the tables of rules, and the things that a choice gives to them.
-use Rattle.std.specs.Prelude.{ℕ, List, Option, Some, None}
+use Rattle.std.specs.Prelude.{List, Option, Some, None}
 use Rattle.model_shapes.specs.Values.{Name}
 use Rattle.model_shapes.specs.Sorts.{Sort, shape, context, DataSort}
 use Rattle.model_terms.specs.Variables.{Var, logic}

@@ -1,5 +1,5 @@
 -- Each row of the table of triples is sound, by the number of steps.
-use Rattle.std.proofs.Common.{◌≡◌, ◌⊎◌, ℕ, List, [], ◌∷◌, Some, subst, inl, inr, ⊎_elim, true}
+use Rattle.std.proofs.Common.{◌≡◌, ℕ, List, Some, subst, ⊎_elim, true}
 use Rattle.rule_table.specs.Rules as Tr
 use Rattle.rule_table.specs.Axioms as Ax
 use Rattle.triple_laws.proofs.Control as Co
@@ -11,15 +11,12 @@ use Rattle.triple_laws.proofs.RemoveAxiom as Rm
 use Rattle.triple_laws.proofs.CreateAxiom as Cr
 use Rattle.triple_laws.proofs.Calls as Ca
 use Rattle.model_shapes.specs.Sorts.{DataSort, forest, grove}
-use Rattle.model_formulas.specs.Formulas.{Formula, node_formula, conjunction, length_is}
-use Rattle.model_formulas.specs.Substitution.{FreeIn}
-use Rattle.model_terms.specs.Terms.{Term}
+use Rattle.model_formulas.specs.Formulas.{Formula}
 use Rattle.model_commands.specs.Commands.{Command, assign, create_node, node_name, child_nodes, parent_node, list_item, append_child, remove_child, if_else, while_do, call}
 use Rattle.model_commands.specs.SortTests.{BodiesSorted}
 use Rattle.model_commands.specs.Scopes.{IsScoped}
 use Rattle.model_commands.specs.Sorting.{CallFits, Sorted}
 use Rattle.model_commands.proofs.Sorting.{sorted-command}
-use Rattle.model_terms.specs.Stores.{ProgVar, as_var}
 use Rattle.model_commands.specs.Theories.{Procedures, Procedure, procedure_named, triple}
 use Rattle.model_rules.proofs.Ends.{Sound, to_sound, from_sound}
 use Rattle.entailment_laws.specs.Judgements.{Proved}
@@ -28,7 +25,6 @@ use Rattle.triple_laws.proofs.Fitting.{step-sorted, call-apart}
 use Rattle.rule_table.specs.Axioms.{axioms}
 use Rattle.rule_table.specs.Table.{triples}
 use Rattle.entailment_laws.proofs.SoundRows.{SoundRow, SoundEntries, sound-append, term-stands, ◌&◌}
-use Rattle.triple_laws.proofs.NodesMet.{holding_child}
 
 -- what calls need of the procedures that they mean
 abbrev pub Scoped : Procedures → Type 0

@@ -1,5 +1,5 @@
 -- ACCEPTED THEORIES HOLD: each procedure of an accepted theory meets its specification.
-use Rattle.std.proofs.Common.{◌≡◌, ℕ, zero, suc, List, [], ◌∷◌, length, Bool, true, false, cond, Some, subst, sym, ◌∙◌, arith, bytes_eq}
+use Rattle.std.proofs.Common.{◌≡◌, ℕ, zero, suc, List, [], ◌∷◌, length, Bool, true, false, cond, Some, subst, arith, bytes_eq}
 use Rattle.model_shapes.specs.Values.{Name}
 use Rattle.model_files.specs.FileFaults.{IsWellFormedTheory}
 use Rattle.model_commands.specs.SortTests.{BodiesSorted}
