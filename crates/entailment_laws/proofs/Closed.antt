@@ -14,7 +14,8 @@ use Rattle.model_formulas.specs.Satisfaction.{Environment, Meets, Entails, choos
 use Rattle.rule_table.specs.Notation.{◌or◌, ◌∗◌}
 use Rattle.rule_table.specs.Closed.{some_node, first_and_rest, root_and_rest, some_length}
 use Rattle.entailment_laws.proofs.Mono.{kids-Shaped}
-use Rattle.entailment_laws.proofs.Shared.{surely, SameAt-refl, split}
+use Rattle.entailment_laws.proofs.Classical.{surely}
+use Rattle.entailment_laws.proofs.Shared.{SameAt-refl, split}
 use Rattle.entailment_laws.proofs.Nodes.{tally_self}
 
 -- the variable of the i-th binder outwards

@@ -10,7 +10,8 @@ use Rattle.rule_table.specs.Letters.{Letters, as_logic, sort_at}
 use Rattle.rule_table.specs.Contexts as Ta
 use Rattle.entailment_laws.proofs.Apps as Ap
 use Rattle.entailment_laws.proofs.Quantified as Qu
-use Rattle.entailment_laws.proofs.SoundRows.{SoundRow, SoundWays, SoundEntries, ◌&◌}
+use Rattle.rule_table.proofs.SomeLetters.{◌&◌}
+use Rattle.entailment_laws.proofs.SoundRows.{SoundRow, SoundWays, SoundEntries}
 use Rattle.entailment_laws.proofs.Holes as Ho
 use Rattle.entailment_laws.proofs.Nodes as No
 use Rattle.entailment_laws.proofs.Contexts as Co

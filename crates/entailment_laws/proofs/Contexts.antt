@@ -11,7 +11,7 @@ use Rattle.model_formulas.specs.Setting.{setting}
 use Rattle.model_formulas.proofs.Quantified.{exists-means, met-alike}
 use Rattle.model_formulas.proofs.Substitutes.{meets-agrees}
 use Rattle.entailment_laws.proofs.Quantified.{setting-agrees}
-use Rattle.entailment_laws.proofs.Shared.{◌>>=◌, surely}
+use Rattle.entailment_laws.proofs.Classical.{◌>>=◌, surely}
 use Rattle.entailment_laws.proofs.Pieces.{put_in}
 
 -- a formula in which the variable isn't free, where the variable is set to a thing

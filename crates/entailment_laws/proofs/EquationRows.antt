@@ -12,7 +12,8 @@ use Rattle.entailment_laws.specs.Judgements.{Reading}
 use Rattle.rule_table.specs.Letters.{as_logic}
 use Rattle.rule_table.specs.Equations as Te
 use Rattle.rule_table.specs.Equations.{different_literals}
-use Rattle.entailment_laws.proofs.SoundRows.{SoundRow, SoundEntries, term-stands, ◌&◌}
+use Rattle.rule_table.proofs.SomeLetters.{◌&◌}
+use Rattle.entailment_laws.proofs.SoundRows.{SoundRow, SoundEntries, term-stands}
 use Rattle.entailment_laws.proofs.Plain as Pl
 use Rattle.entailment_laws.proofs.Quantified as Qu
 use Rattle.entailment_laws.proofs.Linear as Li
@@ -32,7 +33,7 @@ different a b s h = absurd (false≢true {P = ⊥} h)
 
 module _ (reading : Reading) where
   eq_refl : SoundRow reading Te.eq_refl
-  eq_refl l so w c h = Pl.eq_refl l.P l.E l.E l.s
+  eq_refl l so w c h = Pl.eq_refl l.P l.E l.s
 
   eq_subst : SoundRow reading Te.eq_subst
   eq_subst l so w c h = Qu.eq_subst (as_logic l.x) l.P l.E l.F l.s

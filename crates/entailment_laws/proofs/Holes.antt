@@ -10,7 +10,9 @@ use Rattle.model_formulas.specs.Formulas.{Formula, bare_hole, application}
 use Rattle.model_formulas.specs.Satisfaction.{Meets, Entails}
 use Rattle.model_formulas.proofs.Stable.{stable}
 use Rattle.model_formulas.proofs.Closed.{closed}
-use Rattle.entailment_laws.proofs.Shared.{◌>>=◌, surely, PutsInto, puts_context, App, app, SameAt-refl, moved, fill-hole, hole-Shaped}
+use Rattle.entailment_laws.proofs.Classical.{◌>>=◌, surely}
+use Rattle.entailment_laws.proofs.Shared.{PutsInto, puts_context, App, app, SameAt-refl, fill-hole, hole-Shaped}
+use Rattle.model_shapes.proofs.Shapes.{same-WellFormed}
 
 -- THE BARE HOLE
 from_hole : (k : DataSort) (r c d : Trees) → SameAt k r (fill c d) → c ≡ hole none → SameAt k d r
@@ -66,7 +68,7 @@ module _ (S : DataSort → Sort) (puts : PutsInto S) (K H P : Sort → Trees →
     (b, wb, (csame, ma, mb)) ← m2
     let now : SameAt l r (fill a (fill b d)) = SameAt-trans l r (fill c d) (fill a (fill b d)) same
         (subst (SameAt l (fill c d)) (fill-fill a b d) (fill-left l c (fill a b) d csame))
-    let wf' : WellFormed (fill a (fill b d)) = moved l r (fill a (fill b d)) now wf
+    let wf' : WellFormed (fill a (fill b d)) = same-WellFormed l r (fill a (fill b d)) now wf
     let wbd : WellFormed (fill b d) = inner-WellFormed a (fill b d) wa.holes_fit.one wf'
     app S h l K (λ s. App S j h H P) r a (fill b d) wa (puts j h b d wb wd wbd) now ma
         (app S j h H P (fill b d) b d wb wd (SameAt-refl h (fill b d)) mb md)
@@ -80,7 +82,7 @@ module _ (S : DataSort → Sort) (puts : PutsInto S) (K H P : Sort → Trees →
     let now : SameAt l r (fill (fill a b) d) = subst (SameAt l r) (sym (fill-fill a b d))
         (SameAt-trans l r (fill a y) (fill a (fill b d)) same
         (fill-right h l a y (fill b d) wa.holes_fit ysame))
-    let wf' : WellFormed (fill (fill a b) d) = moved l r (fill (fill a b) d) now wf
+    let wf' : WellFormed (fill (fill a b) d) = same-WellFormed l r (fill (fill a b) d) now wf
     let wab : WellFormed (fill a b) = outer-WellFormed (fill a b) d wf'
     app S j l (λ s. App (context j) h l K H) P r (fill a b) d (compose-Shaped j h l a b wa wb wab)
         wd now (app (context j) h l K H (fill a b) a b wa wb (SameAt-refl l (fill a b)) ma mb) md

@@ -6,7 +6,8 @@ use Rattle.model_shapes.proofs.Narrow.{no_roots}
 use Rattle.model_formulas.specs.Satisfaction.{meaning_of}
 use Rattle.entailment_laws.specs.Judgements.{Reading}
 use Rattle.rule_table.specs.Lengths as Ta
-use Rattle.entailment_laws.proofs.SoundRows.{SoundRow, SoundEntries, ◌&◌}
+use Rattle.rule_table.proofs.SomeLetters.{◌&◌}
+use Rattle.entailment_laws.proofs.SoundRows.{SoundRow, SoundEntries}
 use Rattle.entailment_laws.proofs.Closed as Cl
 use Rattle.entailment_laws.proofs.Lengths as Le
 use Rattle.entailment_laws.proofs.Lengths.{count, count-zero, at_least_zero}

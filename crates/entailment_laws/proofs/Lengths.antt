@@ -12,7 +12,8 @@ use Rattle.model_formulas.specs.Formulas.{Formula, length_is}
 use Rattle.model_formulas.specs.Satisfaction.{Meets, Entails, meaning_of, number_of}
 use Rattle.model_formulas.proofs.Stable.{stable}
 use Rattle.rule_table.specs.Notation.{◌and◌, ◌∗◌}
-use Rattle.entailment_laws.proofs.Shared.{◌>>=◌, surely, split}
+use Rattle.entailment_laws.proofs.Classical.{◌>>=◌, surely}
+use Rattle.entailment_laws.proofs.Shared.{split}
 
 -- a number as a thing
 abbrev pub count : ℕ → Thing

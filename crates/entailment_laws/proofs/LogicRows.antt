@@ -2,37 +2,38 @@
 use Rattle.entailment_laws.specs.Judgements.{Reading}
 use Rattle.rule_table.specs.Letters.{as_logic}
 use Rattle.rule_table.specs.Logic as Lo
-use Rattle.entailment_laws.proofs.SoundRows.{SoundRow, SoundEntries, term-stands, ◌&◌}
+use Rattle.rule_table.proofs.SomeLetters.{◌&◌}
+use Rattle.entailment_laws.proofs.SoundRows.{SoundRow, SoundEntries, term-stands}
 use Rattle.entailment_laws.proofs.Plain as Pl
 use Rattle.entailment_laws.proofs.Quantified as Qu
 
 module _ (reading : Reading) where
   id : SoundRow reading Lo.id
-  id l so w c h = Pl.id l.P l.P l.P l.s
+  id l so w c h = Pl.id l.P l.s
 
   cut : SoundRow reading Lo.cut
   cut l so w c h = Pl.cut l.P l.Q l.R l.s h.0.1 h.1.0.1
 
   true_in : SoundRow reading Lo.true_in
-  true_in l so w c h = Pl.true_in l.P l.P l.P l.s
+  true_in l so w c h = Pl.true_in l.P l.s
 
   false_out : SoundRow reading Lo.false_out
-  false_out l so w c h = Pl.false_out l.P l.P l.P l.s
+  false_out l so w c h = Pl.false_out l.P l.s
 
   and_in : SoundRow reading Lo.and_in
   and_in l so w c h = Pl.and_in l.P l.Q l.R l.s h.0.1 h.1.0.1
 
   and_left : SoundRow reading Lo.and_left
-  and_left l so w c h = Pl.and_left l.P l.Q l.Q l.s
+  and_left l so w c h = Pl.and_left l.P l.Q l.s
 
   and_right : SoundRow reading Lo.and_right
-  and_right l so w c h = Pl.and_right l.P l.Q l.Q l.s
+  and_right l so w c h = Pl.and_right l.P l.Q l.s
 
   or_left : SoundRow reading Lo.or_left
-  or_left l so w c h = Pl.or_left l.P l.Q l.Q l.s
+  or_left l so w c h = Pl.or_left l.P l.Q l.s
 
   or_right : SoundRow reading Lo.or_right
-  or_right l so w c h = Pl.or_right l.P l.Q l.Q l.s
+  or_right l so w c h = Pl.or_right l.P l.Q l.s
 
   or_out : SoundRow reading Lo.or_out
   or_out l so w c h = Pl.or_out l.P l.Q l.R l.s h.0.1 h.1.0.1
@@ -41,16 +42,16 @@ module _ (reading : Reading) where
   imp_in l so w c h = Pl.imp_in l.P l.Q l.R l.s h.0.1
 
   imp_out : SoundRow reading Lo.imp_out
-  imp_out l so w c h = Pl.imp_out l.P l.Q l.Q l.s
+  imp_out l so w c h = Pl.imp_out l.P l.Q l.s
 
   not_in : SoundRow reading Lo.not_in
-  not_in l so w c h = Pl.not_in l.P l.Q l.Q l.s h.0.1
+  not_in l so w c h = Pl.not_in l.P l.Q l.s h.0.1
 
   not_out : SoundRow reading Lo.not_out
-  not_out l so w c h = Pl.not_out l.P l.P l.P l.s
+  not_out l so w c h = Pl.not_out l.P l.s
 
   classical : SoundRow reading Lo.classical
-  classical l so w c h = Pl.classical l.P l.P l.P l.s
+  classical l so w c h = Pl.classical l.P l.s
 
   forall_in : SoundRow reading Lo.forall_in
   forall_in l so w c h = Qu.forall_in l.x.name l.x.sort l.P l.Q l.s h.0.1 c.0

@@ -40,6 +40,7 @@ module _ (p q a b : Formula) (s : Sort) where
       → Entails (context_adjoint k p q) (context_adjoint k a b) s
   mono_ctx_adj k f g e pr t w m = λ c wc mc wf. g e pr (fill c t) wf (m c wc (f e pr c wc mc) wf)
 
+module _ (p q : Formula) (s : Sort) where
   pub mono_tree : Entails p q (with_outer tree s) → Entails (one_tree p) (one_tree q) s
   mono_tree f e pr t w m = (m.0, f e pr t m.0 m.1)
 

@@ -6,7 +6,8 @@ use Rattle.model_formulas.specs.Satisfaction.{Entails}
 use Rattle.entailment_laws.specs.Judgements.{Reading}
 use Rattle.rule_table.specs.Letters.{Letters, sort_at}
 use Rattle.rule_table.specs.Monotony as Mn
-use Rattle.entailment_laws.proofs.SoundRows.{SoundRow, SoundRows, SoundEntries, ◌&◌}
+use Rattle.rule_table.proofs.SomeLetters.{◌&◌}
+use Rattle.entailment_laws.proofs.SoundRows.{SoundRow, SoundRows, SoundEntries}
 use Rattle.entailment_laws.proofs.Mono as Mo
 use Rattle.entailment_laws.proofs.Frames as Fr
 use Rattle.entailment_laws.proofs.Pure as Pu
@@ -43,16 +44,16 @@ module _ (reading : Reading) where
     where
       at_sort : (o : Option DataSort) → Entails l.P l.Q (sort_at o tree)
           → Entails (one_tree l.P) (one_tree l.Q) (sort_at o forest)
-      at_sort None f = Mo.mono_tree l.P l.Q l.P l.Q (shape forest) f
-      at_sort (Some i) f = Mo.mono_tree l.P l.Q l.P l.Q (context i forest) f
+      at_sort None f = Mo.mono_tree l.P l.Q (shape forest) f
+      at_sort (Some i) f = Mo.mono_tree l.P l.Q (context i forest) f
 
   mono_root : SoundRow reading Mn.mono_root
   mono_root l so w c h = at_sort l.o h.0.1
     where
       at_sort : (o : Option DataSort) → Entails l.P l.Q (sort_at o tree)
           → Entails (one_root l.P) (one_root l.Q) (sort_at o grove)
-      at_sort None f = Mo.mono_root l.P l.Q l.P l.Q (shape grove) f
-      at_sort (Some i) f = Mo.mono_root l.P l.Q l.P l.Q (context i grove) f
+      at_sort None f = Mo.mono_root l.P l.Q (shape grove) f
+      at_sort (Some i) f = Mo.mono_root l.P l.Q (context i grove) f
 
   mono_app : SoundRow reading Mn.mono_app
   mono_app l so w c h = at_sort l.o h.1.0.1

@@ -8,7 +8,8 @@ use Rattle.model_formulas.specs.Satisfaction.{Meets, IfNode, meaning_of}
 use Rattle.entailment_laws.specs.Judgements.{Reading}
 use Rattle.rule_table.specs.Notation.{◌and◌}
 use Rattle.rule_table.specs.Nodes as Ta
-use Rattle.entailment_laws.proofs.SoundRows.{SoundRow, SoundEntries, ◌&◌}
+use Rattle.rule_table.proofs.SomeLetters.{◌&◌}
+use Rattle.entailment_laws.proofs.SoundRows.{SoundRow, SoundEntries}
 use Rattle.entailment_laws.proofs.Nodes as No
 use Rattle.entailment_laws.proofs.Nodes.{Says, node_alone}
 use Rattle.entailment_laws.proofs.Splits as Sp

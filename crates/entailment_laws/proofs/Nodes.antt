@@ -16,7 +16,8 @@ use Rattle.model_formulas.specs.Satisfaction.{Environment, Meets, Entails, Class
 use Rattle.model_formulas.proofs.Stable.{stable}
 use Rattle.rule_table.specs.Notation.{◌and◌, ◌∗◌, ◌⊹◌, ◌equals◌}
 use Rattle.entailment_laws.proofs.Mono.{kids-Shaped}
-use Rattle.entailment_laws.proofs.Shared.{◌>>=◌, surely, App, app, SameAt-refl, width_one}
+use Rattle.entailment_laws.proofs.Classical.{◌>>=◌, surely}
+use Rattle.entailment_laws.proofs.Shared.{App, app, SameAt-refl, width_one}
 
 -- what a node by itself is
 pub node_alone : (r : Trees) (F : List ℕ → ℕ → Trees → ℕ → Type 0) → IfNode r F

@@ -4,17 +4,14 @@ use mathlib.Core.HLevel.{Stable}
 use Rattle.model_formulas.proofs.Closed.{closed}
 use Rattle.model_formulas.proofs.Stable.{stable}
 use Rattle.model_formulas.specs.Formulas.{Formula}
-use Rattle.model_formulas.specs.Satisfaction.{Classically, Environment, Meets, SomeShape}
+use Rattle.model_formulas.specs.Satisfaction.{Environment, Meets, SomeShape}
 use Rattle.model_shapes.proofs.Basics.{beside-none, beside_assoc, holes-beside, root_holes-beside}
 use Rattle.model_shapes.proofs.Shapes.{IsList, Same-refl, SameAt-beside, SameAt-eq, SameAt-sym, SameAt-trans, left-WellFormed, right-WellFormed, root_holes-le, same-WellFormed, one-hole, hole-root, hole-below}
 use Rattle.model_shapes.specs.Shapes.{SameAt, Shaped}
 use Rattle.model_shapes.specs.Sorts.{DataSort, Sort, context, outer, shape}
 use Rattle.model_shapes.specs.Trees.{Trees, WellFormed, beside, none, width}
+use Rattle.entailment_laws.proofs.Classical.{◌>>=◌}
 
-abbrev pub ◌>>=◌ : {A B : Type 0} → Classically A → (A → Classically B) → Classically B
-m >>= f = λ k. m (λ a. f a k)
-
-infixl 10 ◌>>=◌
 -- the same as one part followed by another
 abbrev pub Parts : DataSort → Sort → Sort → Trees → (Trees → Type 0) → (Trees → Type 0) → Type 0
 Parts k u v r P Q = SomeShape u λ a. SomeShape v λ b. SameAt k r (beside a b) × P a × Q b

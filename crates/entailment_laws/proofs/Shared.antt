@@ -1,20 +1,13 @@
 -- What several rows share: parts and wholes at each sort, and formulas as sets of shapes.
 use Rattle.std.proofs.Common.{◌≡◌, ℕ, refl, ap, arith, ◌∙◌, true}
-use Rattle.model_formulas.specs.Satisfaction.{Classically, SomeShape}
+use Rattle.model_formulas.specs.Satisfaction.{SomeShape}
 use Rattle.model_shapes.proofs.Basics.{fill-beside, fill-no_hole, width-beside}
 use Rattle.model_shapes.proofs.Filling.{compose-Shaped}
-use Rattle.model_shapes.proofs.Shapes.{IsList, SameAt-eq, same-WellFormed}
+use Rattle.model_shapes.proofs.Shapes.{IsList, SameAt-eq}
 use Rattle.model_shapes.specs.Shapes.{HasWidth, SameAt, Shaped, holes, may_stand}
 use Rattle.model_shapes.specs.Sorts.{DataSort, Sort, context, forest, grove, tree}
 use Rattle.model_shapes.specs.Trees.{Trees, WellFormed, beside, fill, hole, node, none, width}
-
--- "or" and "some" are classical, so a proof that has them goes on in a `do` block
-abbrev pub ◌>>=◌ : {A B : Type 0} → Classically A → (A → Classically B) → Classically B
-m >>= f = λ k. m (λ a. f a k)
-
-infixl 10 ◌>>=◌
-abbrev pub surely : {A : Type 0} → A → Classically A
-surely a = λ k. k a
+use Rattle.entailment_laws.proofs.Parts.{Parts, parts}
 
 -- the data sorts, or the contexts with one sort of hole
 abbrev pub PutsInto : (DataSort → Sort) → Type 0
@@ -40,23 +33,14 @@ app S h k K P r c d wc wd same mc md = λ n. n (c, wc, λ m. m (d, wd, (same, mc
 -- one part of `P`, and after it one of `Q`
 abbrev pub Split : DataSort → Sort → Sort → (Sort → Trees → Type 0) → (Sort → Trees → Type 0)
     → Trees → Type 0
-Split k s t P Q r = SomeShape s λ a. SomeShape t λ b. SameAt k r (beside a b) × P s a × Q t b
+Split k s t P Q r = Parts k s t r (P s) (Q t)
 
 pub split : (k : DataSort) (s t : Sort) (P Q : Sort → Trees → Type 0) (r a b : Trees) → Shaped s a
     → Shaped t b → SameAt k r (beside a b) → P s a → Q t b → Split k s t P Q r
-split k s t P Q r a b wa wb same pa qb = λ n. n (a, wa, λ m. m (b, wb, (same, pa, qb)))
+split k s t P Q r a b = parts k s t r (P s) (Q t) a b
 
 pub SameAt-refl : (k : DataSort) (a : Trees) → SameAt k a a
 SameAt-refl k a = SameAt-eq k a a refl
-
-pub moved : (k : DataSort) (a b : Trees) → SameAt k a b → WellFormed a → WellFormed b
-moved = same-WellFormed
-
--- no trees
-pub no_roots : (a : Trees) → width a ≡ 0 → a ≡ none
-no_roots none h = refl
-no_roots (node s i k l r) h = absurd (omega arith)
-no_roots (hole r) h = absurd (omega arith)
 
 -- the bare hole
 pub fill-hole : (c : Trees) → fill c (hole none) ≡ c

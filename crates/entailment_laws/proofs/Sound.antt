@@ -4,7 +4,8 @@ use Rattle.std.specs.List.{flat_map}
 use Rattle.rule_table.specs.Entries.{Entry}
 use Rattle.rule_table.specs.Table.{groups, entailments}
 use Rattle.entailment_laws.specs.Judgements.{Reading}
-use Rattle.entailment_laws.proofs.SoundRows.{SoundEntries, sound-append, ◌&◌}
+use Rattle.rule_table.proofs.SomeLetters.{◌&◌}
+use Rattle.entailment_laws.proofs.SoundRows.{SoundEntries, sound-append}
 use Rattle.entailment_laws.proofs.LogicRows as Logic
 use Rattle.entailment_laws.proofs.EquationRows as Equations
 use Rattle.entailment_laws.proofs.StructureRows as Structure

@@ -37,11 +37,6 @@ term-stands (value u) t h e pr = term-fits t u e pr h
 term-stands (shape k) t h e pr = variable-stands (shape k) t h.0 h.1 e pr
 term-stands (context i k) t h e pr = variable-stands (context i k) t h.0 h.1 e pr
 
--- both
-abbrev pub ◌&◌ : {A B : Type 0} → A → B → A × B
-a & b = (a, b)
-
-infixr 10 ◌&◌
 module _ (reading : Reading) where
   -- A row is sound.
   abbrev pub SoundRow : Row → Type 0

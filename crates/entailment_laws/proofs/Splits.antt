@@ -13,7 +13,8 @@ use Rattle.model_formulas.specs.Formulas.{Formula, empty, one_tree, same_as}
 use Rattle.model_formulas.specs.Satisfaction.{Meets, Entails, meaning_of}
 use Rattle.model_formulas.proofs.Closed.{closed}
 use Rattle.rule_table.specs.Notation.{◌and◌, ◌∗◌, ◌⊹◌}
-use Rattle.entailment_laws.proofs.Shared.{◌>>=◌, split}
+use Rattle.entailment_laws.proofs.Classical.{◌>>=◌}
+use Rattle.entailment_laws.proofs.Shared.{split}
 use Rattle.entailment_laws.proofs.Values.{same_value}
 
 -- parts of one width are the same

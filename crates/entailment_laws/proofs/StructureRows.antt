@@ -1,7 +1,8 @@
 -- The rows of regrouping, units and the order of roots are sound, both ways.
 use Rattle.entailment_laws.specs.Judgements.{Reading}
 use Rattle.rule_table.specs.Structure as Sr
-use Rattle.entailment_laws.proofs.SoundRows.{SoundRow, SoundWays, SoundEntries, ◌&◌}
+use Rattle.rule_table.proofs.SomeLetters.{◌&◌}
+use Rattle.entailment_laws.proofs.SoundRows.{SoundRow, SoundWays, SoundEntries}
 use Rattle.entailment_laws.proofs.Stars as St
 
 module _ (reading : Reading) where

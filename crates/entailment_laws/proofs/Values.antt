@@ -18,7 +18,7 @@ use Rattle.model_formulas.specs.Setting.{setting, setting_at}
 use Rattle.model_formulas.proofs.Closed.{closed}
 use Rattle.model_formulas.proofs.Quantified.{exists-means, met-alike}
 use Rattle.entailment_laws.proofs.Quantified.{Stands}
-use Rattle.entailment_laws.proofs.Shared.{◌>>=◌, surely}
+use Rattle.entailment_laws.proofs.Classical.{◌>>=◌, surely}
 use Rattle.entailment_laws.proofs.Contexts.{unset}
 use Rattle.entailment_laws.proofs.Pieces.{put_in}
 

@@ -3,7 +3,8 @@ use Rattle.model_shapes.specs.Sorts.{shape, forest, grove}
 use Rattle.entailment_laws.specs.Judgements.{Reading}
 use Rattle.rule_table.specs.Letters.{as_logic, as_term}
 use Rattle.rule_table.specs.Variables as Ta
-use Rattle.entailment_laws.proofs.SoundRows.{SoundRow, SoundEntries, ◌&◌, term-stands}
+use Rattle.rule_table.proofs.SomeLetters.{◌&◌}
+use Rattle.entailment_laws.proofs.SoundRows.{SoundRow, SoundEntries, term-stands}
 use Rattle.entailment_laws.proofs.Values as Va
 use Rattle.entailment_laws.proofs.Splits as Sp
 

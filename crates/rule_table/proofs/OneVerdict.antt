@@ -18,16 +18,13 @@ use Rattle.rule_table.specs.Rules.{rules}
 use Rattle.rule_table.specs.Axioms.{axioms}
 use Rattle.rule_table.specs.Verdicts.{Written, Verdict, IsVerdict, readings_in}
 use Rattle.rule_table.proofs.VerdictLaws.{FixedNames, one-verdict}
+use Rattle.rule_table.proofs.SomeLetters.{◌&◌}
 
 abbrev AllFixed : List Entry → Type 0
 AllFixed [] = Unit
 AllFixed (entry ∷ entries) =
     ((names : List SideName) × FixedNames names entry.readings) × AllFixed entries
 
-abbrev ◌&◌ : {A B : Type 0} → A → B → A × B
-a & b = (a, b)
-
-infixr 10 ◌&◌
 append-fixed : (first second : List Entry) → AllFixed first → AllFixed second
     → AllFixed (first ++ second)
 append-fixed [] second a b = b

@@ -1,6 +1,6 @@
 -- Where two formulas are one with either of two terms for a variable, the test of the row eq_subst
 -- says yes.
-use Rattle.std.proofs.Common.{◌≡◌, ℕ, zero, suc, refl, sym, ap, ◌∙◌, inl, inr, Bool, true, false, ◌&&◌, ◌||◌, List}
+use Rattle.std.proofs.Common.{◌≡◌, ℕ, zero, suc, refl, sym, ap, ◌∙◌, inl, inr, true, ◌&&◌, List}
 use Rattle.model_shapes.specs.Sorts.{Sort}
 use Rattle.model_shapes.specs.Tests.{same_sort, same_data_sort}
 use Rattle.model_terms.specs.Variables.{Var, prog, logic, bound}
@@ -14,27 +14,19 @@ use Rattle.model_formulas.specs.Substitution.{formula_with}
 use Rattle.model_shapes.proofs.Tests.{same_value-refl}
 use Rattle.rule_table.specs.Occurrences.{AsFormula}
 use Rattle.rule_table.proofs.Replaced.{same_or, replaced_term, replaced}
+use Rattle.model_shapes.proofs.Truth.{and_from}
+use Rattle.model_commands.proofs.Sorting.{left-true, right-true}
 
--- tests
-pub both : (x y : Bool) → x ≡ true → y ≡ true → (x && y) ≡ true
-both x y h g = λ i. h i && g i
-
-pub first_holds : (x y : Bool) → x ≡ true → (x || y) ≡ true
-first_holds x y h = ap (λ z. z || y) h
-
-pub second_holds : (x y : Bool) → y ≡ true → (x || y) ≡ true
-second_holds true y h = refl
-second_holds false y h = h
-
+-- the test of a term and itself
 pub same_term-refl : (t : Term) → same_term t t ≡ true
 same_term-refl (literal v) = same_value-refl v
 same_term-refl (variable x) = same_var-refl x
 same_term-refl (sum t u) =
-    both (same_term t t) (same_term u u) (same_term-refl t) (same_term-refl u)
+    and_from (same_term t t) (same_term u u) (same_term-refl t) (same_term-refl u)
 same_term-refl (difference t u) =
-    both (same_term t t) (same_term u u) (same_term-refl t) (same_term-refl u)
+    and_from (same_term t t) (same_term u u) (same_term-refl t) (same_term-refl u)
 same_term-refl (appended t u) =
-    both (same_term t t) (same_term u u) (same_term-refl t) (same_term-refl u)
+    and_from (same_term t t) (same_term u u) (same_term-refl t) (same_term-refl u)
 
 same_side-refl : (d : Side) → same_side d d ≡ true
 same_side-refl whole = refl
@@ -44,38 +36,38 @@ same_side-refl hole_right = refl
 -- the test of a term and itself, and of the two terms
 module _ (a b : Term) where
   same_or-refl : (t : Term) → same_or a b t t ≡ true
-  same_or-refl t = first_holds (same_term t t) (same_term t a && same_term t b) (same_term-refl t)
+  same_or-refl t = left-true (same_term t t) (same_term t a && same_term t b) (same_term-refl t)
 
   unchanged : (t : Term) → replaced_term a b t t ≡ true
   unchanged (sum t u) =
-      first_holds (same_or a b (sum t u) (sum t u)) (replaced_term a b t t && replaced_term a b u u)
+      left-true (same_or a b (sum t u) (sum t u)) (replaced_term a b t t && replaced_term a b u u)
       (same_or-refl (sum t u))
   unchanged (difference t u) =
-      first_holds (same_or a b (difference t u) (difference t u))
+      left-true (same_or a b (difference t u) (difference t u))
       (replaced_term a b t t && replaced_term a b u u) (same_or-refl (difference t u))
   unchanged (appended t u) =
-      first_holds (same_or a b (appended t u) (appended t u))
+      left-true (same_or a b (appended t u) (appended t u))
       (replaced_term a b t t && replaced_term a b u u) (same_or-refl (appended t u))
   unchanged (literal v) = same_or-refl (literal v)
   unchanged (variable x) = same_or-refl (variable x)
 
 same_or-here : (a b : Term) → same_or a b a b ≡ true
 same_or-here a b =
-    second_holds (same_term a b) (same_term a a && same_term b b)
-    (both (same_term a a) (same_term b b) (same_term-refl a) (same_term-refl b))
+    right-true (same_term a b) (same_term a a && same_term b b)
+    (and_from (same_term a a) (same_term b b) (same_term-refl a) (same_term-refl b))
 
 here : (a b : Term) → replaced_term a b a b ≡ true
 here (sum t t') (sum u u') =
-    first_holds (same_or (sum t t') (sum u u') (sum t t') (sum u u'))
+    left-true (same_or (sum t t') (sum u u') (sum t t') (sum u u'))
     (replaced_term (sum t t') (sum u u') t u && replaced_term (sum t t') (sum u u') t' u')
     (same_or-here (sum t t') (sum u u'))
 here (difference t t') (difference u u') =
-    first_holds (same_or (difference t t') (difference u u') (difference t t') (difference u u'))
+    left-true (same_or (difference t t') (difference u u') (difference t t') (difference u u'))
     (replaced_term (difference t t') (difference u u') t u
     && replaced_term (difference t t') (difference u u') t' u')
     (same_or-here (difference t t') (difference u u'))
 here (appended t t') (appended u u') =
-    first_holds (same_or (appended t t') (appended u u') (appended t t') (appended u u'))
+    left-true (same_or (appended t t') (appended u u') (appended t t') (appended u u'))
     (replaced_term (appended t t') (appended u u') t u
     && replaced_term (appended t t') (appended u u') t' u')
     (same_or-here (appended t t') (appended u u'))
@@ -120,22 +112,22 @@ module _ (name : List ℕ) (u : Sort) where
     replaced-term (literal v) = unchanged a b (literal v)
     replaced-term (variable y) = replaced-variable y
     replaced-term (sum t t') =
-        second_holds (same_or a b (term_with f (sum t t')) (term_with g (sum t t')))
+        right-true (same_or a b (term_with f (sum t t')) (term_with g (sum t t')))
         (replaced_term a b (term_with f t) (term_with g t)
         && replaced_term a b (term_with f t') (term_with g t'))
-        (both (replaced_term a b (term_with f t) (term_with g t))
+        (and_from (replaced_term a b (term_with f t) (term_with g t))
         (replaced_term a b (term_with f t') (term_with g t')) (replaced-term t) (replaced-term t'))
     replaced-term (difference t t') =
-        second_holds (same_or a b (term_with f (difference t t')) (term_with g (difference t t')))
+        right-true (same_or a b (term_with f (difference t t')) (term_with g (difference t t')))
         (replaced_term a b (term_with f t) (term_with g t)
         && replaced_term a b (term_with f t') (term_with g t'))
-        (both (replaced_term a b (term_with f t) (term_with g t))
+        (and_from (replaced_term a b (term_with f t) (term_with g t))
         (replaced_term a b (term_with f t') (term_with g t')) (replaced-term t) (replaced-term t'))
     replaced-term (appended t t') =
-        second_holds (same_or a b (term_with f (appended t t')) (term_with g (appended t t')))
+        right-true (same_or a b (term_with f (appended t t')) (term_with g (appended t t')))
         (replaced_term a b (term_with f t) (term_with g t)
         && replaced_term a b (term_with f t') (term_with g t'))
-        (both (replaced_term a b (term_with f t) (term_with g t))
+        (and_from (replaced_term a b (term_with f t) (term_with g t))
         (replaced_term a b (term_with f t') (term_with g t')) (replaced-term t) (replaced-term t'))
 
     -- a term without the variable
@@ -159,109 +151,109 @@ module _ (name : List ℕ) (u : Sort) where
   replaced-formula truth a b f g d n = refl
   replaced-formula falsity a b f g d n = refl
   replaced-formula (conjunction p q) a b f g d n =
-      both (replaced a b (formula_with f p) (formula_with g p))
+      and_from (replaced a b (formula_with f p) (formula_with g p))
       (replaced a b (formula_with f q) (formula_with g q))
       (replaced-formula p a b f g d (λ m. n (inl m)))
       (replaced-formula q a b f g d (λ m. n (inr m)))
   replaced-formula (disjunction p q) a b f g d n =
-      both (replaced a b (formula_with f p) (formula_with g p))
+      and_from (replaced a b (formula_with f p) (formula_with g p))
       (replaced a b (formula_with f q) (formula_with g q))
       (replaced-formula p a b f g d (λ m. n (inl m)))
       (replaced-formula q a b f g d (λ m. n (inr m)))
   replaced-formula (implication p q) a b f g d n =
-      both (replaced a b (formula_with f p) (formula_with g p))
+      and_from (replaced a b (formula_with f p) (formula_with g p))
       (replaced a b (formula_with f q) (formula_with g q))
       (replaced-formula p a b f g d (λ m. n (inl m)))
       (replaced-formula q a b f g d (λ m. n (inr m)))
   replaced-formula (negation p) a b f g d n = replaced-formula p a b f g d n
   replaced-formula (existential s p) a b f g d n =
-      both (same_sort s s)
+      and_from (same_sort s s)
       (replaced (raised a) (raised b) (formula_with (under_binder f) p)
       (formula_with (under_binder g) p))
       (same_sort-refl s)
       (replaced-formula p (raised a) (raised b) (under_binder f) (under_binder g)
       (differ-under a b f g d) n)
   replaced-formula (universal s p) a b f g d n =
-      both (same_sort s s)
+      and_from (same_sort s s)
       (replaced (raised a) (raised b) (formula_with (under_binder f) p)
       (formula_with (under_binder g) p))
       (same_sort-refl s)
       (replaced-formula p (raised a) (raised b) (under_binder f) (under_binder g)
       (differ-under a b f g d) n)
   replaced-formula (equality t t') a b f g d n =
-      both (replaced_term a b (term_with f t) (term_with g t))
+      and_from (replaced_term a b (term_with f t) (term_with g t))
       (replaced_term a b (term_with f t') (term_with g t'))
       (replaced-term a b f g d t) (replaced-term a b f g d t')
   replaced-formula (at_most t t') a b f g d n =
-      both (replaced_term a b (term_with f t) (term_with g t))
+      and_from (replaced_term a b (term_with f t) (term_with g t))
       (replaced_term a b (term_with f t') (term_with g t'))
       (replaced-term a b f g d t) (replaced-term a b f g d t')
   replaced-formula (empty k) a b f g d n = same_data_sort-refl k
   replaced-formula (bare_hole k) a b f g d n = same_data_sort-refl k
   replaced-formula (node_formula t i p l) a b f g d n =
-      both (replaced_term a b (term_with f t) (term_with g t))
+      and_from (replaced_term a b (term_with f t) (term_with g t))
       (replaced_term a b (term_with f i) (term_with g i)
       && (replaced a b (formula_with f p) (formula_with g p)
       && replaced_term a b (term_with f l) (term_with g l)))
       (replaced-term a b f g d t)
-      (both (replaced_term a b (term_with f i) (term_with g i))
+      (and_from (replaced_term a b (term_with f i) (term_with g i))
       (replaced a b (formula_with f p) (formula_with g p)
       && replaced_term a b (term_with f l) (term_with g l))
       (replaced-term a b f g d i)
-      (both (replaced a b (formula_with f p) (formula_with g p))
+      (and_from (replaced a b (formula_with f p) (formula_with g p))
       (replaced_term a b (term_with f l) (term_with g l))
       (replaced-formula p a b f g d n) (replaced-term a b f g d l)))
   replaced-formula (one_tree p) a b f g d n = replaced-formula p a b f g d n
   replaced-formula (one_root p) a b f g d n = replaced-formula p a b f g d n
   replaced-formula (concatenation side p q) a b f g d n =
-      both (same_side side side)
+      and_from (same_side side side)
       (replaced a b (formula_with f p) (formula_with g p)
       && replaced a b (formula_with f q) (formula_with g q))
       (same_side-refl side)
-      (both (replaced a b (formula_with f p) (formula_with g p))
+      (and_from (replaced a b (formula_with f p) (formula_with g p))
       (replaced a b (formula_with f q) (formula_with g q))
       (replaced-formula p a b f g d (λ m. n (inl m)))
       (replaced-formula q a b f g d (λ m. n (inr m))))
   replaced-formula (grove_sum p q) a b f g d n =
-      both (replaced a b (formula_with f p) (formula_with g p))
+      and_from (replaced a b (formula_with f p) (formula_with g p))
       (replaced a b (formula_with f q) (formula_with g q))
       (replaced-formula p a b f g d (λ m. n (inl m)))
       (replaced-formula q a b f g d (λ m. n (inr m)))
   replaced-formula (grove_sum_hole p q) a b f g d n =
-      both (replaced a b (formula_with f p) (formula_with g p))
+      and_from (replaced a b (formula_with f p) (formula_with g p))
       (replaced a b (formula_with f q) (formula_with g q))
       (replaced-formula p a b f g d (λ m. n (inl m)))
       (replaced-formula q a b f g d (λ m. n (inr m)))
   replaced-formula (application h p q) a b f g d n =
-      both (same_data_sort h h)
+      and_from (same_data_sort h h)
       (replaced a b (formula_with f p) (formula_with g p)
       && replaced a b (formula_with f q) (formula_with g q))
       (same_data_sort-refl h)
-      (both (replaced a b (formula_with f p) (formula_with g p))
+      (and_from (replaced a b (formula_with f p) (formula_with g p))
       (replaced a b (formula_with f q) (formula_with g q))
       (replaced-formula p a b f g d (λ m. n (inl m)))
       (replaced-formula q a b f g d (λ m. n (inr m))))
   replaced-formula (hole_adjoint p q) a b f g d n =
-      both (replaced a b (formula_with f p) (formula_with g p))
+      and_from (replaced a b (formula_with f p) (formula_with g p))
       (replaced a b (formula_with f q) (formula_with g q))
       (replaced-formula p a b f g d (λ m. n (inl m)))
       (replaced-formula q a b f g d (λ m. n (inr m)))
   replaced-formula (context_adjoint k p q) a b f g d n =
-      both (same_data_sort k k)
+      and_from (same_data_sort k k)
       (replaced a b (formula_with f p) (formula_with g p)
       && replaced a b (formula_with f q) (formula_with g q))
       (same_data_sort-refl k)
-      (both (replaced a b (formula_with f p) (formula_with g p))
+      (and_from (replaced a b (formula_with f p) (formula_with g p))
       (replaced a b (formula_with f q) (formula_with g q))
       (replaced-formula p a b f g d (λ m. n (inl m)))
       (replaced-formula q a b f g d (λ m. n (inr m))))
   replaced-formula (same_as t) a b f g d n = same_agreed a b f g d t n
   replaced-formula (length_is t) a b f g d n = replaced-term a b f g d t
   replaced-formula (value_meets s t p) a b f g d n =
-      both (same_sort s s)
+      and_from (same_sort s s)
       (same_term (term_with f t) (term_with g t)
       && replaced a b (formula_with f p) (formula_with g p))
       (same_sort-refl s)
-      (both (same_term (term_with f t) (term_with g t))
+      (and_from (same_term (term_with f t) (term_with g t))
       (replaced a b (formula_with f p) (formula_with g p))
       (same_agreed a b f g d t (λ m. n (inl m))) (replaced-formula p a b f g d (λ m. n (inr m))))

@@ -83,3 +83,9 @@ is_entailment (triple p c q d) = false
 -- the rows of the rule of entailment of that name
 abbrev pub readings_of : Name → List Row
 readings_of = readings_in entailments
+
+-- both
+abbrev pub ◌&◌ : {A B : Type 0} → A → B → A × B
+a & b = (a, b)
+
+infixr 10 ◌&◌

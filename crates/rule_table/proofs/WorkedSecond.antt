@@ -1,6 +1,6 @@
 -- Worked verdicts.
 use Rattle.std.proofs.Common.{ℕ, ◌≡◌, List, [], ◌∷◌, Some, refl, ap, sym, subst, inl, ⊎_elim, codes}
-use Rattle.model_shapes.specs.Sorts.{Sort, shape, context, tree, forest, grove}
+use Rattle.model_shapes.specs.Sorts.{shape, context, tree, forest, grove}
 use Rattle.model_terms.specs.Terms.{variable}
 use Rattle.model_terms.specs.VariableTests.{var_eq}
 use Rattle.model_terms.specs.Variables.{logic}
@@ -8,38 +8,25 @@ use Rattle.model_formulas.specs.Nameless.{nameless}
 use Rattle.rule_table.specs.Nodes as No
 use Rattle.model_formulas.specs.Substitution.{FreeIn, closing_at}
 use Rattle.model_formulas.specs.Formulas.{Named, one_tree, concatenation, whole, disjunction, empty, Formula, truth, existential, application, bare_hole, hole_adjoint, context_adjoint, same_as}
-use Rattle.model_commands.specs.Theories.{Judgement, entails, triple}
+use Rattle.model_commands.specs.Theories.{Judgement, entails}
 use Rattle.rule_table.specs.Letters.{Letters, LogicVar, as_logic, as_term}
 use Rattle.rule_table.specs.Notation.{◌and◌, ◌∗◌, ◌·∗◌, for_some}
 use Rattle.rule_table.specs.Verdicts.{Written, IsVerdict, instance_verdict, shape_verdict, premises_verdict, side_verdict, readings_in}
 use Rattle.rule_table.specs.Conditions.{free_side}
 use Rattle.rule_table.specs.Contexts as Co
 use Rattle.rule_table.specs.Variables as Va
-use Rattle.rule_table.proofs.SomeLetters.{plain_letters}
+use Rattle.rule_table.proofs.SomeLetters.{plain_letters, left_in, right_in, sort_in}
 
 -- a step without arguments
 abbrev step : List Judgement → Judgement → Written
 step premises conclusion =
     record { arguments = []; premises = Some premises; conclusion = conclusion }
 
-sort_in : Judgement → Sort
-sort_in (entails p q s) = s
-sort_in (triple p c q d) = shape d
-
-right_in : Judgement → Formula
-right_in (entails p q s) = q
-right_in (triple p c q d) = q
-
-left_in : Judgement → Formula
-left_in (entails p q s) = p
-left_in (triple p c q d) = p
-
 -- ((true -o true) @t true) entails true at tt concludes no hole_adj_out
 pub adjoint_at_a_context : IsVerdict (readings_in Co.entries (codes "hole_adj_out"))
     (step []
     (entails (application tree (hole_adjoint truth truth) truth) truth (context tree tree)))
     shape_verdict
-unfolding sort_in
 adjoint_at_a_context m = ⊎_elim (λ y. wrong y.0 (ap sort_in y.1.2)) (λ none. none) m
   where
     wrong : (l : Letters) → shape l.k ≡ context tree tree → ⊥
@@ -81,7 +68,6 @@ pub star_at_a_context : IsVerdict (readings_in Co.entries (codes "app_star_left"
     (step [] (entails (application forest (bare_hole forest ·∗ truth) truth)
     (application forest (bare_hole forest) truth ∗ truth) (context forest forest)))
     shape_verdict
-unfolding sort_in right_in
 star_at_a_context m = ⊎_elim (λ y. whole y.0 (ap sort_in y.1.2))
     (λ r. ⊎_elim (λ y. left y.0 (ap right_in y.1.2)) (λ none. none) r) m
   where
@@ -97,7 +83,6 @@ pub premise_at_another_sort : IsVerdict (readings_in Co.entries (codes "ctx_adj_
     (step (entails (application tree truth truth) truth (shape tree) ∷ [])
     (entails truth (context_adjoint grove truth truth) (shape tree)))
     premises_verdict
-unfolding right_in
 premise_at_another_sort = (
   inl (plain_letters, (refl, tt, refl)),
   λ m. ⊎_elim
@@ -121,7 +106,6 @@ z_as_formula = same_as (as_term z)
 pub free_in_what_is_given : IsVerdict (readings_in Va.entries (codes "some"))
     (step [] (entails z_as_formula (for_some z (z_as_formula and z_as_formula)) (shape tree)))
     (side_verdict free_side)
-unfolding left_in right_in
 free_in_what_is_given = (
   0,
   inl (record plain_letters { P = z_as_formula; x = z }, ((((refl, tt, refl), refl), tt), refl)),

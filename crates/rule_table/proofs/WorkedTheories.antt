@@ -15,8 +15,8 @@ use Rattle.rule_table.specs.Notation.{prog_term}
 use Rattle.rule_table.specs.Rules.{chain, block_of}
 use Rattle.rule_table.specs.Verdicts.{shape_verdict, premises_verdict}
 use Rattle.rule_table.specs.Accepted.{IsAccepted, IsFirstBad, gap, fails, no_proof}
-use Rattle.rule_table.proofs.SomeLetters.{plain_letters}
-use Rattle.rule_table.proofs.WorkedTriples.{command_of, pre_of, post_of}
+use Rattle.rule_table.proofs.SomeLetters.{plain_letters, left_in, right_in}
+use Rattle.rule_table.proofs.WorkedTriples.{command_of}
 
 -- a theory of one procedure
 abbrev pub one_procedure : ProcedureOf Named → Theory
@@ -146,7 +146,7 @@ file_inc_fails = inl (
     refl,
     (
       (λ m. ⊎_elim (λ x. wrong x.0 (ap command_of x.1.2)
-          (ap post_of x.1.2) (ap pre_of x.1.2)) (λ z. z) m),
+          (ap right_in x.1.2) (ap left_in x.1.2)) (λ z. z) m),
       tt,
     ),
   ),

@@ -16,7 +16,7 @@ use Rattle.rule_table.specs.Notation.{hoare, for_some, prog_term}
 use Rattle.rule_table.specs.Table.{triples}
 use Rattle.rule_table.specs.Verdicts.{IsVerdict, Verdict, shape_verdict, premises_verdict, side_verdict, readings_in}
 use Rattle.rule_table.specs.Conditions.{modified_side, assigned_side}
-use Rattle.rule_table.proofs.SomeLetters.{plain_letters}
+use Rattle.rule_table.proofs.SomeLetters.{plain_letters, left_in, right_in}
 
 -- the verdict on a step of this rule, with these arguments, these premises and this conclusion
 abbrev Verdict_is : List ℕ → List Term → List Judgement → Judgement → Verdict → Type 0
@@ -27,15 +27,7 @@ Verdict_is rule arguments premises conclusion verdict =
       conclusion = conclusion;
     }) verdict
 
--- the parts of a judgement
-abbrev pub pre_of : Judgement → Formula
-pre_of (entails p q s) = p
-pre_of (triple p c q d) = p
-
-abbrev pub post_of : Judgement → Formula
-post_of (entails p q s) = q
-post_of (triple p c q d) = q
-
+-- the command of a triple
 abbrev pub command_of : Judgement → Command
 command_of (entails p q s) = skip
 command_of (triple p c q d) = c
@@ -56,7 +48,7 @@ pub turned_premises : Verdict_is (codes "consequence") []
 turned_premises = (
   inl (record plain_letters { Q = falsity }, (refl, tt, refl)),
   λ m. ⊎_elim
-      (λ x. wrong x.0 (ap pre_of x.1.0.2) (ap (λ js. pre_of (first_of js)) x.1.1)) (λ z. z) m,
+      (λ x. wrong x.0 (ap left_in x.1.0.2) (ap (λ js. left_in (first_of js)) x.1.1)) (λ z. z) m,
 )
   where
     wrong : (l : Letters) → l.P ≡ truth → l.P ≡ never → ⊥
@@ -92,8 +84,8 @@ two_binder_names = (
     },
     (refl, tt, refl),
   ),
-  λ m. ⊎_elim (λ y. wrong y.0 (ap pre_of y.1.0.2) (ap post_of y.1.0.2)
-      (ap (λ js. pre_of (first_of js)) y.1.1) (ap (λ js. post_of (first_of js)) y.1.1)) (λ z. z) m,
+  λ m. ⊎_elim (λ y. wrong y.0 (ap left_in y.1.0.2) (ap right_in y.1.0.2)
+      (ap (λ js. left_in (first_of js)) y.1.1) (ap (λ js. right_in (first_of js)) y.1.1)) (λ z. z) m,
 )
   where
     apart : as_logic first_variable ≡ as_logic second_variable → ⊥
@@ -147,7 +139,7 @@ modified_frame = (
     },
     ((((refl, tt, refl), refl), tt), refl),
   ),
-  λ m. ⊎_elim (λ y. wrong y.0 (ap pre_of y.1.0.0.2) (ap command_of y.1.0.0.2) y.1.1.0) (λ z. z) m,
+  λ m. ⊎_elim (λ y. wrong y.0 (ap left_in y.1.0.0.2) (ap command_of y.1.0.0.2) y.1.1.0) (λ z. z) m,
 )
   where
     wrong : (l : Letters) → application l.h l.K l.P ≡ application grove framed (empty grove) → l.C
@@ -184,7 +176,7 @@ assigned_parent_none = (
     },
     ((((refl, tt, refl), refl), tt), refl),
   ),
-  λ m. ⊎_elim (λ y. wrong y.0 (ap pre_of y.1.0.0.2) (ap command_of y.1.0.0.2) y.1.1.0) (λ z. z) m,
+  λ m. ⊎_elim (λ y. wrong y.0 (ap left_in y.1.0.0.2) (ap command_of y.1.0.0.2) y.1.1.0) (λ z. z) m,
 )
   where
     wrong : (l : Letters) → conjunction (one_root (node_formula l.S l.I l.P l.L)) (equality l.E l.I)
@@ -213,7 +205,7 @@ pub no_removed_root : Verdict_is (codes "remove") [] []
     (prog_term (named (codes "n") node_sort)) (prog_term (named (codes "n") node_sort))))
     (remove_child (prog_term x_node) (prog_term (named (codes "n") node_sort)))
     (parent_with (concatenation whole truth truth)) grove) shape_verdict
-no_removed_root m = ⊎_elim (λ y. wrong y.0 (ap post_of y.1.2)) (λ z. z) m
+no_removed_root m = ⊎_elim (λ y. wrong y.0 (ap right_in y.1.2)) (λ z. z) m
   where
     wrong : (l : Letters) → grove_sum (application tree l.K (node_formula l.S l.I
         (concatenation whole l.P l.R) l.L)) (one_root (node_formula l.T l.J l.Q l.M))

@@ -105,8 +105,8 @@ module _ (procedures : Procedures) where
       VerdictBy procedures reason earlier judgement verdict × Refuses verdict
   IsBadBy reason earlier judgement fault = ⊥
 
-  -- the first bad place of a proof from this place on, behind these earlier steps: the step here, or
-  -- one behind it where that is an instance; and else the end
+  -- the first bad place of a proof from this place on, behind these earlier steps: the step
+  -- here, or one behind it where that is an instance; and else the end
   abbrev pub FirstBadStep : Procedure → List Step → List Step → ℕ → ℕ → Fault → Type 0
   FirstBadStep f earlier [] place bad fault =
       (bad ≡ place) × (fault ≡ no_proof) × (EndsWell f → ⊥)

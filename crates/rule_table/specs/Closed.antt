@@ -1,5 +1,5 @@
--- The closed formulas of the rules. Their variables have names of one letter here; without the names
--- of bound variables, each reads as it would with any others.
+-- The closed formulas of the rules. Their variables have names of one letter here; without the
+-- names of bound variables, each reads as it would with any others.
 use Rattle.std.specs.Prelude.{ℕ, pos, codes}
 use Rattle.model_shapes.specs.Values.{Name, int}
 use Rattle.model_shapes.specs.Sorts.{Sort, value, shape, node_sort, list_sort, int_sort, str_sort, tree, forest, grove}

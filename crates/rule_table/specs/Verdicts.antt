@@ -72,8 +72,8 @@ pub data Verdict : Type 0 where
 abbrev pub IsInstance : List Row → Written → Type 0
 IsInstance rows written = SomeLine rows (MeetsAll written)
 
--- THE VERDICT on a step: what some choice reaches, and none goes beyond. It names the first condition
--- that no choice meets together with those before it.
+-- THE VERDICT on a step: what some choice reaches, and none goes beyond. It names the first
+-- condition that no choice meets together with those before it.
 abbrev pub IsVerdict : List Row → Written → Verdict → Type 0
 IsVerdict rows written instance_verdict = IsInstance rows written
 IsVerdict rows written shape_verdict = SomeLine rows (Concludes written) → ⊥

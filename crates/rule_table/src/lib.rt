@@ -1,6 +1,7 @@
 //! The table of rules that a proof may cite, instances of rules, the verdict on a step, accepted
-//! theories and the first bad place, with no Rust data. Promises that the table has the names of the
-//! language, and that a step has one verdict and a theory one first bad place. Stands on model_files.
+//! theories and the first bad place, with no Rust data. Promises that the table has the names of
+//! the language, and that a step has one verdict and a theory one first bad place. Stands on
+//! model_files.
 #![tactic(auto)]
 
 ghost use Rattle.std.specs.Prelude.{◌≡◌, ◌⊎◌, ◌++◌, ℕ, List, map};

@@ -27,7 +27,8 @@ use Rattle.model_groves.proofs.InContext.{without-fill, adding-fill, context-apa
 use Rattle.model_commands.proofs.StoreLaws.{proper-store}
 use Rattle.triple_laws.proofs.Finding.{found-in}
 use Rattle.triple_laws.proofs.Here.{Found, uses-here, own-uses, without-here, adding-here}
-use Rattle.triple_laws.proofs.Moving.{found, child-list, wide, nothing-Shaped, emptied-WellFormed, one-inside, split_at, put_in, on-same}
+use Rattle.entailment_laws.proofs.Pieces.{put_in}
+use Rattle.triple_laws.proofs.Moving.{found, child-list, wide, nothing-Shaped, emptied-WellFormed, one-inside, split_at, on-same}
 use Rattle.triple_laws.proofs.NodesMet.{valued, NodeMet, node-met}
 use Rattle.triple_laws.proofs.OneStep.{Lands, one-step, stable-ends}
 

@@ -2,13 +2,13 @@
 use Rattle.std.proofs.Common.{◌≡◌, ℕ, ◌≤◌, ◌+◌, ◌*◌, List, [], ◌∷◌, cond, refl, sym, ap, subst, arith, true}
 use Rattle.std.proofs.Math.Decide.{ℕ_discrete}
 use Rattle.model_shapes.specs.Shapes.{holes, root_holes, Shaped, OneHole, Same, SameAt}
-use Rattle.model_shapes.specs.Sorts.{DataSort, Sort, shape, context, tree, forest, grove, outer, with_outer}
+use Rattle.model_shapes.specs.Sorts.{DataSort, Sort, shape, context, tree, forest, grove}
 use Rattle.model_shapes.specs.Trees.{Trees, none, node, hole, beside, fill, node_uses, list_uses, root_uses, one_if, WellFormed}
 use Rattle.model_shapes.proofs.Basics.{node_uses-fill, list_uses-fill, holes-fill, root_uses-beside}
 use Rattle.model_shapes.proofs.Filling.{swap_in, grove_hole}
 use Rattle.model_shapes.proofs.Shapes.{SameAt-sym, SameAt-trans}
-use Rattle.model_formulas.specs.Formulas.{Formula, Side, application}
-use Rattle.model_formulas.specs.Satisfaction.{Environment, Meets, Splits}
+use Rattle.model_formulas.specs.Formulas.{Formula, Side}
+use Rattle.model_formulas.specs.Satisfaction.{Environment, Splits}
 use Rattle.model_formulas.specs.Formulas.{left_sort, right_sort}
 use Rattle.model_commands.specs.Commands.{Command}
 use Rattle.model_commands.specs.SortTests.{is_sorted, BodiesSorted}
@@ -110,16 +110,11 @@ pub one-inside : (h d k : DataSort) (c c1 : Trees) → Shaped (context d k) c
 one-inside h d k c c1 wc wc1 =
     omega (arith, holes-fill c c1, wc.holes_fit.one, wc1.holes_fit.one, ap (λ z. z * holes c1) wc.holes_fit.one)
 
--- WHAT MEETS A SPLIT, AND AN APPLICATION
+-- WHAT MEETS A SPLIT
 pub split_at : (side : Side) (s : Sort) (r : Trees) (P Q : Sort → Trees → Type 0) (a b : Trees)
     → Shaped (left_sort side s) a → Shaped (right_sort side s) b → Same s r (beside a b)
     → P (left_sort side s) a → Q (right_sort side s) b → Splits side s r P Q
 split_at side s r P Q a b wa wb same pa qb = λ n. n (a, wa, λ m. m (b, wb, (same, pa, qb)))
-
-pub put_in : (h : DataSort) (s : Sort) (r : Trees) (k p : Formula) (e : Environment) (c d : Trees)
-    → Shaped (context h (outer s)) c → Shaped (with_outer h s) d → Same s r (fill c d)
-    → Meets k e (context h (outer s)) c → Meets p e (with_outer h s) d → Meets (application h k p) e s r
-put_in h s r k p e c d wc wd same mc md = λ n. n (c, wc, λ m. m (d, wd, (same, mc, md)))
 
 -- THE SAME GROVE WILL DO
 Stands-same : (d : DataSort) (c : Trees) (q : Formula) (e : Environment) (st : Store)

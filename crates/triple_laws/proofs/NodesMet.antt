@@ -14,12 +14,10 @@ use Rattle.model_terms.specs.Stores.{Store, lookup, value_of, ProgVar, as_var, s
 use Rattle.model_terms.specs.Computing.{Computes}
 use Rattle.model_commands.proofs.StoreLaws.{meaning-value}
 use Rattle.triple_laws.proofs.Endings.{set-env}
+use Rattle.entailment_laws.proofs.Plain.{val-is}
 use Rattle.entailment_laws.proofs.Quantified.{setting-agrees}
 use Rattle.triple_laws.proofs.Finding.{parent_tree}
 use Rattle.triple_laws.proofs.Passing.{meaning-agrees}
-
-val-is : (v w : Value) → val v ≡ val w → v ≡ w
-val-is v w e = cc
 
 -- the value of a term that stands for what another term stands for
 pub valued : (s : ValueSort) (t u : Term) (v : Value) (st : Store) (e : Environment)

@@ -29,7 +29,8 @@ use Rattle.model_groves.proofs.InContext.{without-none, without-fill, not-here, 
 use Rattle.model_commands.proofs.StoreLaws.{proper-store}
 use Rattle.triple_laws.proofs.Finding.{has_root-in, child-found, parent_tree, found-in}
 use Rattle.triple_laws.proofs.Here.{uses-here, without-here}
-use Rattle.triple_laws.proofs.Moving.{wide, one-inside, split_at, put_in, on-same, swap-root}
+use Rattle.entailment_laws.proofs.Pieces.{put_in}
+use Rattle.triple_laws.proofs.Moving.{wide, one-inside, split_at, on-same, swap-root}
 use Rattle.triple_laws.proofs.NodesMet.{holding_child, ParentMet, parent-met, valued, NodeMet, node-met}
 use Rattle.triple_laws.proofs.OneStep.{Lands, one-step, stable-ends}
 

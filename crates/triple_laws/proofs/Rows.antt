@@ -24,7 +24,8 @@ use Rattle.triple_laws.specs.BySteps.{UpTo, step_fits, in_steps, HoldBelow}
 use Rattle.triple_laws.proofs.Fitting.{step-sorted, call-apart}
 use Rattle.rule_table.specs.Axioms.{axioms}
 use Rattle.rule_table.specs.Table.{triples}
-use Rattle.entailment_laws.proofs.SoundRows.{SoundRow, SoundEntries, sound-append, term-stands, ◌&◌}
+use Rattle.rule_table.proofs.SomeLetters.{◌&◌}
+use Rattle.entailment_laws.proofs.SoundRows.{SoundRow, SoundEntries, sound-append, term-stands}
 
 -- what calls need of the procedures that they mean
 abbrev pub Scoped : Procedures → Type 0
