@@ -38,7 +38,8 @@ module _ (S : DataSort → Sort) (puts : PutsInto S)
   lone m = do
     (c, wc, m1) ← m
     (d, wd, (same, mc, md)) ← m1
-    let wcd : Shaped (S tree) (fill c d) = puts h tree c d mc.0 wd (same-WellFormed k r (fill c d) same wf)
+    let wcd : Shaped (S tree) (fill c d) = puts h tree c d mc.0 wd
+        (same-WellFormed k r (fill c d) same wf)
     let alone : fill c d ≡ r = narrow-at k (fill c d) r (omega (arith, tree_width (fill c d) wcd))
         (SameAt-sym k r (fill c d) same)
     surely (subst (Shaped (S tree)) alone wcd, app S h tree K P r c d mc.0 wd (sym alone) mc.1 md)
@@ -144,7 +145,8 @@ module _ (S : DataSort → Sort) (puts : PutsInto S)
         (SameAt-trans k r (beside x b) (beside (fill c d) b) same
         (SameAt-beside k x b (fill c d) b xsame (SameAt-refl k b)))
     let wcb : Shaped (context h k) (beside c b) = beside_hole_left k list h c b wc wb
-        (outer-WellFormed (beside c b) d (same-WellFormed k r (fill (beside c b) d) now w.well_formed))
+        (outer-WellFormed (beside c b) d (same-WellFormed k r
+        (fill (beside c b) d) now w.well_formed))
     app S h k (λ s. Split k (context h k) (shape k) K Q) P r (beside c b) d wcb wd now
         (split k (context h k) (shape k) K Q (beside c b) c b wc wb
         (SameAt-refl k (beside c b)) mc mb) md
@@ -161,7 +163,8 @@ module _ (S : DataSort → Sort) (puts : PutsInto S)
         (subst (SameAt k (fill bc d)) (fill-beside_right b c d wb.holes_fit)
         (fill-left k bc (beside b c) d bcsame))
     let wcd : Shaped (S k) (fill c d) = puts h k c d wc wd
-        (right-WellFormed b (fill c d) (same-WellFormed k r (beside b (fill c d)) now w.well_formed))
+        (right-WellFormed b (fill c d) (same-WellFormed k r
+        (beside b (fill c d)) now w.well_formed))
     split k (shape k) (S k) Q (λ s. App S h k K P) r b (fill c d) wb wcd now mb
         (app S h k K P (fill c d) c d wc wd (SameAt-refl k (fill c d)) mc md)
 
@@ -178,7 +181,8 @@ module _ (S : DataSort → Sort) (puts : PutsInto S)
         (SameAt-trans k r (beside b x) (beside b (fill c d)) same
         (SameAt-beside k b x b (fill c d) (SameAt-refl k b) xsame))
     let wbc : Shaped (context h k) (beside b c) = beside_hole_right k list h b c wb wc
-        (outer-WellFormed (beside b c) d (same-WellFormed k r (fill (beside b c) d) now w.well_formed))
+        (outer-WellFormed (beside b c) d (same-WellFormed k r
+        (fill (beside b c) d) now w.well_formed))
     app S h k (λ s. Split k (shape k) (context h k) Q K) P r (beside b c) d wbc wd now
         (split k (shape k) (context h k) Q K (beside b c) b c wb wc
         (SameAt-refl k (beside b c)) mb mc) md

@@ -91,7 +91,11 @@ module _ (k : DataSort) (list : IsList k) where
       }
 
       wl : Shaped (shape k) (node s i kids l none)
-      wl = record { well_formed = wa.well_formed; width_fits = list (width a); holes_fit = wa.holes_fit }
+      wl = record {
+        well_formed = wa.well_formed;
+        width_fits = list (width a);
+        holes_fit = wa.holes_fit;
+      }
 
       wr : Shaped (shape k) r
       wr = record {

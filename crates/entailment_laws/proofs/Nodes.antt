@@ -210,7 +210,8 @@ module _ (k q : Formula) (a i l a' i' l' : Term) (s : Sort) where
       (negation (i equals i') and negation (l equals l')) s
   apart_up e pr r w m = stable (negation (i equals i') and negation (l equals l')) e s r (do
     let (name, n, kids, u, form, here) = node_alone r
-        (Says e a i l (Meets (application tree k (node_formula a' i' q l')) e (with_outer forest s))) m
+        (Says e a i l (Meets (application tree k (node_formula a' i' q l')) e
+        (with_outer forest s))) m
     second ← stands_below k q a' i' l' e (with_outer forest s) kids here.3
     let top : Trees = node name n none u none
     let first : StandsIn (meaning_of e i) (meaning_of e l) top =

@@ -99,11 +99,12 @@ module _ (names : List SideName) (rows : List Row) (fixed : FixedNames names row
         some-is : Some name ≡ Some name' → name ≡ name'
         some-is e = cc
 
-    follows-of : (name : SideName) → IsVerdict rows w (side_verdict name) → SomeLine rows (Follows w)
-    follows-of name a = some-map rows _ (Follows w) (λ line h. h.0.0) a.1
+    follows : (name : SideName) → IsVerdict rows w (side_verdict name)
+        → SomeLine rows (Follows w)
+    follows name a = some-map rows _ (Follows w) (λ line h. h.0.0) a.1
 
-    concludes-of : SomeLine rows (Follows w) → SomeLine rows (Concludes w)
-    concludes-of = some-map rows (Follows w) (Concludes w) (λ line h. h.0)
+    concludes : SomeLine rows (Follows w) → SomeLine rows (Concludes w)
+    concludes = some-map rows (Follows w) (Concludes w) (λ line h. h.0)
 
     -- ONE VERDICT
     pub one-verdict : (v v' : Verdict) → IsVerdict rows w v → IsVerdict rows w v' → v ≡ v'
@@ -111,10 +112,11 @@ module _ (names : List SideName) (rows : List Row) (fixed : FixedNames names row
     one-verdict v instance_verdict a b = instance-alone rows w v b a
     one-verdict shape_verdict shape_verdict a b = refl
     one-verdict shape_verdict premises_verdict a b = absurd (a b.0)
-    one-verdict shape_verdict (side_verdict name) a b = absurd (a (concludes-of (follows-of name b)))
+    one-verdict shape_verdict (side_verdict name) a b = absurd (a (concludes (follows name b)))
     one-verdict premises_verdict shape_verdict a b = absurd (b a.0)
     one-verdict premises_verdict premises_verdict a b = refl
-    one-verdict premises_verdict (side_verdict name) a b = absurd (a.1 (follows-of name b))
-    one-verdict (side_verdict name) shape_verdict a b = absurd (b (concludes-of (follows-of name a)))
-    one-verdict (side_verdict name) premises_verdict a b = absurd (b.1 (follows-of name a))
-    one-verdict (side_verdict name) (side_verdict name') a b = ap side_verdict (same-side name name' a b)
+    one-verdict premises_verdict (side_verdict name) a b = absurd (a.1 (follows name b))
+    one-verdict (side_verdict name) shape_verdict a b = absurd (b (concludes (follows name a)))
+    one-verdict (side_verdict name) premises_verdict a b = absurd (b.1 (follows name a))
+    one-verdict (side_verdict name) (side_verdict name') a b =
+        ap side_verdict (same-side name name' a b)

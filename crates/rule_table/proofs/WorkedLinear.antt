@@ -42,7 +42,8 @@ abbrev weighed_order : Formula
 weighed_order = at_most (sum (sum x x) y) (sum (sum z z) z)
 
 -- (x <= y and y <= z) entails {{x + x} + y} <= {{z + z} + z}
-pub two_and_three : Linear (number (pos 2) ∷ number (pos 3) ∷ []) in_order weighed_order instance_verdict
+pub two_and_three : Linear (number (pos 2) ∷ number (pos 3) ∷ []) in_order weighed_order
+    instance_verdict
 two_and_three = (found (number (pos 2) ∷ number (pos 3) ∷ []) in_order weighed_order).1
 
 -- a number below 0 at an order

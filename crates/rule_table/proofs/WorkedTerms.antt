@@ -45,7 +45,8 @@ abbrev in_a_term : Formula
 in_a_term =
     conjunction (equality (sum x (number 1)) y) (equality x (sum (sum x (number 1)) (number 1)))
 
-pub within_a_term : Says (codes "eq_subst") in_a_term (equality x (sum y (number 1))) instance_verdict
+pub within_a_term : Says (codes "eq_subst") in_a_term
+    (equality x (sum y (number 1))) instance_verdict
 within_a_term = (by_subst in_a_term (equality x (sum y (number 1)))).1
 
 -- (x = $v and (exists $w . x = $w)) entails (exists $w . $v = $w), also where the binder is called
@@ -64,7 +65,8 @@ under_a_binder = (by_subst (conjunction (equality x v) (bound_to x)) (bound_to v
 abbrev caught : Formula
 caught = bound_to (variable (bound 0 (value int_sort)))
 
-pub none_caught : Says (codes "eq_subst") (conjunction (equality x v) (bound_to x)) caught shape_verdict
+pub none_caught : Says (codes "eq_subst") (conjunction (equality x v) (bound_to x)) caught
+    shape_verdict
 none_caught = (by_subst (conjunction (equality x v) (bound_to x)) caught).1
 
 -- ($g = $h and $g) doesn't entail $h: `$g` as a formula is no term
@@ -74,7 +76,8 @@ g = variable (logic (codes "g") (shape grove))
 abbrev h : Term
 h = variable (logic (codes "h") (shape grove))
 
-pub no_term : Says (codes "eq_subst") (conjunction (equality g h) (same_as g)) (same_as h) shape_verdict
+pub no_term : Says (codes "eq_subst") (conjunction (equality g h) (same_as g))
+    (same_as h) shape_verdict
 no_term = (by_subst (conjunction (equality g h) (same_as g)) (same_as h)).1
 
 -- but ($g = $h and $g = $g) entails $g = $h

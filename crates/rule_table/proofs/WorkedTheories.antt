@@ -220,7 +220,8 @@ file_two_fails = inl (
               },
               (refl, tt, refl),
             ),
-            λ m. ⊎_elim (λ x. wrong x.0.P x.0.Q x.0.C x.0.k x.0.links (ap command_of x.1.0.2) x.1.1) (λ z. z) m,
+            λ m. ⊎_elim (λ x. wrong x.0.P x.0.Q x.0.C x.0.k x.0.links (ap command_of x.1.0.2) x.1.1)
+                (λ z. z) m,
           ),
           tt,
         ),

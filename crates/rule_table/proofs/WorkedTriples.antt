@@ -85,7 +85,8 @@ two_binder_names = (
     (refl, tt, refl),
   ),
   λ m. ⊎_elim (λ y. wrong y.0 (ap left_in y.1.0.2) (ap right_in y.1.0.2)
-      (ap (λ js. left_in (first_of js)) y.1.1) (ap (λ js. right_in (first_of js)) y.1.1)) (λ z. z) m,
+      (ap (λ js. left_in (first_of js)) y.1.1) (ap (λ js. right_in (first_of js)) y.1.1))
+      (λ z. z) m,
 )
   where
     apart : as_logic first_variable ≡ as_logic second_variable → ⊥

@@ -231,12 +231,14 @@ module _ (ps : Procedures) (bodies : BodiesSorted ps) (h d : DataSort) (not-tree
       where
         stable-goal : Stable (Ends ⊥ (Stands d c post e) (runs ps picks
             (beginning (append_child a b) st (fill c r))))
-        stable-goal = stable-ends d c post e (runs ps picks (beginning (append_child a b) st (fill c r)))
+        stable-goal = stable-ends d c post e (runs ps picks
+            (beginning (append_child a b) st (fill c r)))
 
         with_parts : (c1 : Trees) → Shaped (context h d) c1 → (u : Trees) → Shaped (shape h) u
             → SameAt d r (fill c1 u) → Meets hole_round_parent env (context h d) c1
             → Shaped (shape tree) u × Meets child env (shape tree) u
-            → Ends ⊥ (Stands d c post e) (runs ps picks (beginning (append_child a b) st (fill c r)))
+            → Ends ⊥ (Stands d c post e) (runs ps picks
+            (beginning (append_child a b) st (fill c r)))
         with_parts c1 wc1 u wu samer adj mu = stable-goal (λ n.
             adj none (nothing-Shaped h not-tree) refl emptied (λ x. x.2 (λ y.
             n (with_parent x.0 x.1 y.0 y.1 y.2.0 y.2.1 (node-met s i p l env y.0 y.2.2)))))
@@ -265,7 +267,8 @@ module _ (ps : Procedures) (bodies : BodiesSorted ps) (h d : DataSort) (not-tree
             with_parent : (c2 : Trees) → Shaped (context tree d) c2 → (n : Trees)
                 → Shaped (shape tree) n → SameAt d (fill c1 none) (fill c2 n)
                 → Meets k env (context tree d) c2 → NodeMet s i p l env n
-                → Ends ⊥ (Stands d c post e) (runs ps picks (beginning (append_child a b) st (fill c r)))
+                → Ends ⊥ (Stands d c post e) (runs ps picks
+                (beginning (append_child a b) st (fill c r)))
             with_parent c2 wc2 n wn same mk x =
                 let at : Trees = node v.name v.number v.kids v.list none in
                 let g : Trees = fill (fill c c1) at in

@@ -114,9 +114,11 @@ module _ (ps : Procedures) (bodies : BodiesSorted ps) (f : Procedure) (scoped : 
         entered =
             At-map f.sort c pre f.pre e st inside g
             (other-store st inside e a.proper (entering-proper ps f.params ts st feed old-proper))
-            (λ r wr m. meets-agrees f.pre (after (passing f.params ts itself) (with_store (lookup st) e))
+            (λ r wr m. meets-agrees f.pre (after (passing f.params ts itself)
+            (with_store (lookup st) e))
             (with_store (lookup inside) e) (shape f.sort) r (arguments-agree st e)
-            (meets-with f.pre (passing f.params ts itself) (with_store (lookup st) e) (shape f.sort) r
+            (meets-with f.pre (passing f.params ts itself) (with_store (lookup st) e)
+            (shape f.sort) r
             m)) a
 
         abbrev Ended : Store → Trees → Type 0

@@ -60,7 +60,8 @@ pub without-var : (p : Formula) (x : ProgVar) (v : Value) (st : Store) (e : Envi
     → Meets p (with_store (lookup (set x v st)) e) s r
 without-var p x v st e s r n m =
     subst (λ z. Meets p z s r) (sym (set-env x v st e))
-    (meets-agrees p (with_store (lookup st) e) (setting (as_var x) (val v) (with_store (lookup st) e)) s r
+    (meets-agrees p (with_store (lookup st) e)
+    (setting (as_var x) (val v) (with_store (lookup st) e)) s r
     (λ y free. sym (setting-agrees (as_var x) (val v) (with_store (lookup st) e) p n y free)) m)
 
 -- a condition that is true, and one that is false
@@ -119,7 +120,8 @@ module _ (th : Procedures) (bodies : BodiesSorted th) where
   chain-sound n d p (link ∷ links) h e c wc st g a =
       followed th ⊥ n (At d c link.behind e) _ (run link.command ∷ []) (pieces_of (block_of links))
       (λ st' g' a'. chain-sound n d link.behind links h.1 e c wc st' g' a') st g
-      (to_sound th bodies n p link.command link.behind d (step-sorted th link.command h.0.0) h.0.1 e c wc st g a)
+      (to_sound th bodies n p link.command link.behind d
+      (step-sorted th link.command h.0.0) h.0.1 e c wc st g a)
 
   pub seq-sound : (n : ℕ) (d : DataSort) (p : Formula) (first : Command) (q : Formula)
       (links : List Link)

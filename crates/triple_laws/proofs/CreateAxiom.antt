@@ -118,7 +118,8 @@ module _ (ps : Procedures) (N : ℕ → Type 0) (x : ProgVar) (u t : Term)
                 (proper-store st e pr)))
                 ∙ sym (meaning-value str_sort u st e so.1) ∙ mt.1
                 ∙ sym (without-term t x (node_number k.node) st e free)
-                ∙ sym (raised-meaning (with_store (lookup after-set) e) (val (list_number k.list)) t)
+                ∙ sym (raised-meaning (with_store (lookup after-set) e)
+                (val (list_number k.list)) t)
 
             number-is : val (node_number k.node)
                 ≡ meaning_of (choosing (val (list_number k.list)) (with_store (lookup after-set) e))

@@ -26,10 +26,12 @@ module _ (ps : Procedures) (bodies : BodiesSorted ps) (n : ℕ) where
   consequence-sound p p' q q' cmd d x y s e c wc st g a =
       Well-map ps ⊥ n (At d c q' e) (At d c q e) (run cmd ∷ []) st g
       (λ st' g' a'.
-      At-map d c q' q e st' st' g' a'.proper (λ r wr m. y (with_store (lookup st') e) a'.proper r wr m)
+      At-map d c q' q e st' st' g' a'.proper (λ r wr m. y
+      (with_store (lookup st') e) a'.proper r wr m)
       a')
       (s e c wc st g
-      (At-map d c p p' e st st g a.proper (λ r wr m. x (with_store (lookup st) e) a.proper r wr m) a))
+      (At-map d c p p' e st st g a.proper (λ r wr m. x (with_store (lookup st) e) a.proper r wr m)
+      a))
 
   pub disjunction-sound : (p p' q : Formula) (cmd : Command) (d : DataSort)
       → Sound ps bodies n p cmd q d → Sound ps bodies n p' cmd q d
@@ -73,7 +75,8 @@ module _ (ps : Procedures) (bodies : BodiesSorted ps) (n : ℕ) where
                 z.1,
                 (
                   SameAt-eq d (fill c1 z.0) (fill c1 z.0) refl,
-                  meets-agrees k (with_store (lookup st) e) (with_store (lookup st') e) (context h d) c1
+                  meets-agrees k (with_store (lookup st) e) (with_store (lookup st') e)
+                      (context h d) c1
                       (kept-agrees cmd st st' e y.1 (λ v. FreeIn v k) free) mk,
                   z.2.1,
                 ),

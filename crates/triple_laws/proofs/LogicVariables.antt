@@ -53,7 +53,8 @@ module _ (n : List ℕ) (u : Sort) (v : Thing) (st : Store) (e : Environment) wh
       → Meets q (setting (logic n u) v (with_store (lookup st) e)) (shape d) b
       → At d c q (setting (logic n u) v e) st g
   at-logic d c p q g a fits b wb same m = record {
-    proper = subst Proper setting-joint (setting-proper n u v (with_store (lookup st) e) fits a.proper);
+    proper = subst Proper setting-joint (setting-proper n u v
+        (with_store (lookup st) e) fits a.proper);
     whole = a.whole;
     stands = λ k. k (b, wb, (same, subst (λ z. Meets q z (shape d) b) setting-joint m));
   }
@@ -99,7 +100,8 @@ module _ (ps : Procedures) (bodies : BodiesSorted ps) (m : ℕ) (n : List ℕ) (
               v,
               fits,
               with-meets-back q (closing x) (choosing v (with_store (lookup st') e)) (shape d) r
-                  (subst (λ z. Meets q z (shape d) r) (sym (closing-env x v (with_store (lookup st') e)))
+                  (subst (λ z. Meets q z (shape d) r)
+                  (sym (closing-env x v (with_store (lookup st') e)))
                   mr),
             )))
             (s (setting x v e) c wc st g
@@ -137,7 +139,8 @@ module _ (ps : Procedures) (bodies : BodiesSorted ps) (m : ℕ) (n : List ℕ) (
                 × Kept cmd st st'
                 → At d c q' e st' g'
             ends-so st' g' y =
-                back-logic n u (meaning_of (with_store (lookup st) e) t) e st st' d c q q' g' a.proper
+                back-logic n u (meaning_of (with_store (lookup st) e) t) e st st' d c q q' g'
+                a.proper
                 (λ r mr. with-meets-back q (replacing x t) (with_store (lookup st') e) (shape d) r
                 (subst (λ z. Meets q z (shape d) r) (as-before st' y.1) mr)) y.0
 
@@ -149,7 +152,8 @@ module _ (ps : Procedures) (bodies : BodiesSorted ps) (m : ℕ) (n : List ℕ) (
                 (λ st' g'. At d c q (setting x (meaning_of (with_store (lookup st) e) t) e) st' g'
                 × Kept cmd st st')
                 (At d c q' e) (run cmd ∷ []) st g ends-so
-                (with-kept ps m (At d c q (setting x (meaning_of (with_store (lookup st) e) t) e)) cmd st
+                (with-kept ps m (At d c q (setting x (meaning_of (with_store (lookup st) e) t) e))
+                cmd st
                 g
                 (s (setting x (meaning_of (with_store (lookup st) e) t) e) c wc st g
                 (at-logic n u (meaning_of (with_store (lookup st) e) t) st e d c p' p g a

@@ -108,7 +108,14 @@ emptied-WellFormed c u o w =
 pub one-inside : (h d k : DataSort) (c c1 : Trees) → Shaped (context d k) c
     → Shaped (context h d) c1 → holes (fill c c1) ≡ 1
 one-inside h d k c c1 wc wc1 =
-    omega (arith, holes-fill c c1, wc.holes_fit.one, wc1.holes_fit.one, ap (λ z. z * holes c1) wc.holes_fit.one)
+    omega (
+      arith,
+      holes-fill c c1,
+      wc.holes_fit.one,
+      wc1.holes_fit.one,
+      ap
+          (λ z. z * holes c1) wc.holes_fit.one,
+    )
 
 -- WHAT MEETS A SPLIT
 pub split_at : (side : Side) (s : Sort) (r : Trees) (P Q : Sort → Trees → Type 0) (a b : Trees)

@@ -22,7 +22,8 @@ use Rattle.triple_laws.proofs.Passing.{meaning-agrees}
 -- the value of a term that stands for what another term stands for
 pub valued : (s : ValueSort) (t u : Term) (v : Value) (st : Store) (e : Environment)
     → Computes s t → val v ≡ meaning_of (with_store (lookup st) e) u
-    → meaning_of (with_store (lookup st) e) t ≡ meaning_of (with_store (lookup st) e) u → value_of st t ≡ v
+    → meaning_of (with_store (lookup st) e) t ≡ meaning_of (with_store (lookup st) e) u
+    → value_of st t ≡ v
 valued s t u v st e c a b =
     val-is (value_of st t) v (sym (meaning-value s t st e c) ∙ b ∙ sym a)
 
@@ -32,7 +33,8 @@ pub without-term : (t : Term) (x : ProgVar) (v : Value) (st : Store) (e : Enviro
     → meaning_of (with_store (lookup (set x v st)) e) t ≡ meaning_of (with_store (lookup st) e) t
 without-term t x v st e n =
     ap (λ z. meaning_of z t) (set-env x v st e)
-    ∙ meaning-agrees t (setting (as_var x) (val v) (with_store (lookup st) e)) (with_store (lookup st) e)
+    ∙ meaning-agrees t (setting (as_var x) (val v) (with_store (lookup st) e))
+    (with_store (lookup st) e)
     (setting-agrees (as_var x) (val v) (with_store (lookup st) e) (length_is t) n)
 
 -- the formula of a node with a child between others

@@ -318,7 +318,8 @@ module _ (ps : Procedures) (N : ℕ → Type 0) where
                   ap (λ v. node_at v (fill c d))
                   (valued node_sort u j (node_number z.number) st e so.1 z.number_is h.1)
                   ∙ ap (λ v. nodes_where (numbered z.number) (fill c v)) is
-                  ∙ child-found c wc.holes_fit.one y.name y.number y.left y.right y.list z.name z.number
+                  ∙ child-found c wc.holes_fit.one y.name y.number y.left y.right y.list z.name
+                  z.number
                   z.kids z.list y.left_shaped.holes_fit y.right_shaped.holes_fit formed'
 
               parent-is : first_number (nodes_where (parental z.number) (fill c d))
@@ -327,7 +328,8 @@ module _ (ps : Procedures) (N : ℕ → Type 0) where
                   ap (λ v. first_number (nodes_where (parental z.number) (fill c v))) is
                   ∙ ap first_number (parent-found c wc.holes_fit.one y.name y.number y.left y.right
                   y.list
-                  z.name z.number z.kids z.list y.left_shaped.holes_fit y.right_shaped.holes_fit formed')
+                  z.name z.number z.kids z.list y.left_shaped.holes_fit y.right_shaped.holes_fit
+                  formed')
 
   module _ (x : ProgVar) (u f g s i : Term) (p : Formula) (t j : Term) (q : Formula) (m : Term)
       (r : Formula) (l : Term)
@@ -343,7 +345,8 @@ module _ (ps : Procedures) (N : ℕ → Type 0) where
       item-sound so e st pr d wd h c wc w picks long =
           parent-met _ (stable-ends tree c (conjunction counted_family
           (equality (variable (as_var x)) j)) e _)
-          s i (conjunction p (length_is g)) t j q m r l (with_store (lookup st) e) d h.0.0 with_child
+          s i (conjunction p (length_is g)) t j q m r l
+          (with_store (lookup st) e) d h.0.0 with_child
         where
           env' : Environment
           env' = with_store (lookup st) e

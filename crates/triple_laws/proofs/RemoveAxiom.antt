@@ -222,7 +222,13 @@ module _ (ps : Procedures) (bodies : BodiesSorted ps) (k : Formula) (a b s i : T
               record {
                 well_formed = both-formed;
                 width_fits = tt;
-                holes_fit = omega (arith, holes-beside (fill c1 less) out, part-Shaped.holes_fit, wu.holes_fit);
+                holes_fit = omega (
+                  arith,
+                  holes-beside
+                      (fill c1 less) out,
+                  part-Shaped.holes_fit,
+                  wu.holes_fit,
+                );
               },
               (end-same, both-meet),
             )
@@ -241,19 +247,22 @@ module _ (ps : Procedures) (bodies : BodiesSorted ps) (k : Formula) (a b s i : T
         (equality a i)) (equality b j)) env (shape grove) d
         → (c : Trees) → Shaped (context grove grove) c → Shaped (shape grove) (fill c d)
         → (picks : List Pick)
-        → Ends ⊥ (Stands grove c post e) (runs ps picks (beginning (remove_child a b) st (fill c d)))
+        → Ends ⊥ (Stands grove c post e) (runs ps picks
+        (beginning (remove_child a b) st (fill c d)))
     remove-sound d wd mt c wc w picks = stable-goal (λ n. mt.0.0 (λ x. x.2 (λ y.
         n (with_parent x.0 x.1 y.0 y.1 y.2.0 y.2.1
         (parent-met _ stable-goal s i p t j q m r l env y.0 y.2.2)))))
       where
         stable-goal : Stable (Ends ⊥ (Stands grove c post e)
             (runs ps picks (beginning (remove_child a b) st (fill c d))))
-        stable-goal = stable-ends grove c post e (runs ps picks (beginning (remove_child a b) st (fill c d)))
+        stable-goal = stable-ends grove c post e
+            (runs ps picks (beginning (remove_child a b) st (fill c d)))
 
         with_child : (c1 : Trees) → Shaped (context tree grove) c1 → (n : Trees)
             → Shaped (shape tree) n → SameAt grove d (fill c1 n)
             → Meets k env (context tree grove) c1 → ParentMet s i p t j q m r l env n
-            → Ends ⊥ (Stands grove c post e) (runs ps picks (beginning (remove_child a b) st (fill c d)))
+            → Ends ⊥ (Stands grove c post e) (runs ps picks
+            (beginning (remove_child a b) st (fill c d)))
         with_child c1 wc1 n wn same mk y =
             on-same ps bodies grove c post e (remove_child a b) st (fill c d) start' picks fits
             (proper-store st e pr) whole-there (SameAt-sym grove (fill c d) start' same-there)
@@ -294,7 +303,10 @@ module _ (ps : Procedures) (bodies : BodiesSorted ps) (k : Formula) (a b s i : T
             → Shaped (shape tree) n → SameAt grove d (fill c1 n)
             → Meets k env (context tree grove) c1
             → ((ParentMet s i p t j q m r l env n
-            → Ends ⊥ (Stands grove c post e) (runs ps picks (beginning (remove_child a b) st (fill c d))))
-            → Ends ⊥ (Stands grove c post e) (runs ps picks (beginning (remove_child a b) st (fill c d))))
-            → Ends ⊥ (Stands grove c post e) (runs ps picks (beginning (remove_child a b) st (fill c d)))
+            → Ends ⊥ (Stands grove c post e) (runs ps picks
+            (beginning (remove_child a b) st (fill c d))))
+            → Ends ⊥ (Stands grove c post e) (runs ps picks
+            (beginning (remove_child a b) st (fill c d))))
+            → Ends ⊥ (Stands grove c post e) (runs ps picks
+            (beginning (remove_child a b) st (fill c d)))
         with_parent c1 wc1 n wn same mk met = met (λ y. with_child c1 wc1 n wn same mk y)

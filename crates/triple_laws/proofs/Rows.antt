@@ -33,7 +33,8 @@ Scoped ps = (name : List ℕ) (f : Procedure) → procedure_named name ps ≡ So
 
 module _ (ps : Procedures) (bodies : BodiesSorted ps) (n : ℕ) where
   -- a premise, from the start of its runs
-  begin : (p : Formula) (c : Command) (q : Formula) (d : DataSort) → Proved (in_steps ps n) (triple p c q d)
+  begin : (p : Formula) (c : Command) (q : Formula) (d : DataSort) → Proved (in_steps ps n)
+      (triple p c q d)
       → Sound ps bodies n p c q d
   begin p c q d h = to_sound ps bodies n p c q d (step-sorted ps c h.0) h.1
 
@@ -47,7 +48,8 @@ module _ (ps : Procedures) (bodies : BodiesSorted ps) (n : ℕ) where
 
   assigns : SoundRow (in_steps ps n) Tr.assign_rule
   assigns l so w c h =
-      from_sound ps bodies n _ _ l.Q l.k (Co.assign-sound ps bodies n l.Q l.v l.E l.k (parts (assign l.v l.E) so))
+      from_sound ps bodies n _ _ l.Q l.k (Co.assign-sound ps bodies n l.Q l.v l.E l.k
+      (parts (assign l.v l.E) so))
 
   seq : SoundRow (in_steps ps n) Tr.seq_rule
   seq l so w c h =
@@ -56,13 +58,15 @@ module _ (ps : Procedures) (bodies : BodiesSorted ps) (n : ℕ) where
   if : SoundRow (in_steps ps n) Tr.if_rule
   if l so w c h =
       from_sound ps bodies n l.P _ l.Q l.k
-      (Co.if-sound ps bodies n l.P l.c l.b l.b' l.Q l.k (parts (if_else l.c l.b l.b') so).0 (begin _ _ l.Q l.k h.0)
+      (Co.if-sound ps bodies n l.P l.c l.b l.b' l.Q l.k (parts (if_else l.c l.b l.b') so).0
+      (begin _ _ l.Q l.k h.0)
       (begin _ _ l.Q l.k h.1.0))
 
   while : SoundRow (in_steps ps n) Tr.while_rule
   while l so w c h =
       from_sound ps bodies n l.P _ _ l.k
-      (Co.while-sound ps bodies l.P l.c l.b l.k (parts (while_do l.c l.b) so).0 n (begin _ _ l.P l.k h.0))
+      (Co.while-sound ps bodies l.P l.c l.b l.k (parts (while_do l.c l.b) so).0 n
+      (begin _ _ l.P l.k h.0))
 
   locals : SoundRow (in_steps ps n) Tr.local_rule
   locals l so w c h =
@@ -147,19 +151,22 @@ module _ (ps : Procedures) (bodies : BodiesSorted ps) (n : ℕ) where
 
   append_in_forest : SoundRow (in_steps ps n) Ax.append_in_forest
   append_in_forest l so w c h e st pr r wr mt around wc wf picks long =
-      Ap.append-sound ps bodies forest l.k (λ q. cc) l.K l.E l.F l.S l.I l.P l.L l.T l.J l.Q l.M (step-sorted ps (append_child l.E l.F) so)
+      Ap.append-sound ps bodies forest l.k (λ q. cc) l.K l.E l.F l.S l.I l.P l.L l.T l.J l.Q l.M
+      (step-sorted ps (append_child l.E l.F) so)
       e
       st pr r wr mt around wc wf picks
 
   append_in_grove : SoundRow (in_steps ps n) Ax.append_in_grove
   append_in_grove l so w c h e st pr r wr mt around wc wf picks long =
-      Ap.append-sound ps bodies grove grove (λ q. cc) l.K l.E l.F l.S l.I l.P l.L l.T l.J l.Q l.M (step-sorted ps (append_child l.E l.F) so)
+      Ap.append-sound ps bodies grove grove (λ q. cc) l.K l.E l.F l.S l.I l.P l.L l.T l.J l.Q l.M
+      (step-sorted ps (append_child l.E l.F) so)
       e
       st pr r wr mt around wc wf picks
 
   remove : SoundRow (in_steps ps n) Ax.remove_axiom
   remove l so w c h e st pr r wr mt around wc wf picks long =
-      Rm.remove-sound ps bodies l.K l.E l.F l.S l.I l.P l.T l.J l.Q l.M l.R l.L (step-sorted ps (remove_child l.E l.F) so) e st pr r wr mt
+      Rm.remove-sound ps bodies l.K l.E l.F l.S l.I l.P l.T l.J l.Q l.M l.R l.L
+      (step-sorted ps (remove_child l.E l.F) so) e st pr r wr mt
       around wc wf picks
 
   -- EACH AXIOM, AND EACH RULE

@@ -28,7 +28,8 @@ any-length : (ps : Procedures) → BodiesSorted ps → (j : Judgement) → Fitti
     → ((n : ℕ) → JudgementHolds (in_steps ps n) j) → JudgementHolds (locally ps) j
 any-length ps bodies (entails p q s) fit h = h 0
 any-length ps bodies (triple p c q d) fit h =
-    classical-plain ps p c q d bodies (step-sorted ps c fit) (λ e st pr r wr m around wa wf picks long.
+    classical-plain ps p c q d bodies (step-sorted ps c fit)
+    (λ e st pr r wr m around wa wf picks long.
     h (length picks) e st pr r wr m around wa wf picks (omega arith))
 
 -- the steps of a proof fit, for whatever number of steps
