@@ -1,23 +1,28 @@
 -- A theory is accepted or has one first bad place, given a verdict on each step.
-use Rattle.std.proofs.Common.{◌≡◌, ◌⊎◌, ◌∙◌, refl, sym, ap, ℕ, ◌+◌, List, [], ◌∷◌, ◌++◌, subst, inl, inr, ⊎_elim}
+use Rattle.std.proofs.Common.{◌≡◌, ◌⊎◌, ◌∙◌, refl, sym, ap, ℕ, ◌+◌, List, [], ◌∷◌, ◌++◌, inl, inr, ⊎_elim}
+use Rattle.model_shapes.specs.Values.{Name}
 use Rattle.model_terms.specs.Terms.{Term}
 use Rattle.model_commands.specs.Theories.{Judgement, Reason, auto, by_rule, Step, Procedure, Procedures, Theory, procedures_of}
 use Rattle.rule_table.specs.Verdicts.{Verdict, instance_verdict, shape_verdict, premises_verdict, side_verdict, readings_in}
 use Rattle.rule_table.specs.Table.{table}
-use Rattle.rule_table.specs.Accepted.{written_at, InstanceBy, VerdictBy, AllInstances, EndsWell, IsProved, Each, IsAccepted, Fault, gap, fails, no_proof, BadPlace, Refuses, IsBadBy, FirstBadStep, FirstBadOf, IsFirstBad}
+use Rattle.rule_table.specs.Accepted.{written_at, InstanceBy, VerdictBy, AllInstances, EndsWell, IsProved, Each, IsAccepted, Fault, gap, fails, no_proof, BadPlace, IsBadBy, FirstBadStep, FirstBadOf, IsFirstBad}
 use Rattle.rule_table.proofs.VerdictLaws.{instance-alone}
 use Rattle.rule_table.proofs.OneVerdict.{one-verdict-of}
+
+-- a step that names a rule is no gap
+no-gap : (name : Name) (ns : List ℕ) (arguments : List Term)
+    → by_rule name ns arguments ≡ auto → ⊥
+no-gap name ns arguments e = cc
 
 module _ (ps : Procedures) where
   -- a step isn't both an instance and bad
   not-both : (reason : Reason) (earlier : List Step) (j : Judgement) (fault : Fault)
       → InstanceBy ps reason earlier j → IsBadBy ps reason earlier j fault → ⊥
   not-both auto earlier j fault i b = i
-  not-both (by_rule name ns arguments) earlier j gap i b = b
+  not-both (by_rule name ns arguments) earlier j gap i b = no-gap name ns arguments b
   not-both (by_rule name ns arguments) earlier j no_proof i b = b
   not-both (by_rule name ns arguments) earlier j (fails v) i b =
-      subst Refuses
-      (instance-alone (readings_in (table ps) name) (written_at earlier ns arguments j) v i b.0) b.1
+      b.1 (instance-alone (readings_in (table ps) name) (written_at earlier ns arguments j) v i b.0)
 
   -- NONE WHERE IT IS ACCEPTED
   no-bad-step : (f : Procedure) (earlier steps : List Step) (place bad : ℕ) (fault : Fault)
@@ -38,17 +43,17 @@ module _ (ps : Procedures) where
   -- ONE AT MOST
   one-fault : (reason : Reason) (earlier : List Step) (j : Judgement) (a b : Fault)
       → IsBadBy ps reason earlier j a → IsBadBy ps reason earlier j b → a ≡ b
-  one-fault auto earlier j gap gap x y = refl
-  one-fault auto earlier j gap (fails v) x y = absurd y
-  one-fault auto earlier j gap no_proof x y = absurd y
-  one-fault auto earlier j (fails v) b x y = absurd x
-  one-fault auto earlier j no_proof b x y = absurd x
-  one-fault (by_rule name ns arguments) earlier j gap b x y = absurd x
-  one-fault (by_rule name ns arguments) earlier j no_proof b x y = absurd x
-  one-fault (by_rule name ns arguments) earlier j (fails v) gap x y = absurd y
-  one-fault (by_rule name ns arguments) earlier j (fails v) no_proof x y = absurd y
+  one-fault reason earlier j gap gap x y = refl
+  one-fault auto earlier j gap (fails v) x y = absurd y.0
+  one-fault auto earlier j (fails v) b x y = absurd x.0
+  one-fault (by_rule name ns arguments) earlier j gap (fails v) x y =
+      absurd (no-gap name ns arguments x)
+  one-fault (by_rule name ns arguments) earlier j (fails v) gap x y =
+      absurd (no-gap name ns arguments y)
   one-fault (by_rule name ns arguments) earlier j (fails v) (fails w) x y =
       ap fails (one-verdict-of ps name (written_at earlier ns arguments j) v w x.0 y.0)
+  one-fault reason earlier j a no_proof x y = absurd y
+  one-fault reason earlier j no_proof b x y = absurd x
 
   abbrev Alike : ℕ → Fault → ℕ → Fault → Type 0
   Alike m a n b = (m ≡ n) × (a ≡ b)
@@ -92,16 +97,16 @@ module _ (ps : Procedures) where
     where
       judged : (reason : Reason) (earlier : List Step) (j : Judgement)
           → InstanceBy ps reason earlier j ⊎ ((fault : Fault) × IsBadBy ps reason earlier j fault)
-      judged auto earlier j = inr (gap, tt)
+      judged auto earlier j = inr (gap, refl)
       judged (by_rule name ns arguments) earlier j = by_verdict (judge name ns arguments earlier j)
         where
           by_verdict : (v : Verdict) × VerdictBy ps (by_rule name ns arguments) earlier j v
               → InstanceBy ps (by_rule name ns arguments) earlier j
               ⊎ ((fault : Fault) × IsBadBy ps (by_rule name ns arguments) earlier j fault)
           by_verdict (instance_verdict, m) = inl m
-          by_verdict (shape_verdict, m) = inr (fails shape_verdict, (m, tt))
-          by_verdict (premises_verdict, m) = inr (fails premises_verdict, (m, tt))
-          by_verdict (side_verdict name, m) = inr (fails (side_verdict name), (m, tt))
+          by_verdict (shape_verdict, m) = inr (fails shape_verdict, (m, λ e. cc))
+          by_verdict (premises_verdict, m) = inr (fails premises_verdict, (m, λ e. cc))
+          by_verdict (side_verdict name, m) = inr (fails (side_verdict name), (m, λ e. cc))
 
       abbrev BadStep : Procedure → List Step → List Step → ℕ → Type 0
       BadStep f earlier steps place = (bad : ℕ) × (fault : Fault)

@@ -147,7 +147,7 @@ file_inc_fails = inl (
     (
       (λ m. ⊎_elim (λ x. wrong x.0 (ap command_of x.1.2)
           (ap right_in x.1.2) (ap left_in x.1.2)) (λ z. z) m),
-      tt,
+      (λ e. cc),
     ),
   ),
 )
@@ -223,7 +223,7 @@ file_two_fails = inl (
             λ m. ⊎_elim (λ x. wrong x.0.P x.0.Q x.0.C x.0.k x.0.links (ap command_of x.1.0.2) x.1.1)
                 (λ z. z) m,
           ),
-          tt,
+          (λ e. cc),
         ),
       ),
     ),
@@ -260,7 +260,7 @@ file_same_has_a_gap = inl (
   refl,
   inr (
     inl (record plain_letters { P = empty grove; k = grove }, (((refl, tt, refl), refl), tt)),
-    inl (refl, tt),
+    inl (refl, refl),
   ),
 )
 

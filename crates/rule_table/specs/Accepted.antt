@@ -1,5 +1,5 @@
 -- Instances over the earlier steps of a proof, accepted theories, and the first bad place.
-use Rattle.std.specs.Prelude.{◌≡◌, ◌⊎◌, ℕ, ◌+◌, ◌==◌, cond, List, [], ◌∷◌, ◌++◌, Option, Some, None}
+use Rattle.std.specs.Prelude.{◌≡◌, ◌≢◌, ◌⊎◌, ℕ, ◌+◌, ◌==◌, cond, List, [], ◌∷◌, ◌++◌, Option, Some, None}
 use Rattle.model_terms.specs.Terms.{Term}
 use Rattle.model_commands.specs.Theories.{Judgement, Reason, auto, by_rule, Step, Procedure, Procedures, Theory, procedures_of, own_triple}
 use Rattle.rule_table.specs.Table.{table}
@@ -91,19 +91,13 @@ pub record BadPlace : Type 0 where
   pub step : ℕ
   pub fault : Fault
 
--- a verdict that isn't instance
-abbrev pub Refuses : Verdict → Type 0
-Refuses instance_verdict = ⊥
-Refuses verdict = Unit {0}
-
 module _ (procedures : Procedures) where
   -- why a step with this reason is bad
   abbrev pub IsBadBy : Reason → List Step → Judgement → Fault → Type 0
-  IsBadBy auto earlier judgement gap = Unit
-  IsBadBy auto earlier judgement fault = ⊥
+  IsBadBy reason earlier judgement gap = reason ≡ auto
   IsBadBy reason earlier judgement (fails verdict) =
-      VerdictBy procedures reason earlier judgement verdict × Refuses verdict
-  IsBadBy reason earlier judgement fault = ⊥
+      VerdictBy procedures reason earlier judgement verdict × (verdict ≢ instance_verdict)
+  IsBadBy reason earlier judgement no_proof = ⊥
 
   -- the first bad place of a proof from this place on, behind these earlier steps: the step
   -- here, or one behind it where that is an instance; and else the end
