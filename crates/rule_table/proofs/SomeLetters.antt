@@ -1,9 +1,9 @@
 -- What proofs about verdicts begin with: a choice of the letters, the parts of an entailment, and
 -- the rows of a rule of entailment.
-use Rattle.std.proofs.Common.{Bool, true, false, pos, List, [], None, codes}
+use Rattle.std.proofs.Common.{Bool, true, false, pos, List, [], Some, None, codes}
 use Rattle.model_shapes.specs.Values.{Name, null}
 use Rattle.model_shapes.specs.Sorts.{Sort, value, shape, tree, grove, node_sort}
-use Rattle.model_terms.specs.Terms.{literal}
+use Rattle.model_terms.specs.Terms.{Term, literal}
 use Rattle.model_formulas.specs.Formulas.{Formula, truth}
 use Rattle.model_terms.specs.Stores.{named}
 use Rattle.model_commands.specs.Commands.{skip, stop}
@@ -13,7 +13,7 @@ use Rattle.rule_table.specs.Linear.{order}
 use Rattle.rule_table.specs.Letters.{Letters}
 use Rattle.rule_table.specs.Entries.{Row}
 use Rattle.rule_table.specs.Table.{entailments}
-use Rattle.rule_table.specs.Verdicts.{readings_in}
+use Rattle.rule_table.specs.Verdicts.{Written, readings_in}
 
 -- true for each formula, null for each term
 abbrev pub plain_letters : Letters
@@ -89,3 +89,7 @@ abbrev pub ◌&◌ : {A B : Type 0} → A → B → A × B
 a & b = (a, b)
 
 infixr 10 ◌&◌
+-- a step with these arguments, these premises and this conclusion
+abbrev pub a_step : List Term → List Judgement → Judgement → Written
+a_step arguments premises conclusion =
+    record { arguments = arguments; premises = Some premises; conclusion = conclusion }

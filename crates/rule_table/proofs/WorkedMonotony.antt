@@ -1,26 +1,22 @@
 -- Worked verdicts of the rows of monotony, at shapes and at contexts.
-use Rattle.std.proofs.Common.{◌≡◌, refl, ⊎_elim, inl, List, [], ◌∷◌, Option, Some, None, codes}
+use Rattle.std.proofs.Common.{◌≡◌, refl, ⊎_elim, inl, [], ◌∷◌, Option, Some, None, codes}
 use Rattle.model_shapes.specs.Sorts.{DataSort, shape, context, tree, forest}
 use Rattle.model_formulas.specs.Formulas.{truth, bare_hole, empty, one_tree, application}
-use Rattle.model_commands.specs.Theories.{Judgement, entails}
+use Rattle.model_commands.specs.Theories.{entails}
 use Rattle.rule_table.specs.Letters.{Letters, sort_at}
-use Rattle.rule_table.specs.Verdicts.{Written, IsVerdict, instance_verdict, premises_verdict}
-use Rattle.rule_table.proofs.SomeLetters.{readings_of, plain_letters}
-
--- a step that cites these
-abbrev citing : List Judgement → Judgement → Written
-citing js j = record { arguments = []; premises = Some js; conclusion = j }
+use Rattle.rule_table.specs.Verdicts.{IsVerdict, instance_verdict, premises_verdict}
+use Rattle.rule_table.proofs.SomeLetters.{a_step, readings_of, plain_letters}
 
 -- <true> entails <true> at f, from true entails true at t
 pub tree_at_a_shape : IsVerdict (readings_of (codes "mono_tree"))
-    (citing (entails truth truth (shape tree) ∷ [])
+    (a_step [] (entails truth truth (shape tree) ∷ [])
     (entails (one_tree truth) (one_tree truth) (shape forest)))
     instance_verdict
 tree_at_a_shape = inl (record plain_letters { o = None }, (((refl, tt, refl), refl), tt))
 
 -- <?t> entails <true> at tf, from ?t entails true at tt
 pub tree_at_a_context : IsVerdict (readings_of (codes "mono_tree"))
-    (citing (entails (bare_hole tree) truth (context tree tree) ∷ [])
+    (a_step [] (entails (bare_hole tree) truth (context tree tree) ∷ [])
     (entails (one_tree (bare_hole tree)) (one_tree truth) (context tree forest)))
     instance_verdict
 tree_at_a_context = inl (
@@ -30,7 +26,7 @@ tree_at_a_context = inl (
 
 -- but not from ?t entails true at t
 pub tree_from_a_shape : IsVerdict (readings_of (codes "mono_tree"))
-    (citing (entails (bare_hole tree) truth (shape tree) ∷ [])
+    (a_step [] (entails (bare_hole tree) truth (shape tree) ∷ [])
     (entails (one_tree (bare_hole tree)) (one_tree truth) (context tree forest)))
     premises_verdict
 tree_from_a_shape = (
@@ -55,7 +51,7 @@ tree_from_a_shape = (
 
 -- (?f @f 0f) entails (true @f true) at f
 pub application_at_a_shape : IsVerdict (readings_of (codes "mono_app"))
-    (citing
+    (a_step []
     (entails (bare_hole forest) truth (context forest forest) ∷ entails (empty forest) truth
     (shape forest) ∷ [])
     (entails (application forest (bare_hole forest) (empty forest)) (application forest truth truth)
@@ -76,7 +72,7 @@ application_at_a_shape = inl (
 
 -- (?f @f <?t>) entails (true @f true) at tf
 pub application_at_a_context : IsVerdict (readings_of (codes "mono_app"))
-    (citing
+    (a_step []
     (entails (bare_hole forest) truth (context forest forest)
     ∷ entails (one_tree (bare_hole tree)) truth (context tree forest) ∷ [])
     (entails (application forest (bare_hole forest) (one_tree (bare_hole tree)))

@@ -1,20 +1,21 @@
 -- Worked verdicts on triples.
 use Rattle.std.proofs.Common.{◌≡◌, ℕ, List, [], ◌∷◌, Option, Some, refl, ap, sym, ◌∙◌, subst, inl, inr, ⊎_elim, codes, pos}
-use Rattle.model_shapes.specs.Sorts.{value, shape, tree, grove, node_sort, int_sort}
+use Rattle.model_shapes.specs.Sorts.{value, shape, DataSort, tree, forest, grove, node_sort, list_sort, int_sort, str_sort}
 use Rattle.model_shapes.specs.Values.{null, nolist, int, str}
 use Rattle.model_shapes.proofs.Truth.{false≢true}
 use Rattle.model_terms.specs.VariableTests.{same_var}
 use Rattle.model_terms.specs.Terms.{Term, literal, InTerm}
 use Rattle.model_terms.specs.VariableTests.{var_eq}
-use Rattle.model_formulas.specs.Substitution.{FreeIn, closing_at}
-use Rattle.model_formulas.specs.Formulas.{Formula, whole, truth, falsity, conjunction, negation, equality, existential, application, empty, bare_hole, node_formula, one_tree, one_root, concatenation, grove_sum}
+use Rattle.model_formulas.specs.Substitution.{FreeIn, closing_at, formula_with}
+use Rattle.model_formulas.specs.Formulas.{Formula, whole, truth, falsity, conjunction, negation, equality, at_most, existential, hole_adjoint, same_as, application, empty, bare_hole, node_formula, one_tree, one_root, concatenation, grove_sum}
 use Rattle.model_terms.specs.Stores.{ProgVar, named, as_var}
-use Rattle.model_commands.specs.Commands.{Command, Modifies, skip, assign, parent_node, remove_child}
-use Rattle.model_commands.specs.Theories.{Judgement, entails, triple}
-use Rattle.rule_table.specs.Letters.{Letters, LogicVar, as_logic, as_term}
+use Rattle.model_commands.specs.Commands.{Command, Modifies, skip, assign, call, node_name, parent_node, append_child, remove_child}
+use Rattle.model_commands.specs.Theories.{Judgement, entails, triple, Procedure, procedure_named}
+use Rattle.rule_table.specs.Letters.{Letters, LogicVar, as_logic, as_term, one_node, other_node}
 use Rattle.rule_table.specs.Notation.{hoare, for_some, prog_term}
+use Rattle.rule_table.specs.Rules.{passing, itself}
 use Rattle.rule_table.specs.Table.{triples}
-use Rattle.rule_table.specs.Verdicts.{IsVerdict, Verdict, shape_verdict, premises_verdict, side_verdict, readings_in}
+use Rattle.rule_table.specs.Verdicts.{IsVerdict, Verdict, instance_verdict, shape_verdict, premises_verdict, side_verdict, readings_in}
 use Rattle.rule_table.specs.Conditions.{modified_side, assigned_side}
 use Rattle.rule_table.proofs.SomeLetters.{plain_letters, left_in, right_in}
 
@@ -111,12 +112,114 @@ two_binder_names = (
         (subst (λ z. for_some l.x z ≡ some_is_null) b q) in
         apart (x ∙ sym y)
 
+-- eliminate where the binder of the requires is another letter than that of the ensures: the cited
+-- triple would have to have both
+abbrev $x : LogicVar
+$x = record { name = codes "x"; sort = value int_sort }
+
+abbrev $y : LogicVar
+$y = record { name = codes "y"; sort = value int_sort }
+
+abbrev equals_itself : LogicVar → Formula
+equals_itself z = equality (as_term z) (as_term z)
+
+abbrev bound_itself : Formula
+bound_itself = for_some $y (equals_itself $y)
+
+-- `$y = $y` below a binder of the variable, by whether that is $y
+abbrev closed : (x : LogicVar) → Dec (as_logic $y ≡ as_logic x) → Formula
+closed x d = existential x.sort
+    (equality (closing_at {x = as_logic x} d) (closing_at {x = as_logic x} d))
+
+pub one_letter_for_both : Verdict_is (codes "eliminate") []
+    (hoare (equals_itself $y) skip (equals_itself $y) grove ∷ [])
+    (hoare (for_some $x (equals_itself $y)) skip bound_itself grove) premises_verdict
+one_letter_for_both = (
+  inl (
+    record plain_letters { P = equals_itself $y; Q = equals_itself $x; x = $x },
+    (refl, tt, refl),
+  ),
+  λ m. ⊎_elim (λ y. wrong y.0 (ap left_in y.1.0.2) (ap right_in y.1.0.2)
+      (ap (λ js. left_in (first_of js)) y.1.1) (ap (λ js. right_in (first_of js)) y.1.1))
+      (λ z. z) m,
+)
+  where
+    wrong : (l : Letters) → for_some l.x l.P ≡ for_some $x (equals_itself $y)
+        → for_some l.x l.Q ≡ bound_itself → l.P ≡ equals_itself $y → l.Q ≡ equals_itself $y → ⊥
+    wrong l p q a b = by_name (var_eq (as_logic $y) (as_logic l.x))
+        (subst (λ z. for_some l.x z ≡ for_some $x (equals_itself $y)) a p)
+        (subst (λ z. for_some l.x z ≡ bound_itself) b q)
+      where
+        by_name : (d : Dec (as_logic $y ≡ as_logic l.x))
+            → closed l.x d ≡ for_some $x (equals_itself $y) → closed l.x d ≡ bound_itself → ⊥
+        by_name (yes same) p q = cc
+        by_name (no other) p q = cc
+
+-- 1, 2
+abbrev one : Term
+one = literal (int (pos 1))
+
+-- call: the requires of f(a, b), a <= b, with the arguments 1 and 2, and with them turned
+abbrev a_first : ProgVar
+a_first = named (codes "a") int_sort
+
+abbrev a_second : ProgVar
+a_second = named (codes "b") int_sort
+
+abbrev two_in_order : Procedure
+two_in_order = record {
+  name = codes "f";
+  params = a_first ∷ a_second ∷ [];
+  results = [];
+  sort = grove;
+  pre = at_most (prog_term a_first) (prog_term a_second);
+  post = truth;
+  body = skip;
+  proof = [];
+}
+
+abbrev two : Term
+two = literal (int (pos 2))
+
+abbrev Called : Formula → Verdict → Type 0
+Called pre verdict = IsVerdict (readings_in (triples (two_in_order ∷ [])) (codes "call"))
+    (record {
+      arguments = [];
+      premises = Some [];
+      conclusion = hoare pre (call [] (codes "f") (one ∷ two ∷ [])) truth grove;
+    }) verdict
+
+pub called_in_order : Called (at_most one two) instance_verdict
+called_in_order = inl (
+  record plain_letters { f = two_in_order; es = one ∷ two ∷ [] },
+  (((refl, (refl, tt), refl), refl), tt),
+)
+
+pub called_turned : Called (at_most two one) shape_verdict
+called_turned m = ⊎_elim
+    (λ y. wrong y.0.f y.0.rs y.0.es y.1.1.0 (ap command_of y.1.2) (ap left_in y.1.2)) (λ z. z) m
+  where
+    one_turned : ◌≡◌ {A = Formula} (at_most one two) (at_most two one) → ⊥
+    one_turned e = cc
+
+    wrong : (f : Procedure) (rs : List ProgVar) (es : List Term)
+        → procedure_named f.name (two_in_order ∷ []) ≡ Some f
+        → call rs f.name es ≡ call [] (codes "f") (one ∷ two ∷ [])
+        → formula_with (passing f.params es itself) f.pre ≡ at_most two one → ⊥
+    wrong f rs es means c p =
+        let name_is : f.name ≡ codes "f" = cc in
+        let terms_are : es ≡ one ∷ two ∷ [] = cc in
+        let found : Some two_in_order ≡ Some f =
+        subst (λ n. procedure_named n (two_in_order ∷ []) ≡ Some f) name_is means in
+        let it_is : two_in_order ≡ f = cc in
+        one_turned (subst (λ z. formula_with (passing two_in_order.params z itself) two_in_order.pre
+        ≡ at_most two one) terms_are
+        (subst (λ g. formula_with (passing g.params es itself) g.pre ≡ at_most two one)
+        (sym it_is) p))
+
 -- frame over a variable that the command changes
 abbrev x_int : ProgVar
 x_int = named (codes "x") int_sort
-
-abbrev one : Term
-one = literal (int (pos 1))
 
 abbrev framed : Formula
 framed = conjunction (bare_hole grove) (equality (prog_term x_int) (literal (int (pos 0))))
@@ -189,6 +292,67 @@ assigned_parent_none = (
         let variable_is : l.v ≡ x_node = cc in
         n (inr (inl (subst (λ v. InTerm (as_var v) l.I) (sym variable_is)
         (subst (InTerm (as_var x_node)) (sym number_is) refl))))
+
+-- name: ($s#n[$q]%$l and n = n), and the name is read
+abbrev n_node : ProgVar
+n_node = named (codes "n") node_sort
+
+abbrev x_text : ProgVar
+x_text = named (codes "x") str_sort
+
+abbrev $s : LogicVar
+$s = record { name = codes "s"; sort = value str_sort }
+
+abbrev $l : LogicVar
+$l = record { name = codes "l"; sort = value list_sort }
+
+abbrev $q : Formula
+$q = same_as (as_term (record { name = codes "q"; sort = shape forest }))
+
+abbrev the_node : Formula
+the_node = node_formula (as_term $s) (prog_term n_node) $q (as_term $l)
+
+pub name_read : Verdict_is (codes "name") [] []
+    (hoare (conjunction the_node (equality (prog_term n_node) (prog_term n_node)))
+    (node_name x_text (prog_term n_node))
+    (conjunction the_node (equality (prog_term x_text) (as_term $s))) tree)
+    instance_verdict
+name_read = inl (
+  record plain_letters {
+    S = as_term $s;
+    I = prog_term n_node;
+    P = $q;
+    L = as_term $l;
+    E = prog_term n_node;
+    v = x_text;
+  },
+  (((refl, tt, refl), refl), (apart, tt)),
+)
+  where
+    apart : FreeIn (as_var x_text) the_node → ⊥
+    apart (inl e) = cc
+    apart (inr (inl e)) = cc
+    apart (inr (inr (inl e))) = cc
+    apart (inr (inr (inr e))) = cc
+
+-- append where the new parent stands in the moved tree, and so in no context beside it
+abbrev nested : Formula
+nested = one_root (node_formula (as_term $s) (prog_term n_node) (one_tree the_node) (as_term $l))
+
+pub parent_inside : (post : Formula) → Verdict_is (codes "append") [] []
+    (hoare (conjunction (conjunction nested (equality (prog_term x_node) (prog_term x_node)))
+    (equality (prog_term n_node) (prog_term n_node)))
+    (append_child (prog_term x_node) (prog_term n_node)) post grove) shape_verdict
+parent_inside post m = ⊎_elim
+    (λ y. wrong forest (one_tree (other_node y.0)) y.0 (ap left_in y.1.2))
+    (λ r. ⊎_elim (λ y. wrong grove (one_root (other_node y.0)) y.0 (ap left_in y.1.2)) (λ z. z) r) m
+  where
+    wrong : (h : DataSort) (moved : Formula) (l : Letters) → conjunction (conjunction
+        (application h (hole_adjoint (empty h) (application tree l.K (one_node l l.P))) moved)
+        (equality l.E l.I)) (equality l.F l.J)
+        ≡ conjunction (conjunction nested (equality (prog_term x_node) (prog_term x_node)))
+        (equality (prog_term n_node) (prog_term n_node)) → ⊥
+    wrong h moved l e = cc
 
 -- remove without its second part
 abbrev child : Formula

@@ -8,7 +8,7 @@ use Rattle.model_formulas.specs.Formulas.{Formula, truth, falsity, conjunction, 
 use Rattle.model_commands.specs.Theories.{entails}
 use Rattle.rule_table.specs.Conditions.{literal_side, texts_side}
 use Rattle.rule_table.specs.Verdicts.{Verdict, IsVerdict, instance_verdict, shape_verdict, premises_verdict, side_verdict}
-use Rattle.rule_table.proofs.TermVerdicts.{subst_verdict, distinct_verdict, concat_verdict}
+use Rattle.rule_table.proofs.EquationVerdicts.{subst_verdict, distinct_verdict, concat_verdict}
 use Rattle.rule_table.proofs.SomeLetters.{readings_of}
 
 -- the verdict of a rule without arguments on a step that cites nothing: the left formula entails
