@@ -1,5 +1,5 @@
--- A formula with a term for a variable, from the formula closed over the variable: the term takes the
--- place of the binder that is gone.
+-- A formula with a term for a variable, from the formula closed over the variable: the term takes
+-- the place of the binder that is gone.
 use Rattle.std.proofs.Common.{◌≡◌, zero, suc, refl, ap, ◌∙◌}
 use mathlib.Core.Path.{fun_ext}
 use Rattle.model_terms.specs.Variables.{Var, prog, logic, bound}

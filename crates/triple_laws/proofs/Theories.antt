@@ -21,6 +21,7 @@ use Rattle.triple_laws.specs.BySteps.{in_steps, locally, HoldBelow}
 use Rattle.triple_laws.proofs.Fitting.{step-sorted}
 use Rattle.triple_laws.proofs.Proofs.{StepsFitting, procedure-holds, procedure-fits}
 use Rattle.triple_laws.proofs.StepsFit.{well-formed-steps}
+use Rattle.triple_laws.proofs.NoPremises.{axiom-cites-nothing}
 use Rattle.triple_laws.proofs.Rows.{triples-sound, Scoped, axioms-sound}
 
 -- a judgement that holds for the runs of at most n steps, for each n
@@ -120,11 +121,11 @@ table-of-triples-sound theory w n below name written premises fit cites h i =
 -- AN AXIOM in every context
 pub axiom-holds : (theory : Theory) → IsWellFormedTheory theory → (name : Name)
     (written : Written) → Fitting (locally (procedures_of theory)) written.conclusion
-    → written.premises ≡ Some [] → IsInstance (readings_in axioms name) written
+    → IsInstance (readings_in axioms name) written
     → JudgementHolds (locally (procedures_of theory)) written.conclusion
-axiom-holds theory w name written fit none i =
+axiom-holds theory w name written fit i =
     let ps : Procedures = procedures_of theory in
     let bodies : BodiesSorted ps = well-formed-bodies theory w in
     any-length ps bodies written.conclusion fit
     (λ n. named-instance (in_steps ps n) axioms (axioms-sound ps bodies n) name written []
-    (fitting-judgement ps n written.conclusion fit) none tt i)
+    (fitting-judgement ps n written.conclusion fit) (axiom-cites-nothing name written i) tt i)

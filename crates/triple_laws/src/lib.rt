@@ -3,7 +3,7 @@
 //! procedure meets its specification, recursion and all. Stands on entailment_laws and the machine.
 #![tactic(auto)]
 
-ghost use Rattle.std.specs.Prelude.{◌≡◌, ℕ, List, [], Some};
+ghost use Rattle.std.specs.Prelude.{◌≡◌, ℕ, List, Some};
 ghost use Rattle.model_shapes.specs.Values.{Name};
 ghost use Rattle.model_commands.specs.Theories.{Judgement, Theory, procedures_of};
 ghost use Rattle.model_files.specs.FileFaults.{IsWellFormedTheory};
@@ -31,7 +31,7 @@ pub fn rules_are_sound()
 pub fn axioms_hold()
     ensures { (theory : Theory) → IsWellFormedTheory theory → (name : Name) (written : Written)
         → Fitting (locally (procedures_of theory)) written.conclusion
-        → written.premises ≡ Some [] → IsInstance (readings_in axioms name) written
+        → IsInstance (readings_in axioms name) written
         → JudgementHolds (locally (procedures_of theory)) written.conclusion }
 {}
 
