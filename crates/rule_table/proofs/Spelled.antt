@@ -1,5 +1,4 @@
--- Needn't be believed: the closed formulas of the table are what the manual writes, with any names
--- for the variables.
+-- The closed formulas of the table are what a file writes with any names for the variables.
 use Rattle.std.proofs.Common.{◌≡◌, ℕ, List, [], ◌∷◌, refl, ap, ◌∙◌}
 use Rattle.model_shapes.specs.Sorts.{value, shape, node_sort, list_sort, int_sort, str_sort, tree, forest, grove}
 use Rattle.model_terms.specs.Variables.{Var, logic, bound, var_sort}

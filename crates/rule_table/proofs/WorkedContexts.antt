@@ -122,7 +122,7 @@ free_in_what_is_given = (
         decide (yes same) r = fresh (subst (FreeIn (as_logic l.x)) (sym p) (sym same))
         decide (no other) r = absurd cc
 
--- forest_cases, with the manual's names and with one name for both variables
+-- forest_cases, with the names of the table and with one name for both variables
 abbrev cases_named : List ℕ → List ℕ → Named
 cases_named t f =
     disjunction (empty forest) (existential (logic t (shape tree))

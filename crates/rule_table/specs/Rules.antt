@@ -58,7 +58,8 @@ module _ (letters : Letters) where
   assign_rule = always (hoare (formula_with (replacing (as_var v) E) Q) (assign v E) Q k)
       given computes (sort_of v) E
 
-  -- {P0} C1 {P1}, .., {Pn-1} Cn {Pn} ==> {P0} { C1 ; .. ; Cn } {Pn}
+  -- {P} C {Q}, and then of each further command a triple from the formula behind the one before
+  -- it ==> {P} { C ; .. } {the formula behind the last}
   abbrev pub seq_rule : Line
   seq_rule = hoare P C Q k ∷ chain Q links k
       ⟹ hoare P (block (C then block_of links)) (last_of Q links) k
