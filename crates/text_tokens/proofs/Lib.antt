@@ -6,3 +6,4 @@ pub mod ReadingLemmas
 pub mod SymbolLemmas
 pub mod WordLemmas
 pub mod BracketLemmas
+pub mod ReservedLemmas

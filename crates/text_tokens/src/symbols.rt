@@ -42,7 +42,7 @@ const SYMBOLS: [&[char]; 35] = [
 ];
 
 /// The symbols that decide which one stands at the front of a text that begins with the character:
-/// those that begin with it, and all for one that begins none.
+/// those that begin with it, and all for one that is rare and begins none.
 fn symbols_from(first: char) -> &'static [&'static [char]]
     ensures { (rest : List ℕ) → longest_at_front (map (λ s. s.now) result.now) (first ∷ rest)
         ≡ longest_at_front symbols (first ∷ rest) }
@@ -72,6 +72,8 @@ fn symbols_from(first: char) -> &'static [&'static [char]]
         '@' => &[&['@', 't'], &['@', 'f'], &['@', 'g']],
         'o' => &[&['o', '-', 't'], &['o', '-', 'f'], &['o', '-', 'g']],
         '?' => &[&['?', 't'], &['?', 'f'], &['?', 'g']],
+        '$' => &[],
+        '"' => &[],
         _ => &SYMBOLS,
     }
 }
@@ -82,6 +84,7 @@ fn length_at_front(text: &[char], symbol: &[char]) -> usize
 {
     match (text, symbol) {
         ([first, ..], [wanted, ..]) if *first != *wanted => 0,
+        ([_, ..], [_]) => 1,
         _ if text.starts_with(symbol) => symbol.len(),
         _ => 0,
     }

@@ -47,6 +47,7 @@ pub type Tokens = List<Token>;
 impl Token {
     /// Whether the token is the symbol or the reserved word of this text. It never is for `step`,
     /// which `is_step` asks for.
+    #[inline]
     pub fn is_terminal(&self, text: &str) -> bool
         ensures { IsTrue result ↔ (lexeme_of (token_of self.now) ≡ terminal text.now) }
     {

@@ -1,6 +1,5 @@
-use Rattle.model_text.specs.Lexemes.{reserved_words}
+use Rattle.std.proofs.Common.{refl, ◌∙◌}
 use Rattle.text_tokens.proofs.reserved.is_reserved.Goals as goal
 
 pub returns : goal.returns
-unfolding reserved_words
-returns c = c.is_among.ensures
+returns c = c.is_among.ensures ∙ c.words_of_size.ensures c.args.word.now refl

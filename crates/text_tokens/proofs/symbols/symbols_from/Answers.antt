@@ -87,6 +87,14 @@ pub returns-in-63 : goal.returns-in-63
 unfolding symbols
 returns-in-63 c = decided_by 63 c.args.first c.in-63.is
 
+pub returns-in-36 : goal.returns-in-36
+unfolding symbols
+returns-in-36 c = decided_by 36 c.args.first c.in-36.is
+
+pub returns-in-34 : goal.returns-in-34
+unfolding symbols
+returns-in-34 c = decided_by 34 c.args.first c.in-34.is
+
 pub returns-in_default : goal.returns-in_default
 unfolding symbols
 returns-in_default c = λ rest. refl
