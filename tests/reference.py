@@ -206,20 +206,22 @@ class Reader:
             self.fail()
         return int(self.of_kind("number"))
 
-    def separated(self, read, *separators):
-        """Reads one or more, with one of these symbols between each two."""
-        found = [read()]
-        while self.sees(*separators):
-            self.take(*separators)
-            found.append(read())
-        return tuple(found)
-
-    def in_brackets(self, read):
-        """Reads a list in round brackets, which may be empty."""
-        self.take("(")
-        found = () if self.sees(")") else self.separated(read, ",")
-        self.take(")")
+    def spelled(self, *parts):
+        """Takes the words and symbols among the parts, and returns what the others, which read, have read."""
+        found = []
+        for part in parts:
+            if isinstance(part, str):
+                self.take(part)
+            else:
+                found.append(part())
         return found
+
+    def separated(self, read, separator):
+        """Reads one or more, with this symbol between each two."""
+        found = [read()]
+        while self.sees(separator):
+            found += self.spelled(separator, read)
+        return tuple(found)
 
     def whole(self, read):
         """Reads, and asks that nothing is left."""
@@ -243,29 +245,43 @@ class TheoryReader(Reader):
     def logic_variable(self):
         return ("logic", self.of_kind("logic"))
 
-    def term(self):
-        return self.command_term(with_logic=True)
+    def small_number(self):
+        return self.number(most=LAST_U32)
 
-    def command_term(self, with_logic=False):
+    def value_sort(self):
+        return self.take(*VALUE_SORTS)
+
+    def data_sort(self):
+        return self.take(*DATA_SORTS)
+
+    def listed(self, read):
+        """Reads a list in round brackets, which may be empty."""
+        if self.sees(")", ahead=1):
+            self.spelled("(", ")")
+            return ()
+        return self.spelled("(", lambda: self.separated(read, ","), ")")[0]
+
+    def term(self):
+        """Reads a term of a formula, in which logic variables may stand."""
+        return self.logic_variable() if self.token().kind == "logic" else self.plain_term(self.term)
+
+    def command_term(self):
+        return self.plain_term(self.command_term)
+
+    def plain_term(self, part):
+        """Reads a term whose parts are read by `part`."""
         kind = self.token().kind
         if kind == "number":
             return ("int", self.number())
         if kind == "literal":
             return ("str", self.of_kind("literal"))
-        if kind == "logic" and with_logic:
-            return self.logic_variable()
         if self.sees("null", "nolist", "yes", "no"):
             return (self.take("null", "nolist", "yes", "no"),)
         if self.sees("-"):
-            self.take("-")
-            return ("int", -self.number(least=1))
+            return ("int", -self.spelled("-", lambda: self.number(least=1))[0])
         if not self.sees("{"):
             return self.variable()
-        self.take("{")
-        left = self.command_term(with_logic)
-        operator = self.take("+", "-", "++")
-        right = self.command_term(with_logic)
-        self.take("}")
+        left, operator, right = self.spelled("{", part, lambda: self.take("+", "-", "++"), part, "}")
         return (operator, left, right)
 
     def formula(self):
@@ -273,72 +289,49 @@ class TheoryReader(Reader):
         if self.sees(*constants):
             return (self.take(*constants),)
         if self.sees("len"):
-            self.take("len")
-            return ("len", self.term())
-        if self.sees("<", "["):
-            bracket = self.take("<", "[")
-            inside = self.formula()
-            self.take({"<": ">", "[": "]"}[bracket])
-            return ({"<": "one tree", "[": "one root"}[bracket], inside)
+            return ("len", *self.spelled("len", self.term))
+        if self.sees("<"):
+            return ("one tree", *self.spelled("<", self.formula, ">"))
+        if self.sees("["):
+            return ("one root", *self.spelled("[", self.formula, "]"))
         if self.sees("("):
-            return self.bracketed_formula()
+            return self.spelled("(", self.bracketed_formula, ")")[0]
         if self.token().kind == "logic" and not self.sees("#", "=", "<=", ahead=1):
             return ("is it", self.logic_variable())
-        return self.atom()
-
-    def atom(self):
         left = self.term()
-        operator = self.take("#", "=", "<=")
-        right = self.term()
-        if operator != "#":
-            return (operator, left, right)
-        self.take("[")
-        children = self.formula()
-        self.take("]")
-        self.take("%")
-        return ("node", left, right, children, self.term())
+        if not self.sees("#"):
+            return (self.take("#", "=", "<="), left, self.term())
+        return ("node", left, *self.spelled("#", self.term, "[", self.formula, "]", "%", self.term))
 
     def bracketed_formula(self):
-        self.take("(")
         if self.sees("not"):
-            found = (self.take("not"), self.formula())
-        elif self.sees("exists", "forall"):
-            quantifier, bound = self.take("exists", "forall"), self.logic_variable()
-            self.take(".")
-            found = (quantifier, bound, self.formula())
-        elif self.token().kind == "logic" and self.sees("is", ahead=1):
-            found = ("is", self.logic_variable(), self.take("is") and self.formula())
-        else:
-            left = self.formula()
-            found = (self.take(*CONNECTIVES), left, self.formula())
-        self.take(")")
-        return found
+            return (self.take("not"), self.formula())
+        if self.sees("exists", "forall"):
+            quantifier = self.take("exists", "forall")
+            return (quantifier, *self.spelled(self.logic_variable, ".", self.formula))
+        if self.token().kind == "logic" and self.sees("is", ahead=1):
+            return ("is", *self.spelled(self.logic_variable, "is", self.formula))
+        left = self.formula()
+        return (self.take(*CONNECTIVES), left, self.formula())
 
     def condition(self):
         if self.sees("true", "false"):
             return (self.take("true", "false"),)
         if self.sees("("):
-            return self.bracketed_condition()
+            return self.spelled("(", self.bracketed_condition, ")")[0]
         left = self.command_term()
         if left[0] == "prog" and not self.sees("=", "<="):
             return ("holds", left)
         return (self.take("=", "<="), left, self.command_term())
 
     def bracketed_condition(self):
-        self.take("(")
         if self.sees("not"):
-            found = (self.take("not"), self.condition())
-        else:
-            left = self.condition()
-            found = (self.take("and", "or"), left, self.condition())
-        self.take(")")
-        return found
+            return (self.take("not"), self.condition())
+        left = self.condition()
+        return (self.take("and", "or"), left, self.condition())
 
     def block(self):
-        self.take("{")
-        commands = self.separated(self.command, ";")
-        self.take("}")
-        return ("block", *commands)
+        return ("block", *self.spelled("{", lambda: self.separated(self.command, ";"), "}")[0])
 
     def command(self):
         if self.sees("skip"):
@@ -346,112 +339,81 @@ class TheoryReader(Reader):
         if self.sees("{"):
             return self.block()
         if self.sees("if"):
-            self.take("if")
-            condition, then = self.condition(), self.block()
-            self.take("else")
-            return ("if", condition, then, self.block())
+            return ("if", *self.spelled("if", self.condition, self.block, "else", self.block))
         if self.sees("while"):
-            return (self.take("while"), self.condition(), self.block())
+            return ("while", *self.spelled("while", self.condition, self.block))
         if self.sees("local"):
-            self.take("local")
-            (name, sort), block = self.declaration(), self.block()
-            return ("local", ("prog", name), sort, block)
+            spelled = self.spelled("local", self.variable, ":", self.value_sort, self.block)
+            return ("local", *spelled)
         if self.sees("call"):
-            return self.call()
+            arguments = lambda: self.listed(self.command_term)
+            results = lambda: self.listed(self.variable)
+            return ("call", *self.spelled("call", results, ":=", self.name, arguments))
         if self.sees("appendChild", "removeChild"):
-            return (self.take("appendChild", "removeChild"), *self.operands(2))
+            return (self.take("appendChild", "removeChild"), *self.two_terms())
         return self.assignment()
 
-    def call(self):
-        self.take("call")
-        results = self.in_brackets(self.variable)
-        self.take(":=")
-        return ("call", results, self.name(), self.in_brackets(self.command_term))
-
-    def operands(self, count):
-        self.take("(")
-        found = [self.command_term()]
-        while len(found) < count:
-            self.take(",")
-            found.append(self.command_term())
-        self.take(")")
-        return found
+    def two_terms(self):
+        return self.spelled("(", self.command_term, ",", self.command_term, ")")
 
     def assignment(self):
-        target = self.variable()
-        self.take(":=")
-        queries = ("createNode", "nodeName", "parentNode", "childNodes", "item")
-        if not self.sees(*queries):
-            return (":=", target, self.command_term())
-        query = self.take(*queries)
-        return (query, target, *self.operands(2 if query == "item" else 1))
+        target, *_ = self.spelled(self.variable, ":=")
+        if self.sees("item"):
+            return (self.take("item"), target, *self.two_terms())
+        queries = ("createNode", "nodeName", "parentNode", "childNodes")
+        if self.sees(*queries):
+            return (self.take(*queries), target, *self.spelled("(", self.command_term, ")"))
+        return (":=", target, self.command_term())
 
     def declaration(self):
-        name = self.name()
-        self.take(":")
-        return name, self.take(*VALUE_SORTS)
+        return tuple(self.spelled(self.name, ":", self.value_sort))
 
     def judgement(self):
-        if not self.sees("pre"):
-            left = self.formula()
-            self.take("entails")
-            right = self.formula()
-            self.take("at")
-            return ("entails", left, right, self.take(*SHAPE_SORTS))
-        self.take("pre")
-        pre = self.formula()
-        self.take("do")
-        command = self.command()
-        self.take("post")
-        post = self.formula()
-        self.take("at")
-        return ("triple", pre, command, post, self.take(*DATA_SORTS))
+        if self.sees("pre"):
+            return ("triple", *self.spelled("pre", self.formula, "do", self.command, "post", self.formula,
+                                            "at", self.data_sort))
+        shape_sort = lambda: self.take(*SHAPE_SORTS)
+        return ("entails", *self.spelled(self.formula, "entails", self.formula, "at", shape_sort))
+
+    def reason(self):
+        """Reads a rule with premises and arguments; the rule None is `auto`."""
+        if self.take("auto", "by") == "auto":
+            return None, (), ()
+        rule, premises = self.of_kind("word"), self.listed(self.small_number)
+        if not self.sees("with"):
+            return rule, premises, ()
+        return rule, premises, self.spelled("with", "(", lambda: self.separated(self.term, ","), ")")[0]
 
     def step(self):
         line = self.token().line
-        self.take("step")
-        number, rule, premises, arguments = self.number(most=LAST_U32), None, (), ()
-        if self.take("auto", "by") == "by":
-            rule = self.of_kind("word")
-            premises = self.in_brackets(lambda: self.number(most=LAST_U32))
-            if self.sees("with"):
-                self.take("with")
-                self.take("(")
-                arguments = self.separated(self.term, ",")
-                self.take(")")
-        self.take(":")
-        judgement = self.judgement()
-        self.take(";")
+        spelled = self.spelled("step", self.small_number, self.reason, ":", self.judgement, ";")
+        number, (rule, premises, arguments), judgement = spelled
         return Step(number, line, rule, premises, arguments, judgement)
 
-    def procedure(self):
-        self.take("proc")
-        name, params = self.name(), self.in_brackets(self.declaration)
-        self.take("returns")
-        results = self.in_brackets(self.declaration)
-        self.take("sort")
-        sort = self.take(*DATA_SORTS)
-        self.take("requires")
-        pre = self.formula()
-        self.take("ensures")
-        post = self.formula()
-        self.take("body")
-        body = self.command()
-        self.take("proof")
-        steps = []
+    def steps(self):
+        found = []
         while self.sees("step"):
-            steps.append(self.step())
-        self.take("end")
-        return Procedure(name, params, results, sort, pre, post, body, steps)
+            found.append(self.step())
+        return found
+
+    def procedure(self):
+        declarations = lambda: self.listed(self.declaration)
+        return Procedure(*self.spelled(
+            "proc", self.name, declarations, "returns", declarations, "sort", self.data_sort,
+            "requires", self.formula, "ensures", self.formula, "body", self.command,
+            "proof", self.steps, "end"))
+
+    def logic_line(self):
+        """Returns the names of a line with their sort."""
+        sorts = lambda: self.take(*VALUE_SORTS, *SHAPE_SORTS)
+        names = lambda: self.separated(lambda: self.of_kind("logic"), ",")
+        sort, found = self.spelled("logic", sorts, names, ";")
+        return [(name, sort) for name in found]
 
     def theory(self):
-        self.take("domlogic")
-        version, logic = self.number(most=LAST_U32), []
+        version, logic = self.spelled("domlogic", self.small_number)[0], []
         while self.sees("logic"):
-            self.take("logic")
-            sort = self.take(*VALUE_SORTS, *SHAPE_SORTS)
-            logic += [(name, sort) for name in self.separated(lambda: self.of_kind("logic"), ",")]
-            self.take(";")
+            logic += self.logic_line()
         procedures = [self.procedure()]
         while self.at < len(self.tokens):
             procedures.append(self.procedure())
@@ -850,31 +812,17 @@ class DocumentReader(Reader):
 
     def grove(self):
         if self.sees("0g"):
-            self.take("0g")
-            return ()
-        return self.separated(lambda: self.enclosed("[", "]"), "+")
-
-    def enclosed(self, opening, closing):
-        self.take(opening)
-        tree = self.tree()
-        self.take(closing)
-        return tree
+            return () if self.take("0g") else None
+        return self.separated(lambda: self.spelled("[", self.tree, "]")[0], "+")
 
     def tree(self):
-        name = self.of_kind("literal")
-        self.take("#")
-        node = self.number()
-        self.take("[")
-        children = self.forest()
-        self.take("]")
-        self.take("%")
-        return Tree(name, node, children, self.number())
+        name = lambda: self.of_kind("literal")
+        return Tree(*self.spelled(name, "#", self.number, "[", self.forest, "]", "%", self.number))
 
     def forest(self):
         if self.sees("0f"):
-            self.take("0f")
-            return ()
-        return self.separated(lambda: self.enclosed("<", ">"), "*")
+            return () if self.take("0f") else None
+        return self.separated(lambda: self.spelled("<", self.tree, ">")[0], "*")
 
 
 def numbers_in_text(trees):
