@@ -33,7 +33,7 @@ class Refused(Exception):
 
 # ---------------------------------------------------------------------------------------------- tokens
 
-Token = namedtuple("Token", "kind text line")
+Token = namedtuple("Token", "kind text line end")  # the end counts characters
 
 SYMBOLS = set("""( ) [ ] { } < > , ; : . := = <= # % + ++ - -o -> * .* *. .+
     @t @f @g o-t o-f o-g ?t ?f ?g""".split())
@@ -128,11 +128,11 @@ def tokens_of(content):
         if start == len(text):
             break
         kind, meant, at = token_at(text, start)
-        yield Token(kind, meant, line)
+        yield Token(kind, meant, line, at)
         if kind == "bad":
             return
     if not is_whole:
-        yield Token("bad", "", line)
+        yield Token("bad", "", line, at)
 
 
 def tokens_within(content, nesting):
@@ -176,7 +176,7 @@ class Reader:
     def token(self, ahead=0):
         """Returns the next token, or the one behind it."""
         at = self.at + ahead
-        return self.tokens[at] if at < len(self.tokens) else Token("end", "", 0)
+        return self.tokens[at] if at < len(self.tokens) else Token("end", "", 0, 0)
 
     def sees(self, *texts, ahead=0):
         """Says whether the next token is one of these words or symbols."""

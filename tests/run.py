@@ -37,7 +37,7 @@ class Row:
     def __init__(self, title, place):
         self.title, self.place = title, place
         self.words, self.status, self.output = None, None, []
-        self.texts, self.changes, self.sink, self.called = {}, [], None, None
+        self.texts, self.changes, self.cuts, self.sink, self.called = {}, [], {}, None, None
 
 
 def meant(text):
@@ -93,6 +93,8 @@ def set_field(row, field, text):
         row.called = meant(text)
     elif name == "text" and file:
         row.texts[file] = meant(text)
+    elif name == "cut" and file:
+        row.cuts[file] = int(text)
     elif name == "change" and file:
         row.changes.append((file, *change_of(text)))
     else:
@@ -104,6 +106,15 @@ def is_dashed(text):
     return re.match(r"-( |$)", text) is not None
 
 
+def each_number(text):
+    """Returns the lines that a dashed one stands for: itself, or for `- 1..3 | 5..7` the three from `- 1 | 5` on."""
+    found = re.fullmatch(r"- (\d+)\.\.(\d+) \| (\d+)\.\.(\d+)", text)
+    if not found:
+        return [text]
+    first, last, other, _ = map(int, found.groups())
+    return [f"- {first + at} | {other + at}" for at in range(last - first + 1)]
+
+
 def rows_of(title, lines):
     """Returns the rows of a block: one, or one for each line that begins with '-'."""
     each = next((text[len("each:"):].strip() for _, text in lines if text.startswith("each:")), None)
@@ -112,6 +123,7 @@ def rows_of(title, lines):
         return [row_of(title, lines[0][0], common)]
     marked, _, field = each.rpartition("|")
     rows = []
+    lines = [(place, one) for place, text in lines for one in each_number(text)]
     for place, text in lines:
         if is_dashed(text):
             mark, _, given = text[1:].partition("|") if marked else ("", "", text[1:])
@@ -185,6 +197,12 @@ def read(path):
     return files, rows
 
 
+def first_tokens(content, count):
+    """Returns the text up to the end of so many tokens."""
+    ends = [0] + [token.end for token in reference.tokens_of(content)]
+    return content.decode()[: ends[count]].encode()
+
+
 def given_files(row, files):
     """Returns the files that the row's words name, as the row changes them; a name that none has stays a missing file."""
     given = {**files, **row.texts}
@@ -192,6 +210,8 @@ def given_files(row, files):
         if old not in given[file]:
             raise Unreadable(f"{file} has no text {old.decode(errors='replace')}")
         given[file] = given[file].replace(old, new)
+    for file, count in row.cuts.items():
+        given[file] = first_tokens(given[file], count)
     named = [os.path.normpath(word) for word in row.words]
     return {name: given[name] for name in given if name.encode() in named}
 
