@@ -60,7 +60,8 @@ def quoted(part):
         return found[2].encode() * int(found[1])
     found = re.fullmatch(r"for ([0-9]+)\.\.([0-9]+): ?(.*)", part)
     if found:
-        numbers = range(int(found[1]), int(found[2]) + 1)
+        first, last = int(found[1]), int(found[2])
+        numbers = range(first, last + 1) if first <= last else range(first, last - 1, -1)
         return "".join(found[3].replace("@", str(number)) for number in numbers).encode()
     raise Unreadable(f"`{part}` stands for nothing")
 
