@@ -21,6 +21,7 @@ import tempfile
 
 sys.dont_write_bytecode = True  # the checkout stays as it is
 import reference
+from reading.tokens import tokens_of
 
 HERE = os.path.dirname(os.path.abspath(__file__))
 TOP = os.path.dirname(HERE)
@@ -200,7 +201,7 @@ def read(path):
 
 def first_tokens(content, count):
     """Returns the text up to the end of so many tokens."""
-    ends = [0] + [token.end for token in reference.tokens_of(content)]
+    ends = [0] + [token.end for token in tokens_of(content)]
     return content.decode()[: ends[count]].encode()
 
 
