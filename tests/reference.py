@@ -23,7 +23,7 @@ from reading.reader import NoReading
 from reading.sorts import declared_by, first_wins
 from reading.texts import value_text
 from reading.theories import TheoryReader
-from reading.tokens import DIGITS, tokens_within
+from reading.tokens import decimal, tokens_within
 
 
 def refuse_fault(faults):
@@ -66,12 +66,6 @@ def grove_of(content):
     if len(met) > 2 * NODES:
         raise Refused(8, "limit nodes")
     return Grove(trees)
-
-
-def decimal(word, least, most):
-    """Returns the number that a word spells, or None: no sign, no leading zero, of the range."""
-    is_decimal = word and set(word) <= DIGITS and (word == "0" or word[0] != "0")
-    return int(word) if is_decimal and least <= int(word) <= most else None
 
 
 def argument_of(word, sort):

@@ -14,6 +14,7 @@ Step = namedtuple("Step", "number line rule premises arguments judgement")
 
 CONNECTIVES = "and or -> * .* *. + .+ @t @f @g -o o-t o-f o-g".split()
 
+
 class TheoryReader(Reader):
     """The grammar of files, a method for each of its names."""
 

@@ -63,14 +63,19 @@ def literal_at(text, at):
     return ("literal", "".join(meant), at + 1) if text[at : at + 1] == '"' else ("bad", "", at)
 
 
+def decimal(text, least, most):
+    """Returns the number of this range that a text spells, with no leading zero, or None."""
+    is_decimal = 0 < len(text) < 20 and set(text) <= DIGITS and (text == "0" or text[0] != "0")
+    return int(text) if is_decimal and least <= int(text) <= most else None
+
+
 def number_at(text, at):
     """Returns what begins with a digit there: `0f`, `0g`, a number, or no token."""
     end = run_end(text, at)
     run = text[at:end]
     if run in ("0f", "0g"):
         return "symbol", run, end
-    is_number = set(run) <= DIGITS and (run == "0" or run[0] != "0") and int(run) <= LAST_I64
-    return ("number" if is_number else "bad"), run, end
+    return ("bad" if decimal(run, 0, LAST_I64) is None else "number"), run, end
 
 
 def token_at(text, at):
