@@ -1,9 +1,11 @@
 #!/usr/bin/env python3
 """Compares the built program with the rows of this folder, byte by byte.
 
-usage: tests/run.py --cmd PROGRAM [--only TEXT] [--list]
-  PROGRAM   the built program; each row's words are handed to it
-  TEXT      runs only the rows whose file or title has this text
+usage: tests/run.py (--cmd PROGRAM | --reference | --list) [--only TEXT]
+  PROGRAM       the built program; each row's words are handed to it
+  --reference   the rows are answered by reference.py beside this file, and no program is asked
+  --list        the rows are listed
+  TEXT          only the rows whose file or title has this text
 
 Prints each row that fails, and last 'N passed, M failed'. The exit status is 0 where none fails, and 2
 where a file of rows can't be read. README.md beside this file says how a row is written.
@@ -16,6 +18,10 @@ import shlex
 import subprocess
 import sys
 import tempfile
+
+sys.dont_write_bytecode = True  # the checkout stays as it is
+import reference
+from reading.tokens import tokens_of
 
 HERE = os.path.dirname(os.path.abspath(__file__))
 TOP = os.path.dirname(HERE)
@@ -32,7 +38,7 @@ class Row:
     def __init__(self, title, place):
         self.title, self.place = title, place
         self.words, self.status, self.output = None, None, []
-        self.texts, self.changes, self.sink, self.called = {}, [], None, None
+        self.texts, self.changes, self.cuts, self.sink, self.called = {}, [], {}, None, None
 
 
 def meant(text):
@@ -55,7 +61,8 @@ def quoted(part):
         return found[2].encode() * int(found[1])
     found = re.fullmatch(r"for ([0-9]+)\.\.([0-9]+): ?(.*)", part)
     if found:
-        numbers = range(int(found[1]), int(found[2]) + 1)
+        first, last = int(found[1]), int(found[2])
+        numbers = range(first, last + 1) if first <= last else range(first, last - 1, -1)
         return "".join(found[3].replace("@", str(number)) for number in numbers).encode()
     raise Unreadable(f"`{part}` stands for nothing")
 
@@ -88,34 +95,61 @@ def set_field(row, field, text):
         row.called = meant(text)
     elif name == "text" and file:
         row.texts[file] = meant(text)
+    elif name == "cut" and file:
+        row.cuts[file] = int(text)
     elif name == "change" and file:
         row.changes.append((file, *change_of(text)))
     else:
         raise Unreadable(f"a row has no field {field}")
 
 
+def is_dashed(text):
+    """Says whether the line of a block gives one of its rows."""
+    return re.match(r"-( |$)", text) is not None
+
+
+def each_number(text):
+    """Returns the lines that a dashed one stands for: itself, or for `- 1..3 | 5..7` the three from `- 1 | 5` on."""
+    found = re.fullmatch(r"- (\d+)\.\.(\d+) \| (\d+)\.\.(\d+)", text)
+    if not found:
+        return [text]
+    first, last, other, _ = map(int, found.groups())
+    return [f"- {first + at} | {other + at}" for at in range(last - first + 1)]
+
+
 def rows_of(title, lines):
     """Returns the rows of a block: one, or one for each line that begins with '-'."""
     each = next((text[len("each:"):].strip() for _, text in lines if text.startswith("each:")), None)
-    dashed = [it for it in lines if re.match(r"-( |$)", it[1])] if each else [(lines[0][0], None)]
+    common = [text for _, text in lines if not text.startswith("each:") and not (each and is_dashed(text))]
+    if each is None:
+        return [row_of(title, lines[0][0], common)]
+    marked, _, field = each.rpartition("|")
     rows = []
-    for place, given in dashed:
-        row = Row(title if given is None else f"{title}: {given[1:].strip()}", place)
-        for _, text in lines:
-            if text.startswith("| "):
-                set_field(row, "output", text[2:])
-            elif not text.startswith("each:") and not re.match(r"-( |$)", text):
-                field, colon, rest = text.partition(":")
-                if not colon:
-                    raise Unreadable(f"no field: {text}")
-                if field != "output" or rest:
-                    set_field(row, field.strip(), rest.strip())
-        if given is not None:
-            set_field(row, each, given[1:].strip())
-        if row.words is None or row.status is None:
-            raise Unreadable(f"the row has no words or no status: {title}")
-        rows.append(row)
+    lines = [(place, one) for place, text in lines for one in each_number(text)]
+    for place, text in lines:
+        if is_dashed(text):
+            mark, _, given = text[1:].partition("|") if marked else ("", "", text[1:])
+            own = f"{field.strip()}: {given.strip()}"
+            rows.append(row_of(f"{title}: {given.strip()}", place, [*common, own], mark.strip()))
     return rows
+
+
+def row_of(title, place, lines, mark=""):
+    """Returns the row of these fields; the mark, if there is one, stands in its output in place of each @."""
+    mark = mark or "@"
+    row = Row(title, place)
+    for text in lines:
+        if text.startswith("| "):
+            set_field(row, "output", text[2:].replace("@", mark))
+            continue
+        field, colon, rest = text.partition(":")
+        if not colon:
+            raise Unreadable(f"no field: {text}")
+        if field != "output" or rest:
+            set_field(row, field.strip(), rest.strip().replace("@", mark) if field == "output" else rest.strip())
+    if row.words is None or row.status is None:
+        raise Unreadable(f"the row has no words or no status: {title}")
+    return row
 
 
 def file_of(head, lines):
@@ -165,6 +199,12 @@ def read(path):
     return files, rows
 
 
+def first_tokens(content, count):
+    """Returns the text up to the end of so many tokens."""
+    ends = [0] + [token.end for token in tokens_of(content)]
+    return content.decode()[: ends[count]].encode()
+
+
 def given_files(row, files):
     """Returns the files that the row's words name, as the row changes them; a name that none has stays a missing file."""
     given = {**files, **row.texts}
@@ -172,6 +212,8 @@ def given_files(row, files):
         if old not in given[file]:
             raise Unreadable(f"{file} has no text {old.decode(errors='replace')}")
         given[file] = given[file].replace(old, new)
+    for file, count in row.cuts.items():
+        given[file] = first_tokens(given[file], count)
     named = [os.path.normpath(word) for word in row.words]
     return {name: given[name] for name in given if name.encode() in named}
 
@@ -189,32 +231,48 @@ def ran(program, row, folder):
         return subprocess.run(words, executable=program, stdout=sink, **how)
 
 
-def complaint(program, row, files):
-    """Returns what is wrong with the program's answer, or None."""
+def program_answer(program, row, given):
+    """Returns the program's status, output and standard error in a folder that has the given files."""
     with tempfile.TemporaryDirectory() as folder:
-        try:
-            for name, content in given_files(row, files).items():
-                with open(os.path.join(folder, name), "wb") as it:
-                    it.write(content)
-            answer = ran(program, row, folder)
-        except (Unreadable, KeyError, OSError, subprocess.TimeoutExpired) as why:
-            return f"    not run: {why}"
-    wanted, found = b"".join(row.output), answer.stdout or b""
-    if (answer.returncode, found, answer.stderr) == (row.status, wanted, b""):
+        for name, content in given.items():
+            with open(os.path.join(folder, name), "wb") as it:
+                it.write(content)
+        answer = ran(program, row, folder)
+    return answer.returncode, answer.stdout or b"", answer.stderr
+
+
+def reference_answer(row, given):
+    """Returns the same of the reference. An output that goes to no good place is told as such, and lost."""
+    status, output = reference.answer(row.words, lambda name: given.get(os.path.normpath(name)))
+    return (12 if row.sink and output else status), b"" if row.sink else output, b""
+
+
+def complaint(program, row, files):
+    """Returns what is wrong with the answer of the program, or of the reference where that is None; or None."""
+    try:
+        given = given_files(row, files)
+        answer = program_answer(program, row, given) if program else reference_answer(row, given)
+    except (Unreadable, KeyError, OSError, subprocess.TimeoutExpired) as why:
+        return f"    not run: {why}"
+    status, found, errors = answer
+    wanted = b"".join(row.output)
+    if (status, found, errors) == (row.status, wanted, b""):
         return None
-    told = [f"    wanted {row.status} {wanted[:300]!r}", f"    got    {answer.returncode} {found[:300]!r}"]
-    return "\n".join(told + [f"    on standard error {answer.stderr[:300]!r}"] * bool(answer.stderr))
+    told = [f"    wanted {row.status} {wanted[:300]!r}", f"    got    {status} {found[:300]!r}"]
+    return "\n".join(told + [f"    on standard error {errors[:300]!r}"] * bool(errors))
 
 
 def main():
     how = {"description": __doc__, "formatter_class": argparse.RawDescriptionHelpFormatter}
     parser = argparse.ArgumentParser(**how)
-    parser.add_argument("--cmd", required=True)
+    asked = parser.add_mutually_exclusive_group(required=True)
+    asked.add_argument("--cmd")
+    asked.add_argument("--reference", action="store_true")
+    asked.add_argument("--list", action="store_true")
     parser.add_argument("--only", default="")
-    parser.add_argument("--list", action="store_true")
     options = parser.parse_args()
-    program, passed, failed = os.path.abspath(options.cmd), 0, 0
-    if not os.access(program, os.X_OK):
+    program, passed, failed = options.cmd and os.path.abspath(options.cmd), 0, 0
+    if program and not os.access(program, os.X_OK):
         print(f"no program stands at {options.cmd}\n0 passed, 1 failed")
         return 1
     for path in sorted(glob.glob(os.path.join(HERE, "*.rows"))):
