@@ -9,7 +9,7 @@ use Rattle.model_answers.specs.Words.{Request, check, run}
 use Rattle.model_text.specs.Lexemes.{Lexeme}
 use Rattle.model_limits.specs.Limits.{LimitKind, file_limit}
 use Rattle.model_answers.specs.Texts.{IsFile}
-use Rattle.domcheck_core.specs.Answers.{Books, Answer, limit_answer, Unread, passes_limit, NoFile, Verdict, is_unbuilt, says_yes, has_gap, says_no, CheckAnswer, no_file, judged, DocumentAnswer, IsCalled, NotCalled, RunAnswer, not_run, not_called, is_called, IsAnswer, checked, ran, IsToldBook, IsTold}
+use Rattle.domcheck_core.specs.Answers.{Books, Answer, limit_answer, Unread, over_limit, NoFile, Verdict, is_unbuilt, says_yes, has_gap, says_no, CheckAnswer, no_file, judged, DocumentAnswer, IsCalled, NotCalled, RunAnswer, not_run, not_called, is_called, IsAnswer, checked, ran, IsToldBook, IsTold}
 use Rattle.domcheck_core.specs.Books.{IsReply}
 use Rattle.domcheck_core.specs.Clauses.{OfFile, IsProved, ExactlyWhere, BadWordsExactly, IsAnswered, Wrote}
 use Rattle.outside_io.specs.Pieces.{Took}
@@ -24,7 +24,7 @@ pub too_large : {A : Type 0} (Spells : A → List Lexeme → Type 0) (most : ℕ
     (bytes : List ℕ) (s : Status) (output : List ℕ) → standard_limits.file_bytes < length bytes
     → limit_answer file_limit ≡ (s, output) → Unread Spells most bad_line bytes s output
 too_large Spells most bad_line bytes s output long e =
-    passes_limit (ap (λ (z : Option LimitKind). option_map limit_answer z)
+    over_limit (ap (λ (z : Option LimitKind). option_map limit_answer z)
     (large_text most bytes long) ∙ ap (λ (z : Answer). Some z) e)
 
 -- a yes is a proof
@@ -61,6 +61,12 @@ pub said : {R E : Type 0} (status_in : R → Status) (line_in : R → List ℕ)
     → IfOk r (λ x. Answer (status_in x) (line_in x))
 said status_in line_in Answer s output (Ok x) a e f = rw (e, f) a
 said status_in line_in Answer s output (Err x) a e f = tt
+
+-- a line that is another
+pub same_line : {R E : Type 0} (line_in : R → List ℕ) (a b : List ℕ) (r : Result R E) → a ≡ b
+    → IfOk r (λ x. line_in x ≡ a) → IfOk r (λ x. line_in x ≡ b)
+same_line line_in a b (Ok x) e h = h ∙ e
+same_line line_in a b (Err x) e h = tt
 
 -- the status isn't that of bad words
 abbrev AreNoWords : Status → Type 0

@@ -10,3 +10,5 @@ pub mod Running
 pub mod Counts
 pub mod Spelling
 pub mod Tested
+pub mod Refusing
+pub mod Verdicts

@@ -19,7 +19,7 @@ use Rattle.model_answers.specs.Texts.{text_limit, theory_limit, IsFile}
 use Rattle.model_answers.specs.Output.{bad_text_line, bad_document_text_line, accepted_line, unbuilt_line, gap_line}
 use Rattle.proof_text.proofs.Exact.{one_theory}
 use Rattle.logic_text.proofs.Exact.{at_most_one}
-use Rattle.domcheck_core.specs.Answers.{Books, Answer, limit_answer, fault_answer, Unread, passes_limit, spells_nothing, theory_refusal, NoFile, unread, refused, Verdict, is_unbuilt, says_yes, has_gap, says_no, CheckAnswer, no_file, judged, grove_answer, DocumentAnswer, no_document, is_document, IsCalled, NotCalled, RunAnswer, not_run, not_called, is_called, IsAnswer, bad_words, checked, ran, IsToldBook, IsTold}
+use Rattle.domcheck_core.specs.Answers.{Books, Answer, limit_answer, fault_answer, Unread, over_limit, spells_nothing, theory_refusal, NoFile, unread, refused, Verdict, is_unbuilt, says_yes, has_gap, says_no, CheckAnswer, no_file, judged, grove_answer, DocumentAnswer, no_document, is_document, IsCalled, NotCalled, RunAnswer, not_run, not_called, is_called, IsAnswer, bad_words, checked, ran, IsToldBook, IsTold}
 use Rattle.domcheck_core.specs.declared.status.Status.{Status}
 
 -- values in options
@@ -68,16 +68,16 @@ module _ {A : Type 0} (Spells : A → List Lexeme → Type 0) where
     -- a text that is read has no other answer
     pub not_unread : (s : Status) (o : List ℕ) (a : A) → text_limit most bytes ≡ None
         → Spells a (lexemes_of bytes) → Unread Spells most bad_line bytes s o → ⊥
-    not_unread s o a e spelled (passes_limit f) = unlimited (text_limit most bytes) (s, o) e f
+    not_unread s o a e spelled (over_limit f) = unlimited (text_limit most bytes) (s, o) e f
     not_unread s o a e spelled (spells_nothing token f none fault) = none a spelled
 
     one_unread : (s t : Status) (o p : List ℕ) → Unread Spells most bad_line bytes s o
         → Unread Spells most bad_line bytes t p → Equal s o t p
-    one_unread s t o p (passes_limit e) (passes_limit f) =
+    one_unread s t o p (over_limit e) (over_limit f) =
         some_pair s t o p (option_map limit_answer (text_limit most bytes)) e f
-    one_unread s t o p (passes_limit e) (spells_nothing k f none fault) =
+    one_unread s t o p (over_limit e) (spells_nothing k f none fault) =
         absurd (unlimited (text_limit most bytes) (s, o) f e)
-    one_unread s t o p (spells_nothing k e none fault) (passes_limit f) =
+    one_unread s t o p (spells_nothing k e none fault) (over_limit f) =
         absurd (unlimited (text_limit most bytes) (t, p) e f)
     one_unread s t o p (spells_nothing k e none fault) (spells_nothing l f never other) =
         (refl, ap bad_line (one_fault_token (lexemes_of bytes) k l fault other))

@@ -72,25 +72,22 @@ ran theory f values fuel document roots config results r begins e q h =
     (sym q) c
 
 -- the answer of the outcome is the answer on the document, and so is what is refused
-module _ {A E : Type 0} (theory : Theory) (f : ProcedureOf Named) (values : List Value) (fuel : ℕ)
-    (document : Trees) (of : A → Answer) where
-  pub on_grove : (results : List ProgVar) (reply : Result A E)
+module _ (theory : Theory) (f : ProcedureOf Named) (values : List Value) (fuel : ℕ)
+    (document : Trees) where
+  pub on_grove : {A E : Type 0} (of : A → Answer) (results : List ProgVar) (reply : Result A E)
       → refusal document ≡ None → results ≡ f.results
       → IfOk reply (λ x.
       outcome_answer results (outcome_on theory f values fuel document) ≡ Some (of x))
       → IfOk reply (λ x. grove_answer theory f values fuel document ≡ Some (of x))
-  on_grove results (Ok x) passes e h =
+  on_grove of results (Ok x) passes e h =
       let answer = λ (z : List ProgVar). outcome_answer z
       (outcome_on theory f values fuel document) in
       ap (λ (z : Option Answer). or_else z (answer f.results)) passes
       ∙ subst (λ (z : List ProgVar). answer z ≡ Some (of x)) e h
-  on_grove results (Err x) passes e h = tt
+  on_grove of results (Err x) passes e h = tt
 
-  pub refused : (s : Status) (line : List ℕ) (reply : Result A E)
-      → refusal document ≡ Some (s, line)
-      → IfOk reply (λ x. of x ≡ (s, line))
-      → IfOk reply (λ x. grove_answer theory f values fuel document ≡ Some (of x))
-  refused s line (Ok x) h e =
+  pub refused : (s : Status) (line : List ℕ) → refusal document ≡ Some (s, line)
+      → grove_answer theory f values fuel document ≡ Some (s, line)
+  refused s line h =
       let answer = outcome_answer f.results (outcome_on theory f values fuel document) in
-      ap (λ (z : Option Answer). or_else z answer) h ∙ ap (λ (z : Answer). Some z) (sym e)
-  refused s line (Err x) h e = tt
+      ap (λ (z : Option Answer). or_else z answer) h

@@ -54,7 +54,7 @@ limit_answer kind = (status.Limit (limit_named kind), limit_line kind)
 -- which so many brackets may be open; with the line for its fault token
 pub data Unread {A : Type 0} (Spells : A → List Lexeme → Type 0) (most : ℕ)
     (bad_line : ℕ → List ℕ) (bytes : List ℕ) : Status → List ℕ → Type 0 where
-  passes_limit : {s : Status} {output : List ℕ}
+  over_limit : {s : Status} {output : List ℕ}
       → option_map limit_answer (text_limit most bytes) ≡ Some (s, output)
       → Unread Spells most bad_line bytes s output
   spells_nothing : (token : ℕ) → text_limit most bytes ≡ None

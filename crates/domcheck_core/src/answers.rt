@@ -72,7 +72,7 @@ pub fn answer_words<L: Library>(
         ) => run(
             alloc, library, &file, &procedure, &document, fuel, &arguments,
         ),
-        Err(WordFault::BadWords) => Ok(reported(alloc, Status::BadWords, &Report::BadWords)?),
+        Err(WordFault::BadWords) => Ok(reported(alloc, Status::BadWords, Report::BadWords)?),
         Err(WordFault::OutOfMemory) => Err(Refusal::OutOfMemory),
     }
 }

@@ -17,7 +17,11 @@ use std::alloc::Global;
 use theory_syntax::Theory;
 
 // The answer where the first bad place is a gap: that step of that procedure, each counted from 1.
-fn gap(alloc: Global, theory: &Theory, procedure: u32, step: u32) -> Result<Reply, OutOfMemory> {
+fn gap(alloc: Global, theory: &Theory, procedure: u32, step: u32) -> Result<Reply, OutOfMemory>
+    requires stands { GapStands theory.now procedure step }
+    requires built { first_unbuilt (theory_of theory.now) ≡ None }
+    ensures { IfOk result (λ r. Verdict (theory_of theory.now) r.status r.output) }
+{
     let Some(procedure) = theory.procedures.get(procedure as usize - 1) else {
         unreachable!();
     };
@@ -29,7 +33,7 @@ fn gap(alloc: Global, theory: &Theory, procedure: u32, step: u32) -> Result<Repl
         procedure: procedure.name.copy(alloc)?,
         line: step.line,
     };
-    reported(alloc, Status::GapLeft, &report)
+    reported(alloc, Status::GapLeft, report)
 }
 
 // The answer on a theory whose rules are all checked.
@@ -41,7 +45,7 @@ fn judge(alloc: Global, theory: &Theory) -> Result<Reply, OutOfMemory>
     match check_theory(alloc, theory) {
         Ok(counts) => accepted(alloc, counts.procedures, counts.steps),
         Err(Refusal::Gap { procedure, step }) => gap(alloc, theory, procedure, step),
-        Err(Refusal::NotAccepted) => reported(alloc, Status::StepFails, &Report::NotAccepted),
+        Err(Refusal::NotAccepted) => reported(alloc, Status::StepFails, Report::NotAccepted),
         Err(Refusal::OutOfMemory) => Err(OutOfMemory),
     }
 }
@@ -54,7 +58,7 @@ fn verdict(alloc: Global, theory: &Theory) -> Result<Reply, OutOfMemory>
     match first_unbuilt(theory) {
         Some(Unbuilt { procedure, step }) => {
             let report = Report::Unbuilt { procedure, step };
-            reported(alloc, Status::BadFile, &report)
+            reported(alloc, Status::BadFile, report)
         }
         None => judge(alloc, theory),
     }

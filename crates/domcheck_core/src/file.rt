@@ -2,7 +2,7 @@
 ghost use Rattle.std.specs.Prelude.{◌≡◌, ℕ, List, None, IfOk, IfErr};
 ghost use Rattle.model_text.specs.Nesting.{lexemes_of};
 ghost use Rattle.model_grammar.specs.Theories.{SpellsTheory};
-ghost use Rattle.model_answers.specs.Texts.{IsFile};
+ghost use Rattle.model_answers.specs.Texts.{IsFile, text_limit};
 ghost use Rattle.model_answers.specs.Output.{bad_text_line};
 ghost use Rattle.model_files.specs.Sizes.{TheoryIsSmall};
 ghost use Rattle.model_limits.specs.Limits.{standard_limits};

@@ -1,8 +1,8 @@
 // Answers with what is written, and why there is none.
-ghost use Rattle.std.specs.Prelude.{◌≡◌, ℕ, List, IfOk, string_bytes};
+ghost use Rattle.std.specs.Prelude.{◌≡◌, IfOk, string_bytes};
 ghost use Rattle.model_answers.specs.Output.{line, accepted_text};
 ghost use Rattle.fault_report.specs.Lines.{line_of};
-ghost use Rattle.domcheck_core.specs.Refusals.{IfAnswer};
+ghost use Rattle.domcheck_core.specs.Refusals.{Answers};
 ghost use Rattle.domcheck_core.specs.declared.replies.Refusal.TheVariants.{OutOfMemory};
 ghost use Rattle.domcheck_core.specs.declared.replies.Refused.TheVariants.{OutOfMemory as RanOut};
 
@@ -54,22 +54,30 @@ impl From<OutOfMemory> for Refusal {
     }
 }
 
-/// The answer of a status with the line of a report.
-pub fn reported(alloc: Global, status: Status, report: &Report) -> Result<Reply, OutOfMemory>
-    ensures status { IfOk result (λ r. r.status ≡ status) }
-    ensures output { IfOk result (λ r. r.output ≡ line_of report.now) }
+// The line of a report, which is let go here and nowhere else: a report may hold a command, and
+// each place where one is let go is dear to prove.
+fn report_line(alloc: Global, report: Report) -> Result<Text, OutOfMemory>
+    ensures { IfOk result (λ text. line text ≡ line_of report) }
 {
-    let mut output = status_line(alloc, report)?;
+    status_line(alloc, &report)
+}
+
+/// The answer of a status with the line of a report.
+pub fn reported(alloc: Global, status: Status, report: Report) -> Result<Reply, OutOfMemory>
+    ensures status { IfOk result (λ r. r.status ≡ status) }
+    ensures output { IfOk result (λ r. r.output ≡ line_of report) }
+{
+    let mut output = report_line(alloc, report)?;
     output.push('\n')?;
     Ok(Reply { status, output })
 }
 
 /// The answer to what is refused.
 pub fn answered(alloc: Global, why: Refused) -> Result<Reply, OutOfMemory>
-    ensures { IfOk result (λ r. IfAnswer why (λ s output. (r.status ≡ s) × (r.output ≡ output))) }
+    ensures { IfOk result (λ r. Answers why (λ s output. (r.status ≡ s) × (r.output ≡ output))) }
 {
     match why {
-        Refused::Answer(status, report) => reported(alloc, status, &report),
+        Refused::Answer(status, report) => reported(alloc, status, report),
         Refused::OutOfMemory => Err(OutOfMemory),
     }
 }

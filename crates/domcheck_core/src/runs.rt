@@ -49,7 +49,7 @@ fn open_theory(
     match read_call(alloc, &theory, procedure, arguments)? {
         Some(call) => Ok(Opened::Called(theory, call)),
         None => {
-            let reply = reported(alloc, Status::BadWords, &Report::BadWords)?;
+            let reply = reported(alloc, Status::BadWords, Report::BadWords)?;
             Ok(Opened::Answered(reply))
         }
     }
@@ -118,12 +118,12 @@ fn outcome_reply(
                 steps,
                 command,
             };
-            reported(alloc, Status::Faulted, &report)
+            reported(alloc, Status::Faulted, report)
         }
         Outcome::Spent { .. } => {
-            reported(alloc, Status::FuelSpent, &Report::FuelSpent { steps: fuel })
+            reported(alloc, Status::FuelSpent, Report::FuelSpent { steps: fuel })
         }
-        Outcome::Limit(kind) => reported(alloc, Status::Limit(kind), &Report::Limit { kind }),
+        Outcome::Limit(kind) => reported(alloc, Status::Limit(kind), Report::Limit { kind }),
         Outcome::OutOfMemory => Err(OutOfMemory),
     }
 }

@@ -1,4 +1,7 @@
-use Rattle.domcheck_core.specs.Answers.{CheckAnswer, reads_nothing}
+use Rattle.model_limits.specs.Limits.{standard_limits}
+use Rattle.model_grammar.specs.Theories.{SpellsTheory}
+use Rattle.model_answers.specs.Output.{bad_text_line}
+use Rattle.domcheck_core.specs.Answers.{CheckAnswer, no_file, unread}
 use Rattle.domcheck_core.proofs.Judged.{too_large}
 use Rattle.domcheck_core.proofs.Reading.{in_hand, weaker}
 use Rattle.domcheck_core.proofs.books.check_book.Goals as goal
@@ -11,9 +14,10 @@ returns-in_ok-check_bytes-in-Some-clause-answer g c =
     (rw (c.in-Some.is, c.as_str.ensures) at c.in_ok-bytes.ensures.read)
     c.deref.ensures.value c.in_ok-check_bytes-in-Some.ensures.answer
 
-pub returns-in_ok-bad_text-in-None-clause-answer : goal.returns-in_ok-bad_text-in-None-clause-answer
-returns-in_ok-bad_text-in-None-clause-answer g c =
+pub returns-in_ok-too_large-in-None-clause-answer :
+    goal.returns-in_ok-too_large-in-None-clause-answer
+returns-in_ok-too_large-in-None-clause-answer g c =
     weaker _ _ _ (λ b long.
-    rw (c.in_ok-bad_text-in-None.ensures.status, c.in_ok-bad_text-in-None.ensures.output)
-    (reads_nothing (too_large b long)))
+    no_file (unread (too_large SpellsTheory standard_limits.file_nesting bad_text_line b _ _ long
+    c.in_ok-too_large-in-None.ensures)))
     (rw (c.in-None.is, c.as_str.ensures) at c.in_ok-bytes.ensures.read)

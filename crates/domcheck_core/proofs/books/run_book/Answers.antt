@@ -1,6 +1,9 @@
-use Rattle.domcheck_core.specs.Answers.{document_unread}
+use Rattle.model_limits.specs.Limits.{standard_limits}
+use Rattle.model_documents.specs.Grammar.{SpellsGrove}
+use Rattle.model_answers.specs.Output.{bad_document_text_line}
+use Rattle.domcheck_core.specs.Answers.{no_document}
 use Rattle.domcheck_core.specs.Calls.{CallAnswer}
-use Rattle.domcheck_core.proofs.Judged.{no_large_document}
+use Rattle.domcheck_core.proofs.Judged.{too_large}
 use Rattle.domcheck_core.proofs.Reading.{in_hand, weaker}
 use Rattle.domcheck_core.proofs.books.run_book.Goals as goal
 
@@ -13,9 +16,10 @@ returns-in_ok-run_document-in-Some-clause-answer g c =
     (rw (c.in-Some.is, c.as_str.ensures) at c.in_ok-bytes.ensures.read)
     c.deref.ensures.value c.in_ok-run_document-in-Some.ensures
 
-pub returns-in_ok-reported-in-None-clause-answer : goal.returns-in_ok-reported-in-None-clause-answer
-returns-in_ok-reported-in-None-clause-answer g c =
+pub returns-in_ok-too_large-in-None-clause-answer :
+    goal.returns-in_ok-too_large-in-None-clause-answer
+returns-in_ok-too_large-in-None-clause-answer g c =
     weaker _ _ _ (λ b long p e.
-    rw (c.in_ok-reported-in-None.ensures.status, c.in_ok-reported-in-None.ensures.output)
-    (document_unread (no_large_document b long)))
+    no_document (too_large SpellsGrove standard_limits.document_nesting bad_document_text_line b _ _
+    long c.in_ok-too_large-in-None.ensures))
     (rw (c.in-None.is, c.as_str.ensures) at c.in_ok-bytes.ensures.read)

@@ -1,27 +1,23 @@
-use Rattle.std.proofs.Common.{◌≡◌, true, false, Bool}
+use Rattle.std.proofs.lemmas.Result.{IfOk-weaker}
+use Rattle.std.proofs.Common.{◌≡◌, ◌∙◌, refl, sym}
 use Rattle.theory_syntax.specs.Theories.{theory_of}
-use Rattle.domcheck_core.specs.Answers.{CheckAnswer, says_yes, says_no}
-use Rattle.domcheck_core.proofs.Counts.{few_lexemes}
-use Rattle.model_grammar.proofs.Sizes.{theory_small}
-use Rattle.domcheck_core.proofs.Judged.{said}
+use Rattle.domcheck_core.specs.Answers.{Verdict, says_yes, says_no}
+use Rattle.domcheck_core.proofs.Judged.{said, same_line}
+use Rattle.domcheck_core.proofs.Verdicts.{accepted_counts}
 use Rattle.domcheck_core.proofs.checks.judge.Goals as goal
 
-not_both : (b : Bool) → b ≡ false → b ≡ true → ⊥
-not_both b e f = cc
+pub returns-in-Ok : goal.returns-in-Ok
+returns-in-Ok c =
+    said (λ r. r.status) (λ r. r.output) (Verdict (theory_of c.args.theory.now)) _ _
+    c.accepted.result (says_yes c.requires.built c.in-Ok.ensures.accepted)
+    c.accepted.ensures.status
+    (same_line (λ r. r.output) _ _ c.accepted.result (accepted_counts c.args.theory.now
+    c.in-Ok.counts.procedures c.in-Ok.counts.steps c.in-Ok.ensures.counts.0
+    c.in-Ok.ensures.counts.1) c.accepted.ensures.output)
 
-pub is_accepted-requires : goal.is_accepted-requires
-is_accepted-requires c = theory_small c.requires.1.spelled
-    (few_lexemes c.requires.0 c.requires.1.small)
-
-pub returns-then-branch : goal.returns-then-branch
-returns-then-branch c = λ bytes spells.
-    said (λ r. r.status) (λ r. r.output) (CheckAnswer bytes) _ _ c.accepted.result
-    (says_yes (theory_of c.args.theory.now) spells (c.in_ok-is_accepted.ensures.0 c.if-branch.true))
-    c.accepted.ensures.status c.accepted.ensures.output
-
-pub returns-else-branch : goal.returns-else-branch
-returns-else-branch c = λ bytes spells.
-    said (λ r. r.status) (λ r. r.output) (CheckAnswer bytes) _ _ c.reported.result
-    (says_no (theory_of c.args.theory.now) spells
-    (λ a. not_both _ c.if-branch.false (c.in_ok-is_accepted.ensures.1 a)))
+pub returns-in-Err-NotAccepted : goal.returns-in-Err-NotAccepted
+returns-in-Err-NotAccepted c =
+    let why = rw c.in-Err-NotAccepted.field-0-is at c.in-Err-NotAccepted.ensures.refused in
+    said (λ r. r.status) (λ r. r.output) (Verdict (theory_of c.args.theory.now)) _ _
+    c.reported.result (says_no c.requires.built why.0 why.1)
     c.reported.ensures.status c.reported.ensures.output

@@ -1,50 +1,27 @@
-use Rattle.std.proofs.Common.{◌≡◌, ◌∙◌, sym, subst, refl, List, true, false, Bool, arith}
-use Rattle.model_text.specs.Lexemes.{Lexeme}
-use Rattle.model_grammar.specs.Theories.{SpellsTheory}
-use Rattle.model_grammar.specs.Files.{IsOfForm}
-use Rattle.model_grammar.proofs.Sizes.{theory_small}
+use Rattle.std.proofs.lemmas.Result.{err_from_is_err_and}
 use Rattle.theory_syntax.specs.Theories.{theory_of}
-use Rattle.proof_text.proofs.Exact.{one_theory}
-use Rattle.domcheck_core.proofs.Counts.{few_lexemes}
-use Rattle.domcheck_core.proofs.Spelling.{same_lexemes}
-use Rattle.domcheck_core.proofs.Tested.{none_passes, one_passes}
+use Rattle.domcheck_core.specs.Answers.{NoFile}
+use Rattle.domcheck_core.specs.Refusals.{IfAnswer}
+use Rattle.domcheck_core.proofs.Refusing.{handed_on, unread_file, refused_file, is_file}
 use Rattle.domcheck_core.proofs.file.read_file.Goals as goal
 
-not_both : (b : Bool) → b ≡ false → b ≡ true → ⊥
-not_both b e f = cc
+pub returns-in_err-theory-clause-told : goal.returns-in_err-theory-clause-told
+returns-in_err-theory-clause-told c =
+    let p = err_from_is_err_and c.from_residual.result c.from_residual.ensures.1 in
+    handed_on (λ e. IfAnswer e (NoFile c.args.bytes.now)) c.from_residual.result p.0
+    c.in_err-theory.field-0.0 p.1 p.2
+    (unread_file c.args.bytes.now c.in_err-theory.field-0.0 c.in_err-theory.ensures.told)
 
-pub is_of_form-requires : goal.is_of_form-requires
-is_of_form-requires c =
-    theory_small (subst (λ (z : List Lexeme). SpellsTheory (theory_of c.in-Ok.theory) z)
-    (same_lexemes c.args.bytes.now _ c.in_ok-tokens.ensures) c.in-Ok.ensures.found)
-    (few_lexemes c.args.bytes.now (omega arith))
+pub returns-in_err-admit-clause-told : goal.returns-in_err-admit-clause-told
+returns-in_err-admit-clause-told c =
+    let p = err_from_is_err_and c.from_residual-in_err-admit.result
+    c.from_residual-in_err-admit.ensures.1 in
+    handed_on (λ e. IfAnswer e (NoFile c.args.bytes.now)) c.from_residual-in_err-admit.result p.0
+    c.in_err-admit.field-0.0 p.1 p.2
+    (refused_file c.args.bytes.now (theory_of c.in_ok-theory.theory) c.in_err-admit.field-0.0
+    c.in_ok-theory.ensures.reads c.in_ok-theory.ensures.spelled c.in_err-admit.ensures.told)
 
-pub returns-then-branch : goal.returns-then-branch
-returns-then-branch c = record {
-  small = omega arith;
-  tokens = none_passes 100 c.args.bytes.now _ c.token_limit.result c.token_limit.ensures
-      c.in_ok-tokens.ensures (sym c.is_some.ensures ∙ c.if-is_some.false);
-  spelled = subst (λ (z : List Lexeme). SpellsTheory (theory_of c.in-Ok.theory) z)
-      (same_lexemes c.args.bytes.now _ c.in_ok-tokens.ensures) c.in-Ok.ensures.found;
-  of_form = c.in_ok-is_of_form-in-Ok.ensures.0 c.if-branch.true;
-}
-
-pub returns-in-Ok : goal.returns-in-Ok
-returns-in-Ok c = λ t spells.
-    let same : t ≡ theory_of c.in-Ok.theory =
-    one_theory _ t (theory_of c.in-Ok.theory) spells.spelled
-    (subst (λ (z : List Lexeme). SpellsTheory (theory_of c.in-Ok.theory) z)
-    (same_lexemes c.args.bytes.now _ c.in_ok-tokens.ensures) c.in-Ok.ensures.found) in
-    not_both _ c.if-branch.false
-    (c.in_ok-is_of_form-in-Ok.ensures.1 (subst IsOfForm same spells.of_form))
-
-pub returns-in-Err-BadText : goal.returns-in-Err-BadText
-returns-in-Err-BadText c = λ t spells.
-    (rw c.in-Err-BadText.field-0-is at c.in-Err-BadText.ensures.bad_text) t
-    (subst (λ (z : List Lexeme). SpellsTheory t z)
-    (sym (same_lexemes c.args.bytes.now _ c.in_ok-tokens.ensures)) spells.spelled)
-
-pub returns-then-is_some : goal.returns-then-is_some
-returns-then-is_some c = λ t spells.
-    one_passes 100 c.args.bytes.now _ c.token_limit.result c.token_limit.ensures
-    c.in_ok-tokens.ensures (sym c.is_some.ensures ∙ c.if-is_some.true) spells.tokens
+pub returns-clause-is : goal.returns-clause-is
+returns-clause-is c =
+    is_file c.args.bytes.now (theory_of c.in_ok-theory.theory) c.in_ok-theory.ensures.reads
+    c.in_ok-theory.ensures.spelled c.in_ok-admit.ensures.passes
