@@ -1,5 +1,5 @@
 -- What follows from an answer: the clauses of the calls.
-use Rattle.std.proofs.Common.{◌≡◌, ◌∙◌, inl, ℕ, ◌<◌, Bool, true, List, Option, Some, None, option_map, refl, sym, ap, subst, length, Result, Ok, Err, IfOk}
+use Rattle.std.proofs.Common.{◌≡◌, ◌∙◌, inl, ℕ, ◌<◌, true, List, Option, Some, None, option_map, refl, sym, ap, subst, length, Result, Ok, Err, IfOk}
 use Rattle.model_commands.specs.Theories.{Theory}
 use Rattle.dom_terms.specs.declared.limits.LimitKind as own
 use Rattle.outside_io.specs.Causes.{Told}
@@ -9,7 +9,7 @@ use Rattle.model_answers.specs.Words.{Request, check, run}
 use Rattle.model_text.specs.Lexemes.{Lexeme}
 use Rattle.model_limits.specs.Limits.{LimitKind, file_limit}
 use Rattle.model_answers.specs.Texts.{IsFile}
-use Rattle.domcheck_core.specs.Answers.{Books, Answer, limit_answer, Unread, over_limit, NoFile, Verdict, is_unbuilt, says_yes, has_gap, says_no, CheckAnswer, no_file, judged, DocumentAnswer, IsCalled, NotCalled, RunAnswer, not_run, not_called, is_called, IsAnswer, checked, ran, IsToldBook, IsTold}
+use Rattle.domcheck_core.specs.Answers.{Books, Answer, limit_answer, Unread, over_limit, Verdict, is_unbuilt, says_yes, has_gap, says_no, CheckAnswer, no_file, judged, DocumentAnswer, IsCalled, NotCalled, RunAnswer, not_run, not_called, is_called, IsAnswer, checked, ran, IsToldBook, IsTold}
 use Rattle.domcheck_core.specs.Books.{IsReply}
 use Rattle.domcheck_core.specs.Clauses.{OfFile, IsProved, ExactlyWhere, BadWordsExactly, IsAnswered, Wrote}
 use Rattle.outside_io.specs.Pieces.{Took}

@@ -1,6 +1,5 @@
 -- A request has at most one answer.
-use Rattle.std.proofs.Common.{◌≡◌, ◌+◌, ◌≤◌, ℕ, zero, suc, ◌<◌, List, Option, Some, None, option_map, refl, sym, ap, ◌∙◌, subst, arith, length}
-use Rattle.model_shapes.specs.Trees.{Trees}
+use Rattle.std.proofs.Common.{◌≡◌, ℕ, zero, suc, ◌<◌, List, Option, Some, None, option_map, refl, sym, ap, ◌∙◌, subst, arith}
 use Rattle.model_shapes.specs.Values.{Value}
 use Rattle.model_limits.specs.Limits.{LimitKind}
 use Rattle.model_limits.specs.FirstOf.{or_else}
@@ -16,7 +15,7 @@ use Rattle.model_grammar.specs.Theories.{SpellsTheory}
 use Rattle.model_answers.specs.Words.{Request}
 use Rattle.model_answers.specs.Arguments.{called}
 use Rattle.model_answers.specs.Texts.{text_limit, theory_limit, IsFile}
-use Rattle.model_answers.specs.Output.{bad_text_line, bad_document_text_line, accepted_line, unbuilt_line, gap_line}
+use Rattle.model_answers.specs.Output.{bad_text_line, bad_document_text_line, unbuilt_line, gap_line}
 use Rattle.proof_text.proofs.Exact.{one_theory}
 use Rattle.logic_text.proofs.Exact.{at_most_one}
 use Rattle.domcheck_core.specs.Answers.{Books, Answer, limit_answer, fault_answer, Unread, over_limit, spells_nothing, theory_refusal, NoFile, unread, refused, Verdict, is_unbuilt, says_yes, has_gap, says_no, CheckAnswer, no_file, judged, grove_answer, DocumentAnswer, no_document, is_document, IsCalled, NotCalled, RunAnswer, not_run, not_called, is_called, IsAnswer, bad_words, checked, ran, IsToldBook, IsTold}

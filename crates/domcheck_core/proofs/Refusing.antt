@@ -1,5 +1,5 @@
 -- Refusals, handed on and read.
-use Rattle.std.proofs.Common.{◌≡◌, ◌∙◌, ℕ, ◌<◌, ◌≤◌, List, Option, Some, None, option_map, refl, sym, ap, subst, Result, Ok, Err, IfErr, IfOk, length}
+use Rattle.std.proofs.Common.{◌≡◌, ℕ, List, Option, Some, None, option_map, refl, sym, subst, Result, Ok, Err, IfErr, IfOk}
 use Rattle.model_limits.specs.Limits.{LimitKind, standard_limits}
 use Rattle.model_commands.specs.Theories.{Theory}
 use Rattle.model_text.specs.Lexemes.{Lexeme}

@@ -18,7 +18,7 @@ use Rattle.model_answers.specs.Output.{range_line, repeat_line}
 use Rattle.model_text.specs.Lexemes.{Lexeme}
 use Rattle.model_files.specs.FileFaults.{FileFault, first_file_fault}
 use Rattle.model_answers.specs.Texts.{text_limit, theory_limit}
-use Rattle.domcheck_core.specs.Answers.{Books, IsAnswer, bad_words, Answer, limit_answer, fault_answer, Unread, over_limit, spells_nothing, theory_refusal, NoFile, unread, refused, Verdict, is_unbuilt, says_yes, has_gap, says_no, CheckAnswer, no_file, judged, outcome_answer, outcome_on, range_refusal, repeat_refusal, size_refusal, refusal, grove_answer, DocumentAnswer, no_document, is_document, RunAnswer, not_run, not_called, is_called}
+use Rattle.domcheck_core.specs.Answers.{Books, IsAnswer, bad_words, Answer, limit_answer, fault_answer, Unread, over_limit, spells_nothing, NoFile, unread, refused, Verdict, is_unbuilt, says_yes, has_gap, says_no, CheckAnswer, no_file, judged, outcome_answer, outcome_on, range_refusal, repeat_refusal, size_refusal, refusal, grove_answer, DocumentAnswer, no_document, is_document, RunAnswer, not_run, not_called, is_called}
 use Rattle.domcheck_core.specs.Clauses.{statuses, ReadRose}
 use Rattle.domcheck_core.specs.Books.{IsReply}
 use Rattle.domcheck_core.specs.Numbers.{number_of}

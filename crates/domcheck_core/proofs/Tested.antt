@@ -1,5 +1,5 @@
 -- The limits of a text, as those of its bytes and its tokens, and the answers to them.
-use Rattle.std.proofs.Common.{◌≡◌, ◌≤◌, ◌<◌, ◌∙◌, ℕ, List, map, Bool, ap, sym, subst, Option, Some, None, option_map, refl, length}
+use Rattle.std.proofs.Common.{◌≡◌, ◌≤◌, ◌<◌, ◌∙◌, ℕ, List, map, Bool, ap, sym, subst, Option, Some, option_map, refl, length}
 use Rattle.std.proofs.lemmas.Bool.{le-leb, lt-leb}
 use Rattle.model_limits.specs.Limits.{LimitKind, file_limit, standard_limits}
 use Rattle.model_limits.specs.FirstOf.{or_else, unless}
@@ -14,7 +14,7 @@ use Rattle.dom_terms.specs.Limits.{NamesLimit, limit_kind_of}
 use Rattle.text_tokens.specs.declared.tokens.Token.{Token}
 use Rattle.text_tokens.specs.Tokens.{token_of}
 use Rattle.text_tokens.specs.Lexemes.{lexemes_in}
-use Rattle.domcheck_core.specs.Answers.{Answer, limit_named, limit_answer}
+use Rattle.domcheck_core.specs.Answers.{limit_named, limit_answer}
 use Rattle.domcheck_core.proofs.Spelling.{same_lexemes}
 use Rattle.domcheck_core.specs.declared.status.Status.TheVariants as status
 

@@ -1,9 +1,8 @@
 -- Verdicts on the theory of a file, from what the kernel answers.
-use Rattle.std.proofs.Common.{◌≡◌, ◌∙◌, ℕ, ◌-◌, List, map, Option, Some, None, option_map, refl, sym, ap, subst, slice_get, length}
+use Rattle.std.proofs.Common.{◌≡◌, ◌∙◌, ℕ, ◌-◌, Option, Some, None, sym, ap, subst, slice_get, length}
 use Rattle.std.proofs.lemmas.List.{length-map}
 use Rattle.model_commands.specs.Theories.{nameless_procedure, nameless_step}
 use Rattle.model_files.specs.FileLimits.{step_count}
-use Rattle.model_rules.specs.Accepted.{IsAccepted}
 use Rattle.model_rules.specs.Checked.{first_unbuilt}
 use Rattle.model_answers.specs.Output.{line, accepted_text, accepted_line, gap_line}
 use Rattle.theory_syntax.specs.declared.steps.Step.{Step}
@@ -12,7 +11,7 @@ use Rattle.theory_syntax.specs.declared.theories.Theory.{Theory}
 use Rattle.theory_syntax.specs.Judgements.{step_of}
 use Rattle.theory_syntax.specs.Theories.{procedure_of, theory_of}
 use Rattle.hoare_kernel.specs.Refusals.{GapStands}
-use Rattle.domcheck_core.specs.Answers.{Verdict, has_gap, says_yes}
+use Rattle.domcheck_core.specs.Answers.{Verdict, has_gap}
 use Rattle.domcheck_core.specs.declared.status.Status.TheVariants as status
 
 some_same : {A : Type 0} (a b : A) → Some a ≡ Some b → a ≡ b

@@ -61,10 +61,11 @@ pub data Unread {A : Type 0} (Spells : A → List Lexeme → Type 0) (most : ℕ
       → ((a : A) → Spells a (lexemes_of bytes) → ⊥) → IsFaultToken Spells (lexemes_of bytes) token
       → Unread Spells most bad_line bytes status.BadText (bad_line token)
 
--- the answer to a theory that no file may have: its first fault, or else the limit that it passes
+-- the answer to a fault of a file
 abbrev pub fault_answer : FileFault → Answer
 fault_answer fault = (status.BadFile, file_fault_line fault)
 
+-- the answer to a theory that no file may have: its first fault, or else the limit that it passes
 abbrev pub theory_refusal : Theory → Option Answer
 theory_refusal theory = or_else (option_map fault_answer (first_file_fault theory))
     (option_map limit_answer (theory_limit theory))

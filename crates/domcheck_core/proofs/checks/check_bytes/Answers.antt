@@ -1,7 +1,6 @@
 use Rattle.std.proofs.lemmas.Result.{IfOk-weaker}
-use Rattle.std.proofs.Common.{IfOk}
 use Rattle.theory_syntax.specs.Theories.{theory_of}
-use Rattle.domcheck_core.specs.Answers.{CheckAnswer, NoFile, judged, no_file}
+use Rattle.domcheck_core.specs.Answers.{NoFile, judged, no_file}
 use Rattle.domcheck_core.proofs.Judged.{sound}
 use Rattle.domcheck_core.proofs.OneAnswer.{one_check}
 use Rattle.domcheck_core.proofs.Refusing.{told}

@@ -1,5 +1,3 @@
-use Rattle.std.proofs.lemmas.Result.{IfOk-weaker}
-use Rattle.std.proofs.Common.{◌≡◌, ◌∙◌, refl, sym}
 use Rattle.theory_syntax.specs.Theories.{theory_of}
 use Rattle.domcheck_core.specs.Answers.{Verdict, says_yes, says_no}
 use Rattle.domcheck_core.proofs.Judged.{said, same_line}

@@ -1,4 +1,4 @@
-use Rattle.std.proofs.Common.{subst, List, ◌≡◌, arith}
+use Rattle.std.proofs.Common.{subst, List}
 use Rattle.std.proofs.lemmas.Result.{err_from_is_err_and}
 use Rattle.model_limits.specs.Limits.{standard_limits}
 use Rattle.model_text.specs.Lexemes.{Lexeme}

@@ -1,9 +1,7 @@
-use Rattle.std.proofs.Common.{◌≡◌, ◌∙◌, ap, map, Some}
-use Rattle.dom_terms.specs.Terms.{prog_var_of}
-use Rattle.dom_terms.specs.Values.{value_seen}
+use Rattle.std.proofs.Common.{◌≡◌, Some}
 use Rattle.theory_syntax.specs.declared.theories.Procedure.{Procedure}
-use Rattle.theory_syntax.specs.Theories.{procedure_of, theory_of}
-use Rattle.domcheck_core.proofs.Outcomes.{whole, ran, on_grove, refused}
+use Rattle.theory_syntax.specs.Theories.{theory_of}
+use Rattle.domcheck_core.proofs.Outcomes.{whole}
 use Rattle.domcheck_core.proofs.runs.run_on.Goals as goal
 
 pub outcome_reply-requires : goal.outcome_reply-requires

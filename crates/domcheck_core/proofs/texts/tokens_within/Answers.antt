@@ -1,6 +1,6 @@
 use Rattle.std.proofs.Common.{Some, None, arith}
 use Rattle.domcheck_core.proofs.Spelling.{same_lexemes}
-use Rattle.domcheck_core.proofs.Tested.{large_text, limit_of_tokens, past_limit}
+use Rattle.domcheck_core.proofs.Tested.{limit_of_tokens, past_limit}
 use Rattle.domcheck_core.proofs.texts.tokens_within.Goals as goal
 
 pub returns-in-Some-clause-told : goal.returns-in-Some-clause-told
