@@ -1,6 +1,6 @@
 // Texts that are written and read by calls that the program doesn't make.
 use dom_terms::{DataSort, LogicVar, OutOfMemory, Sort, Text};
-use formula_syntax::{AnyVar, Formula, same_formula};
+use formula_syntax::{AnyVar, Formula};
 use logic_text::{read_formula, write_formula};
 use proof_text::{read_theory, write_theory};
 use std::alloc::Global;
@@ -14,23 +14,35 @@ fn tree(alloc: Global) -> Result<LogicVar, OutOfMemory> {
     Ok(LogicVar { name, sort })
 }
 
-// A grove with nothing beside one tree, which the variable is.
-fn beside_nothing(alloc: Global) -> Result<Formula, OutOfMemory> {
-    let root = Formula::Root(Box::new(alloc, Formula::Var(tree(alloc)?))?);
-    let nothing = Box::new(alloc, Formula::EmptyGrove)?;
-    Ok(Formula::Plus(nothing, Box::new(alloc, root)?))
+// The sort of a variable that is the root on the right of a sum, and nothing else.
+fn sort_in_root(formula: &Formula) -> Option<Sort> {
+    let Formula::Plus(_, right) = formula else {
+        return None;
+    };
+    let Formula::Root(inner) = &**right else {
+        return None;
+    };
+    match &**inner {
+        Formula::Var(variable) => Some(variable.sort),
+        _ => None,
+    }
+}
+
+// What is written of a formula that was read with a logic variable for a tree, and the sort that
+// the variable got.
+fn read_and_written(alloc: Global, text: &str) -> Result<(Text, Option<Sort>), Fail> {
+    let tokens = token_list(alloc, text.as_bytes())?;
+    let vars = vec![in alloc; AnyVar::Logic(tree(alloc)?)]?;
+    let formula = read_formula(alloc, &tokens, &vars)?;
+    let sort = sort_in_root(&formula);
+    Ok((write_formula(alloc, &formula)?, sort))
 }
 
 #[test]
 fn a_formula_is_read_with_the_sorts_of_a_list(rt: HostRuntime) -> Result<(), Fail> {
-    let alloc = rt.alloc();
-    let text = write_formula(alloc, &beside_nothing(alloc)?)?;
+    let (text, sort) = read_and_written(rt.alloc(), "(0g + [$x])")?;
     assert_eq!(rt; text.as_str(), "( 0g + [ $x ] )");
-    let tokens = token_list(alloc, b"( 0g + [ $x ] )")?;
-    let vars = vec![in alloc; AnyVar::Logic(tree(alloc)?)]?;
-    let read = read_formula(alloc, &tokens, &vars)?;
-    assert!(rt; matches!(&read, Formula::Plus(_, _)));
-    assert!(rt; same_formula(alloc, &read, &beside_nothing(alloc)?)?);
+    assert!(rt; matches!(sort, Some(Sort::Shape(DataSort::Tree))));
     Ok(())
 }
 
