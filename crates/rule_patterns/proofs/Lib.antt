@@ -1,0 +1,10 @@
+pub mod PatternTests
+pub mod Bridge
+pub mod Substituting
+pub mod Found
+pub mod Attempts
+pub mod Swapping
+pub mod Exact
+pub mod Verdicts
+pub mod Ties
+pub mod EachRule

@@ -1,0 +1,12 @@
+pub mod Letter
+pub mod Constant
+pub mod Patterns
+pub mod Rows
+pub mod FirstRows
+pub mod SecondRows
+pub mod Ways
+pub mod Trees
+pub mod TreePatterns
+pub mod Finding
+pub mod Candidates
+pub mod Stages
