@@ -2,8 +2,10 @@ pub mod Letter
 pub mod Constant
 pub mod Patterns
 pub mod Rows
-pub mod FirstRows
-pub mod SecondRows
+pub mod LogicRows
+pub mod StructureRows
+pub mod ContextRows
+pub mod NodeRows
 pub mod Ways
 pub mod Trees
 pub mod TreePatterns

@@ -1,10 +1,12 @@
--- Needn't be believed: how the patterns of rows are written.
-use Rattle.std.specs.Prelude.{List, [], ◌∷◌}
+-- Needn't be believed: how patterns of rows are written, as the table writes rows.
+use Rattle.std.specs.Prelude.{List, [], ◌∷◌, map, pos}
+use Rattle.model_shapes.specs.Values.{int}
 use Rattle.model_shapes.specs.Sorts.{tree, forest, grove}
 use Rattle.model_formulas.specs.Formulas.{whole, hole_left, hole_right}
-use Rattle.rule_patterns.specs.Letter.{P', Q', R', A', B', K', E', F', S', I', L', T', J', M', h', k', j'}
-use Rattle.rule_patterns.specs.Patterns.{DataPattern, some_data, this_data, SortPattern, some_sort, data_sort, TermPattern, some_term, FormulaPattern, some_formula, conjunction_p, node_p, tree_p, root_p, concatenation_p, sum_of_groves_p, sum_hole_p, application_p, JudgementPattern, entails_p, ConditionPattern, pure_p, LinePattern}
+use Rattle.rule_patterns.specs.Letter.{P', Q', R', A', B', K', H', E', F', S', I', L', T', J', M', h', k', j'}
+use Rattle.rule_patterns.specs.Patterns.{DataPattern, some_data, this_data, SortPattern, some_sort, sort_of_x, data_sort, TermPattern, some_term, x_term, literal_p, FormulaPattern, some_formula, replaced, conjunction_p, disjunction_p, implication_p, equality_p, empty_p, node_p, concatenation_p, sum_of_groves_p, sum_hole_p, hole_adjoint_p, same_as_p, meets_p, JudgementPattern, entails_p, RequirementPattern, ConditionPattern, LinePattern}
 
+-- LETTERS
 abbrev pub P : FormulaPattern
 P = some_formula P'
 
@@ -22,6 +24,9 @@ B = some_formula B'
 
 abbrev pub K : FormulaPattern
 K = some_formula K'
+
+abbrev pub H : FormulaPattern
+H = some_formula H'
 
 abbrev pub E : TermPattern
 E = some_term E'
@@ -47,6 +52,9 @@ J = some_term J'
 abbrev pub M : TermPattern
 M = some_term M'
 
+abbrev pub s : SortPattern
+s = some_sort
+
 abbrev pub h : DataPattern
 h = some_data h'
 
@@ -56,34 +64,147 @@ k = some_data k'
 abbrev pub j : DataPattern
 j = some_data j'
 
+abbrev pub a_tree : DataPattern
+a_tree = this_data tree
+
 abbrev pub a_forest : DataPattern
 a_forest = this_data forest
 
 abbrev pub a_grove : DataPattern
 a_grove = this_data grove
 
-abbrev pub a_tree : DataPattern
-a_tree = this_data tree
+abbrev pub at_tree : SortPattern
+at_tree = data_sort a_tree
 
 abbrev pub at_forest : SortPattern
 at_forest = data_sort a_forest
 
-abbrev pub line : List JudgementPattern → JudgementPattern → List ConditionPattern → LinePattern
-line js j cs =
-    record { arguments = []; requirements = []; premises = js; conclusion = j; conditions = cs }
+abbrev pub at_grove : SortPattern
+at_grove = data_sort a_grove
 
-abbrev pub star : FormulaPattern → FormulaPattern → FormulaPattern
-star p q = concatenation_p whole p q
+-- FORMULAS
+-- (P and Q)
+abbrev pub ◌and◌ : FormulaPattern → FormulaPattern → FormulaPattern
+p and q = conjunction_p p q
 
-abbrev pub pure_out : (FormulaPattern → FormulaPattern) → LinePattern
-pure_out z =
-    line [] (entails_p (z (conjunction_p P Q)) (conjunction_p (z P) Q) some_sort) (pure_p Q' ∷ [])
+-- (P or Q)
+abbrev pub ◌or◌ : FormulaPattern → FormulaPattern → FormulaPattern
+p or q = disjunction_p p q
 
-abbrev pub parts : List (FormulaPattern → FormulaPattern)
-parts =
-    (λ z. concatenation_p whole z B) ∷ (λ z. concatenation_p whole B z) ∷
-    (λ z. concatenation_p hole_left z B) ∷ (λ z. concatenation_p hole_left B z) ∷
-    (λ z. concatenation_p hole_right z B) ∷ (λ z. concatenation_p hole_right B z) ∷
-    (λ z. sum_of_groves_p z B) ∷ (λ z. sum_of_groves_p B z) ∷ (λ z. sum_hole_p z B) ∷
-    (λ z. sum_hole_p B z) ∷ (λ z. node_p S I z L) ∷ tree_p ∷ root_p ∷
-    (λ z. application_p h z B) ∷ (λ z. application_p h B z) ∷ []
+-- (P -> Q)
+abbrev pub ◌implies◌ : FormulaPattern → FormulaPattern → FormulaPattern
+p implies q = implication_p p q
+
+-- (P * Q)
+abbrev pub ◌∗◌ : FormulaPattern → FormulaPattern → FormulaPattern
+p ∗ q = concatenation_p whole p q
+
+-- (K .* Q)
+abbrev pub ◌·∗◌ : FormulaPattern → FormulaPattern → FormulaPattern
+p ·∗ q = concatenation_p hole_left p q
+
+-- (P *. K)
+abbrev pub ◌∗·◌ : FormulaPattern → FormulaPattern → FormulaPattern
+p ∗· q = concatenation_p hole_right p q
+
+-- (P + Q)
+abbrev pub ◌⊹◌ : FormulaPattern → FormulaPattern → FormulaPattern
+p ⊹ q = sum_of_groves_p p q
+
+-- (K .+ Q)
+abbrev pub ◌·⊹◌ : FormulaPattern → FormulaPattern → FormulaPattern
+p ·⊹ q = sum_hole_p p q
+
+-- (P -o Q)
+abbrev pub ◌⊸◌ : FormulaPattern → FormulaPattern → FormulaPattern
+p ⊸ q = hole_adjoint_p p q
+
+-- E = F
+abbrev pub ◌equals◌ : TermPattern → TermPattern → FormulaPattern
+e equals f = equality_p e f
+
+infix 70 ◌∗◌ ◌·∗◌ ◌∗·◌ ◌⊹◌ ◌·⊹◌ ◌and◌ ◌or◌ ◌implies◌ ◌⊸◌ ◌equals◌
+-- P with E for $x
+abbrev pub P_with_E : FormulaPattern
+P_with_E = replaced E' P'
+
+-- $x, and ($x is P)
+abbrev pub $x : FormulaPattern
+$x = same_as_p x_term
+
+abbrev pub x_is : FormulaPattern → FormulaPattern
+x_is p = meets_p sort_of_x x_term p
+
+-- 0f and 0g
+abbrev pub no_trees : FormulaPattern
+no_trees = empty_p a_forest
+
+abbrev pub no_roots : FormulaPattern
+no_roots = empty_p a_grove
+
+-- S#I[p]%L, and T#J[Q]%M
+abbrev pub one_node : FormulaPattern → FormulaPattern
+one_node p = node_p S I p L
+
+abbrev pub other_node : FormulaPattern
+other_node = node_p T J Q M
+
+-- 0 and 1
+abbrev pub zero_p : TermPattern
+zero_p = literal_p (int (pos 0))
+
+abbrev pub one_p : TermPattern
+one_p = literal_p (int (pos 1))
+
+-- LINES
+-- P entails Q at s
+abbrev pub ◌⊢◌ : FormulaPattern → FormulaPattern → SortPattern → JudgementPattern
+◌⊢◌ p q t = entails_p p q t
+
+-- the sort behind it
+abbrev pub ◌at◌ : {A : Type 0} → (SortPattern → A) → SortPattern → A
+i at t = i t
+
+infix 60 ◌⊢◌
+infix 55 ◌at◌
+-- premises ⟹ conclusion
+abbrev pub ◌⟹◌ : List JudgementPattern → JudgementPattern → LinePattern
+js ⟹ i = record {
+  arguments = [];
+  requirements = [];
+  premises = js;
+  conclusion = i;
+  conditions = [];
+}
+
+-- a conclusion alone
+abbrev pub always : JudgementPattern → LinePattern
+always i = [] ⟹ i
+
+-- two lines: the one formula entails the other, and the other way round
+abbrev pub ◌⊣⊢◌ : FormulaPattern → FormulaPattern → SortPattern → LinePattern × LinePattern
+◌⊣⊢◌ p q t = (always (p ⊢ q at t), always (q ⊢ p at t))
+
+-- with a condition
+abbrev pub ◌provided◌ : LinePattern → ConditionPattern → LinePattern
+line provided c = record line { conditions = c ∷ [] }
+
+-- with a requirement
+abbrev pub ◌given◌ : LinePattern → RequirementPattern → LinePattern
+line given r = record line { requirements = r ∷ [] }
+
+-- with these arguments
+abbrev pub ◌with_arguments◌ : LinePattern → List TermPattern → LinePattern
+line with_arguments es = record line { arguments = es }
+
+infix 60 ◌⊣⊢◌
+infix 30 ◌⟹◌
+infixl 25 ◌provided◌ ◌given◌ ◌with_arguments◌
+-- RULES
+-- of one reading
+abbrev pub reads : LinePattern → List LinePattern
+reads line = line ∷ []
+
+-- both ways: the rule that reads from left to right, and that which reads from right to left
+abbrev pub both_ways : List (LinePattern × LinePattern) → List (List LinePattern)
+both_ways lines = map (λ both. both.0) lines ∷ map (λ both. both.1) lines ∷ []

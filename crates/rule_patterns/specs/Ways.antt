@@ -4,8 +4,10 @@ use Rattle.model_shapes.specs.Values.{Name}
 use Rattle.rule_table.specs.Entries.{Entry}
 use Rattle.rule_table.specs.Table.{entailments}
 use Rattle.rule_patterns.specs.Patterns.{LinePattern}
-use Rattle.rule_patterns.specs.FirstRows.{logic, reflexive, total, structure, monotony}
-use Rattle.rule_patterns.specs.SecondRows.{contexts, variables, nodes, lengths}
+use Rattle.rule_patterns.specs.LogicRows.{logic, reflexive, total}
+use Rattle.rule_patterns.specs.StructureRows.{structure, monotony}
+use Rattle.rule_patterns.specs.ContextRows.{contexts, variables}
+use Rattle.rule_patterns.specs.NodeRows.{nodes, lengths}
 
 -- by matching what is written with these patterns, or by what is computed from it
 pub data Way : Type 0 where
