@@ -10,7 +10,7 @@ use Rattle.rule_table.proofs.EquationVerdicts.{subst_verdict, distinct_verdict, 
 use Rattle.rule_patterns.specs.Patterns.{LinePattern, line_of}
 use Rattle.rule_patterns.specs.Finding.{attempt}
 use Rattle.rule_patterns.specs.Candidates.{In, candidates}
-use Rattle.rule_patterns.specs.Stages.{Stage, Reaches, Compares}
+use Rattle.rule_patterns.specs.Stages.{Stage, Reaches}
 use Rattle.rule_patterns.specs.Ways.{Way, matched, computed, ways, way_in, way_of}
 use Rattle.rule_patterns.proofs.Exact.{complete}
 use Rattle.rule_patterns.proofs.Verdicts.{Fits, all-fit, fit-in, verdict}
@@ -81,10 +81,10 @@ module _ (w : Written) where
       (computed-named entailments ways each_computed name)
 
   -- EACH RULE
-  pub verdict-named : Compares w → (name : Name) → HasVerdict (readings_in entailments name)
-  verdict-named decide name = by_way (way_of name) refl
+  pub verdict-named : (name : Name) → HasVerdict (readings_in entailments name)
+  verdict-named name = by_way (way_of name) refl
     where
       by_way : (way : Way) → way_of name ≡ way → HasVerdict (readings_in entailments name)
       by_way (matched ps) e = subst HasVerdict (tied name ps e)
-          (verdict w decide ps (all-fit ps (fit-of name ps e)))
+          (verdict w ps (all-fit ps (fit-of name ps e)))
       by_way computed e = computed-verdict name e

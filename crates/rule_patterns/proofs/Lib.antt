@@ -5,6 +5,7 @@ pub mod Found
 pub mod Attempts
 pub mod Swapping
 pub mod Exact
+pub mod Decided
 pub mod Verdicts
 pub mod Ties
 pub mod EachRule

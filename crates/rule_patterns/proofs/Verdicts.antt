@@ -11,9 +11,10 @@ use Rattle.rule_patterns.proofs.PatternTests.{well_made, of_a_kind}
 use Rattle.rule_patterns.specs.Patterns.{ConditionPattern, LinePattern, line_of, conditions_of, rows_of}
 use Rattle.rule_patterns.specs.Finding.{attempt}
 use Rattle.rule_patterns.specs.Candidates.{candidates}
-use Rattle.rule_patterns.specs.Stages.{Compares, Stage, conclusion_stage, premises_stage, all_stage, first_stage, Reaches}
+use Rattle.rule_patterns.specs.Stages.{Stage, conclusion_stage, premises_stage, all_stage, first_stage, Reaches}
 use Rattle.rule_patterns.specs.Candidates.{In}
 use Rattle.rule_patterns.proofs.PatternTests.{at_most_so_many, fits, all_fit}
+use Rattle.rule_patterns.proofs.Decided.{decided}
 use Rattle.rule_patterns.proofs.Exact.{complete}
 
 first-is-all : (l : Letters) (n : ℕ) (cs : List ConditionPattern) → at_most_so_many n cs ≡ true
@@ -90,11 +91,11 @@ pub fit-in : (ps : List LinePattern) → AllFit ps → (p : LinePattern) → In 
 fit-in [] f p m = absurd m
 fit-in (q ∷ ps) f p m = ⊎_elim (λ e. subst Fits (sym e) f.0) (fit-in ps f.1 p) m
 
-module _ (w : Written) (decide : Compares w) where
+module _ (w : Written) where
   tried : (p : LinePattern) (st : Stage) (xs : List LogicVar)
       → Dec ((x : LogicVar) × In x xs × Reaches st w (line_of (attempt p w x) p))
   tried p st [] = no (λ m. m.1)
-  tried p st (x ∷ xs) = by_case (decide p st x) (tried p st xs)
+  tried p st (x ∷ xs) = by_case (decided (attempt p w x) p w st) (tried p st xs)
     where
       by_case : Dec (Reaches st w (line_of (attempt p w x) p))
           → Dec ((y : LogicVar) × In y xs × Reaches st w (line_of (attempt p w y) p))

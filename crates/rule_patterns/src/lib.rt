@@ -12,8 +12,8 @@ ghost use Rattle.rule_table.specs.Verdicts.{Written, Verdict, IsVerdict, reading
 ghost use Rattle.rule_patterns.specs.Patterns.{LinePattern, line_of, rows_of};
 ghost use Rattle.rule_patterns.specs.Finding.{attempt};
 ghost use Rattle.rule_patterns.specs.Candidates.{In, candidates};
-ghost use Rattle.rule_patterns.specs.Stages.{Stage, Reaches, Compares};
-ghost use Rattle.rule_patterns.specs.Ways.{matched, computed, way_of};
+ghost use Rattle.rule_patterns.specs.Stages.{Stage, Reaches};
+ghost use Rattle.rule_patterns.specs.Ways.{matched, way_of};
 
 /// The patterns of a rule of entailment are its rows.
 pub fn the_patterns_are_the_rows()
@@ -31,11 +31,8 @@ pub fn what_is_read_off_goes_as_far()
         × Reaches stage written (line_of (attempt pattern written x) pattern) }
 {}
 
-/// A rule of entailment has a verdict on each step, where the lines of attempts can be compared
-/// with what is written. A rule that computes has one without.
+/// Each rule of entailment has a verdict on each step that is written.
 pub fn each_rule_of_entailment_has_a_verdict()
-    ensures compared { (written : Written) → Compares written → (name : Name)
-        → (verdict : Verdict) × IsVerdict (readings_in entailments name) written verdict }
-    ensures computed { (written : Written) (name : Name) → way_of name ≡ computed
+    ensures { (written : Written) (name : Name)
         → (verdict : Verdict) × IsVerdict (readings_in entailments name) written verdict }
 {}
