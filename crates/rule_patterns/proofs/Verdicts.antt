@@ -87,10 +87,6 @@ all-fit (p ∷ ps) e =
     let a : (fits p ≡ true) × (all_fit ps ≡ true) = both_true _ _ e in
     (fits-so p a.0, all-fit ps a.1)
 
-pub fit-in : (ps : List LinePattern) → AllFit ps → (p : LinePattern) → In p ps → Fits p
-fit-in [] f p m = absurd m
-fit-in (q ∷ ps) f p m = ⊎_elim (λ e. subst Fits (sym e) f.0) (fit-in ps f.1 p) m
-
 module _ (w : Written) where
   tried : (p : LinePattern) (st : Stage) (xs : List LogicVar)
       → Dec ((x : LogicVar) × In x xs × Reaches st w (line_of (attempt p w x) p))
