@@ -1,4 +1,5 @@
--- Needn't be believed: which logic variables are tried for $x: those that stand in what is written, and a new one.
+-- Needn't be believed: which logic variables are tried for $x: those that stand in what is
+-- written, and a new one.
 use Rattle.std.specs.Prelude.{◌≡◌, ◌⊎◌, ℕ, zero, suc, ◌+◌, length, List, [], ◌∷◌, ◌++◌, Option, Some, None}
 use Rattle.model_shapes.specs.Sorts.{Sort, shape, tree}
 use Rattle.model_terms.specs.Variables.{prog, logic, bound}

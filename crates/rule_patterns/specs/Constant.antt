@@ -2,6 +2,7 @@
 use Rattle.model_formulas.specs.Formulas.{Formula}
 use Rattle.rule_table.specs.Closed.{some_node, first_and_rest, root_and_rest, some_length}
 
+-- a node; a first tree or root and the rest; a length
 pub data Constant : Type 0 where
   node_constant forest_constant grove_constant length_constant : Constant
 

@@ -1,24 +1,22 @@
--- Needn't be believed: the choice that the written judgements make, once $x is chosen: for each letter what stands at
--- its first place.
-use Rattle.std.specs.Prelude.{pos, ℕ, zero, suc, Bool, true, false, cond, ◌==◌, List, [], Option, Some, None}
-use Rattle.model_shapes.specs.Sorts.{shape, tree, node_sort}
+-- Needn't be believed: the choice that the written judgements make, once $x is chosen: for each
+-- letter what stands at its first place.
+use Rattle.std.specs.Prelude.{ℕ, zero, suc, Bool, true, false, cond, ◌==◌, List, Option, Some, None}
+use Rattle.model_shapes.specs.Sorts.{shape, tree}
 use Rattle.model_shapes.specs.Values.{null}
 use Rattle.model_terms.specs.Variables.{Var, prog, logic, bound}
 use Rattle.model_terms.specs.Terms.{literal, variable, Substitution}
 use Rattle.model_formulas.specs.Formulas.{truth, Side, whole, hole_left, hole_right}
-use Rattle.model_terms.specs.Stores.{named}
-use Rattle.model_commands.specs.Commands.{skip, stop}
-use Rattle.model_terms.specs.Conditions.{cond_true}
 use Rattle.model_commands.specs.Theories.{Judgement}
-use Rattle.rule_table.specs.Linear.{order}
 use Rattle.rule_table.specs.Letters.{Letters, LogicVar, as_logic}
 use Rattle.rule_table.specs.Verdicts.{Written}
+use Rattle.rule_table.proofs.SomeLetters.{plain_letters}
 use Rattle.rule_patterns.specs.Letter.{FormulaLetter, TermLetter, DataLetter, P', Q', R', A', B', K', H', E', F', S', I', L', T', J', M', h', k', j'}
 use Rattle.rule_patterns.specs.Patterns.{LinePattern}
 use Rattle.rule_patterns.specs.Trees.{Tree, leaf, one, two, three, four, bind, One, negation_one, tree_one, root_one, same_one, length_one, empty_one, hole_one, Two, and_two, or_two, implies_two, equal_two, at_most_two, plus_two, plus_hole_two, adjoint_two, sum_two, difference_two, appended_two, sort_two, cons_two, star_two, Three, apply_three, context_three, meets_three, entails_three, Four, node_four, triple_four, Quantifier, some_bind, each_bind, end_leaf, tree_with, term_from, data_from, hole_from, sort_from, formula_from, judgement_tree, judgements_tree, terms_tree}
 use Rattle.rule_patterns.specs.TreePatterns.{Letter, formula_letter, term_letter, data_letter, sort_letter, hole_letter, Pat, any, one_pat, two_pat, three_pat, four_pat, under, judgement_pat, judgements_pat, terms_pat}
 
 -- THE TESTS OF LABELS AND LETTERS
+-- each label has a number of its own
 abbrev pub one_number : One → ℕ
 one_number negation_one = 0
 one_number tree_one = 1
@@ -137,8 +135,9 @@ abbrev pub read : {A : Type 0} → (Tree → Option A) → A → Option Tree →
 read from a None = a
 read from a (Some t) = or_else a (from t)
 
+-- the letters that aren't found, and those that no pattern has, have any value
 abbrev pub letters_found : LogicVar → (Letter → Option Tree) → Letters
-letters_found x f = record {
+letters_found x f = record plain_letters {
   P = read formula_from truth (f (formula_letter P'));
   Q = read formula_from truth (f (formula_letter Q'));
   R = read formula_from truth (f (formula_letter R'));
@@ -154,27 +153,7 @@ letters_found x f = record {
   T = read term_from (literal null) (f (term_letter T'));
   J = read term_from (literal null) (f (term_letter J'));
   M = read term_from (literal null) (f (term_letter M'));
-  G = literal null;
   x = x;
-  W = order (pos 0) (literal null) (literal null);
-  v = named [] node_sort;
-  C = skip;
-  c = cond_true;
-  b = stop;
-  b' = stop;
-  links = [];
-  f = record {
-    name = [];
-    params = [];
-    results = [];
-    sort = tree;
-    pre = truth;
-    post = truth;
-    body = skip;
-    proof = [];
-  };
-  rs = [];
-  es = [];
   s = read sort_from (shape tree) (f sort_letter);
   o = read hole_from None (f hole_letter);
   h = read data_from tree (f (data_letter h'));
@@ -182,6 +161,7 @@ letters_found x f = record {
   j = read data_from tree (f (data_letter j'));
 }
 
+-- WHAT IS MATCHED
 -- the arguments beside the conclusion
 abbrev pub conclusion_pat : LinePattern → Pat
 conclusion_pat p = two_pat cons_two (terms_pat p.arguments) (judgement_pat p.conclusion)
@@ -192,10 +172,12 @@ premises_pat p = judgements_pat p.premises
 abbrev pub conclusion_tree : Written → Tree
 conclusion_tree w = two cons_two (terms_tree w.arguments) (judgement_tree w.conclusion)
 
+-- where a citation is of no earlier step, there are no premises
 abbrev pub cited_tree : Option (List Judgement) → Tree
 cited_tree None = leaf end_leaf
 cited_tree (Some js) = judgements_tree js
 
+-- THE ATTEMPT with $x
 abbrev pub attempt : LinePattern → Written → LogicVar → Letters
 attempt p w x = letters_found x (λ a.
     first_of_two (find (as_logic x) a (conclusion_pat p) (conclusion_tree w))

@@ -4,15 +4,19 @@ use Rattle.model_terms.specs.Terms.{Term}
 use Rattle.model_formulas.specs.Formulas.{Formula}
 use Rattle.rule_table.specs.Letters.{Letters}
 
+-- formulas, and formulas at context sorts
 pub data FormulaLetter : Type 0 where
   P' Q' R' A' B' K' H' : FormulaLetter
 
+-- terms
 pub data TermLetter : Type 0 where
   E' F' S' I' L' T' J' M' : TermLetter
 
+-- data sorts
 pub data DataLetter : Type 0 where
   h' k' j' : DataLetter
 
+-- what a choice gives to them
 abbrev pub formula_at : Letters → FormulaLetter → Formula
 formula_at l P' = l.P
 formula_at l Q' = l.Q

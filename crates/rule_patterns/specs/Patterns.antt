@@ -1,4 +1,5 @@
--- Needn't be believed: patterns: lines of the table as data, and what a choice of the letters makes of them.
+-- Needn't be believed: patterns, which are rows of the table as data, and what a choice of the
+-- letters makes of them.
 use Rattle.std.specs.Prelude.{List, [], ◌∷◌}
 use Rattle.model_shapes.specs.Sorts.{Sort, shape, context, DataSort}
 use Rattle.model_shapes.specs.Values.{Value}
@@ -13,10 +14,12 @@ use Rattle.rule_table.specs.Entries.{Row}
 use Rattle.rule_patterns.specs.Constant.{Constant, constant_formula}
 use Rattle.rule_patterns.specs.Letter.{FormulaLetter, TermLetter, DataLetter, formula_at, term_at, data_at}
 
+-- a letter of data sorts, or a data sort
 pub data DataPattern : Type 0 where
   some_data : DataLetter → DataPattern
   this_data : DataSort → DataPattern
 
+-- sorts
 pub data SortPattern : Type 0 where
   -- the letter s; the sort of $x
   some_sort sort_of_x : SortPattern
@@ -25,6 +28,7 @@ pub data SortPattern : Type 0 where
   context_sort : DataPattern → DataPattern → SortPattern
   either_sort : DataPattern → SortPattern
 
+-- terms
 pub data TermPattern : Type 0 where
   some_term : TermLetter → TermPattern
   -- $x
@@ -32,11 +36,13 @@ pub data TermPattern : Type 0 where
   literal_p : Value → TermPattern
   sum_p difference_p appended_p : TermPattern → TermPattern → TermPattern
 
+-- formulas
 pub data FormulaPattern : Type 0 where
   some_formula : FormulaLetter → FormulaPattern
   -- P with E for $x
   replaced : TermLetter → FormulaLetter → FormulaPattern
   truth_p falsity_p : FormulaPattern
+  -- a closed formula of the table
   closed_p : Constant → FormulaPattern
   conjunction_p disjunction_p implication_p : FormulaPattern → FormulaPattern → FormulaPattern
   negation_p : FormulaPattern → FormulaPattern
@@ -56,19 +62,21 @@ pub data FormulaPattern : Type 0 where
   length_p : TermPattern → FormulaPattern
   meets_p : SortPattern → TermPattern → FormulaPattern → FormulaPattern
 
+-- entailments
 pub data JudgementPattern : Type 0 where
   entails_p : FormulaPattern → FormulaPattern → SortPattern → JudgementPattern
 
+-- $x isn't free in the formula; the formula is pure
 pub data ConditionPattern : Type 0 where
   not_free_p : FormulaLetter → ConditionPattern
   pure_p : FormulaLetter → ConditionPattern
-  -- $x is a variable of a sort
 
--- a term of the sort of $x, and $x itself, at a sort
+-- the term has the sort of $x; the sort of $x is a sort, as $x has it
 pub data RequirementPattern : Type 0 where
   of_sort_p : TermLetter → RequirementPattern
   x_of_sort_p : RequirementPattern
 
+-- a row
 pub record LinePattern : Type 0 where
   pub arguments : List TermPattern
   pub requirements : List RequirementPattern

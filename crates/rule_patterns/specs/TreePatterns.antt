@@ -1,4 +1,4 @@
--- Needn't be believed: patterns as trees, what a choice of the letters makes of them, and the search for a letter.
+-- Needn't be believed: patterns as trees, and what a choice of the letters makes of them.
 use Rattle.std.specs.Prelude.{List, [], ◌∷◌}
 use Rattle.model_formulas.specs.Substitution.{closing, replacing}
 use Rattle.rule_table.specs.Letters.{Letters, as_logic}
@@ -14,6 +14,7 @@ pub data Letter : Type 0 where
   data_letter : DataLetter → Letter
   sort_letter hole_letter : Letter
 
+-- what a choice gives to it
 abbrev pub letter_tree : Letters → Letter → Tree
 letter_tree l (formula_letter a) = formula_tree (formula_at l a)
 letter_tree l (term_letter a) = term_tree (term_at l a)
@@ -21,6 +22,7 @@ letter_tree l (data_letter a) = data_tree (data_at l a)
 letter_tree l sort_letter = sort_tree l.s
 letter_tree l hole_letter = hole_tree l.o
 
+-- patterns of trees, each with the shapes of trees and those of letters
 pub data Pat : Type 0 where
   any : Letter → Pat
   -- $x, its sort

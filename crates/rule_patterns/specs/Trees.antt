@@ -1,4 +1,5 @@
--- Needn't be believed: terms, sorts, formulas, commands and judgements as trees of one type, and the way back.
+-- Needn't be believed: terms, sorts, formulas and judgements as trees of one type, and the way
+-- back.
 use Rattle.std.specs.Prelude.{List, [], ◌∷◌, Option, Some, None}
 use Rattle.model_shapes.specs.Sorts.{Sort, value, shape, context, ValueSort, DataSort}
 use Rattle.model_shapes.specs.Values.{Value}
@@ -31,9 +32,11 @@ pub data Three : Type 0 where
 pub data Four : Type 0 where
   node_four triple_four : Four
 
+-- what binds
 pub data Quantifier : Type 0 where
   some_bind each_bind : Quantifier
 
+-- trees
 pub data Tree : Type 0 where
   var : Var → Tree
   leaf : Leaf → Tree
