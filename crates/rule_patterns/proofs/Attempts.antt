@@ -1,6 +1,7 @@
 -- Where some choice makes a line the written one, so does the choice that is read off what is
 -- written, with the same $x.
 use Rattle.std.proofs.Common.{◌≡◌, Bool, true, false, ◌&&◌, ◌||◌, sym, refl, ap, ap₂, ◌∙◌, subst, List, [], ◌∷◌, Option, Some, None}
+use Rattle.std.specs.Option.{option_or, unwrap_or}
 use Rattle.model_shapes.proofs.Truth.{false≢true, both_true}
 use Rattle.model_terms.specs.Terms.{Term, variable}
 use Rattle.model_formulas.specs.Formulas.{Formula}
@@ -14,17 +15,17 @@ use Rattle.rule_patterns.specs.Letter.{P', Q', R', A', B', K', H', E', F', S', I
 use Rattle.rule_patterns.specs.Patterns.{JudgementPattern, TermPattern, RequirementPattern, of_sort_p, x_of_sort_p, ConditionPattern, not_free_p, pure_p, requirement_of, requirements_of, LinePattern, judgement_of, judgements_of, terms_of, conditions_of, condition_of, line_of}
 use Rattle.rule_patterns.specs.Trees.{Tree, var, leaf, one, two, three, four, bind, cons_two, term_tree, hole_tree, sort_tree, formula_tree, judgement_tree, judgements_tree, terms_tree, tree_with, term_from, hole_from, sort_from, formula_from, judgement_from, judgements_from, terms_from}
 use Rattle.rule_patterns.specs.TreePatterns.{Letter, formula_letter, term_letter, data_letter, sort_letter, hole_letter, letter_tree, Pat, any, x_pat, x_sort_pat, with_pat, leaf_pat, closed_pat, one_pat, two_pat, three_pat, four_pat, under, make, judgement_pat, judgements_pat, terms_pat}
-use Rattle.rule_patterns.specs.Finding.{letters_found, read, or_else, first_of_two, find, attempt, conclusion_pat, premises_pat, conclusion_tree, cited_tree}
+use Rattle.rule_patterns.specs.Finding.{letters_found, read, find, attempt, conclusion_pat, premises_pat, conclusion_tree, cited_tree}
 use Rattle.rule_patterns.proofs.Bridge.{term-back, hole-back, sort-back, formula-back, judgement-back, judgements-back, terms-back, judgement-made, judgements-made, terms-made}
 use Rattle.rule_patterns.proofs.Found.{found, if_so}
 
 -- WHAT IS FOUND IS READ
 some-is : {A : Type 0} (d a b : A) → Some a ≡ Some b → a ≡ b
-some-is d a b e = ap (or_else d) e
+some-is d a b e = ap (λ o. unwrap_or o d) e
 
 read-back : {A : Type 0} (from : Tree → Option A) (d a : A) (t : Tree) (o : Option Tree)
     → from t ≡ Some a → o ≡ Some t → read from d o ≡ a
-read-back from d a t o back e = ap (read from d) e ∙ ap (or_else d) back
+read-back from d a t o back e = ap (read from d) e ∙ ap (λ z. unwrap_or z d) back
 
 -- each letter that is found is the choice's
 pub letter-read : (l : Letters) (f : Letter → Option Tree) (a : Letter)
@@ -167,13 +168,13 @@ module _ (c d : Letters) (known : Letter → Bool) (same_x : c.x ≡ d.x)
 -- THE ATTEMPT IS AS GOOD
 -- the first place is among the first
 found-first : (b : Bool) (t : Tree) (o u : Option Tree) → o ≡ if_so b t → b ≡ true
-    → first_of_two o u ≡ Some t
-found-first b t o u e w = ap (λ z. first_of_two z u) (e ∙ ap (λ z. if_so z t) w)
+    → option_or o u ≡ Some t
+found-first b t o u e w = ap (λ z. option_or z u) (e ∙ ap (λ z. if_so z t) w)
 
 found-either : (a b : Bool) (t : Tree) (o u : Option Tree) → o ≡ if_so a t → u ≡ if_so b t
-    → (a || b) ≡ true → first_of_two o u ≡ Some t
-found-either true b t o u e f w = ap (λ z. first_of_two z u) e
-found-either false true t o u e f w = ap₂ first_of_two e f
+    → (a || b) ≡ true → option_or o u ≡ Some t
+found-either true b t o u e f w = ap (λ z. option_or z u) e
+found-either false true t o u e f w = ap₂ option_or e f
 found-either false false t o u e f w = false≢true w
 
 module _ (p : LinePattern) (w : Written) (made : well_made p ≡ true) (c : Letters) where
@@ -212,7 +213,7 @@ module _ (p : LinePattern) (w : Written) (made : well_made p ≡ true) (c : Lett
     agree_1 : (a : Letter) → known_first p a ≡ true → letter_tree d a ≡ letter_tree c a
     agree_1 a k =
         letter-read c
-        (λ a. first_of_two (find (as_logic c.x) a (conclusion_pat p) (conclusion_tree w))
+        (λ a. option_or (find (as_logic c.x) a (conclusion_pat p) (conclusion_tree w))
         (find (as_logic c.x) a (premises_pat p) (cited_tree w.premises))) a
         (found-first (has a (conclusion_pat p)) (letter_tree c a) _ _ (found_1 a) k)
 
@@ -233,7 +234,7 @@ module _ (p : LinePattern) (w : Written) (made : well_made p ≡ true) (c : Lett
     agree_2 : (a : Letter) → known_then p a ≡ true → letter_tree d a ≡ letter_tree c a
     agree_2 a k =
         letter-read c
-        (λ a. first_of_two (find (as_logic c.x) a (conclusion_pat p) (conclusion_tree w))
+        (λ a. option_or (find (as_logic c.x) a (conclusion_pat p) (conclusion_tree w))
         (find (as_logic c.x) a (premises_pat p) (cited_tree w.premises))) a
         (found-either (has a (conclusion_pat p)) (has a (premises_pat p)) (letter_tree c a) _ _
         (found_1 h.0 a)

@@ -1,6 +1,7 @@
 -- Trees are as good as what they are trees of: nothing is lost, and substitution and patterns go
 -- over.
 use Rattle.std.proofs.Common.{◌≡◌, refl, ap, ap₂, ◌∙◌, List, [], ◌∷◌, Option, Some, None}
+use Rattle.std.specs.Option.{option_map}
 use Rattle.model_shapes.specs.Sorts.{Sort, value, shape, context, DataSort}
 use Rattle.model_terms.specs.Terms.{Term, literal, variable, sum, difference, appended, Substitution, under_binder, term_with}
 use Rattle.model_formulas.specs.Formulas.{Formula, truth, falsity, conjunction, disjunction, implication, negation, existential, universal, equality, at_most, empty, bare_hole, node_formula, one_tree, one_root, concatenation, grove_sum, grove_sum_hole, application, hole_adjoint, context_adjoint, same_as, length_is, value_meets}
@@ -9,7 +10,7 @@ use Rattle.model_commands.specs.Theories.{Judgement, entails, triple}
 use Rattle.rule_table.specs.Letters.{Letters, as_logic, sort_at}
 use Rattle.rule_patterns.specs.Letter.{formula_at, term_at}
 use Rattle.rule_patterns.specs.Patterns.{DataPattern, some_data, this_data, SortPattern, some_sort, sort_of_x, data_sort, context_sort, either_sort, TermPattern, some_term, x_term, literal_p, sum_p, difference_p, appended_p, FormulaPattern, some_formula, replaced, truth_p, falsity_p, closed_p, conjunction_p, disjunction_p, implication_p, negation_p, exists_p, forall_p, equality_p, at_most_p, empty_p, bare_hole_p, node_p, tree_p, root_p, concatenation_p, sum_of_groves_p, sum_hole_p, application_p, hole_adjoint_p, context_adjoint_p, same_as_p, length_p, meets_p, JudgementPattern, entails_p, data_of, sort_of_pattern, term_of, formula_of, judgement_of, terms_of, judgements_of}
-use Rattle.rule_patterns.specs.Trees.{no_hole_leaf, leaf, one, two, three, four, bind, negation_one, tree_one, root_one, same_one, length_one, empty_one, hole_one, and_two, or_two, implies_two, equal_two, at_most_two, plus_two, plus_hole_two, adjoint_two, sum_two, difference_two, appended_two, sort_two, cons_two, star_two, apply_three, context_three, meets_three, entails_three, node_four, some_bind, each_bind, term_tree, data_tree, hole_tree, sort_tree, formula_tree, judgement_tree, terms_tree, judgements_tree, tree_with, map_one, map_two, map_three, map_four, term_from, hole_from, sort_from, formula_from, judgement_from, judgements_from, terms_from}
+use Rattle.rule_patterns.specs.Trees.{no_hole_leaf, leaf, one, two, three, four, bind, negation_one, tree_one, root_one, same_one, length_one, empty_one, hole_one, and_two, or_two, implies_two, equal_two, at_most_two, plus_two, plus_hole_two, adjoint_two, sum_two, difference_two, appended_two, sort_two, cons_two, star_two, apply_three, context_three, meets_three, entails_three, node_four, some_bind, each_bind, term_tree, data_tree, hole_tree, sort_tree, formula_tree, judgement_tree, terms_tree, judgements_tree, tree_with, map_two, map_three, map_four, term_from, hole_from, sort_from, formula_from, judgement_from, judgements_from, terms_from}
 use Rattle.rule_patterns.specs.TreePatterns.{make, data_pat, sort_pat, term_pat, formula_pat, judgement_pat, terms_pat, judgements_pat}
 
 -- NOTHING IS LOST
@@ -35,17 +36,17 @@ formula-back falsity = refl
 formula-back (conjunction p q) = ap₂ (map_two conjunction) (formula-back p) (formula-back q)
 formula-back (disjunction p q) = ap₂ (map_two disjunction) (formula-back p) (formula-back q)
 formula-back (implication p q) = ap₂ (map_two implication) (formula-back p) (formula-back q)
-formula-back (negation p) = ap (map_one negation) (formula-back p)
-formula-back (existential s p) = ap (map_one (existential s)) (formula-back p)
-formula-back (universal s p) = ap (map_one (universal s)) (formula-back p)
+formula-back (negation p) = ap (option_map negation) (formula-back p)
+formula-back (existential s p) = ap (option_map (existential s)) (formula-back p)
+formula-back (universal s p) = ap (option_map (universal s)) (formula-back p)
 formula-back (equality a b) = ap₂ (map_two equality) (term-back a) (term-back b)
 formula-back (at_most a b) = ap₂ (map_two at_most) (term-back a) (term-back b)
 formula-back (empty k) = refl
 formula-back (bare_hole k) = refl
 formula-back (node_formula a b p c) =
     λ i. map_four node_formula (term-back a i) (term-back b i) (formula-back p i) (term-back c i)
-formula-back (one_tree p) = ap (map_one one_tree) (formula-back p)
-formula-back (one_root p) = ap (map_one one_root) (formula-back p)
+formula-back (one_tree p) = ap (option_map one_tree) (formula-back p)
+formula-back (one_root p) = ap (option_map one_root) (formula-back p)
 formula-back (concatenation side p q) =
     ap₂ (map_two (concatenation side)) (formula-back p) (formula-back q)
 formula-back (grove_sum p q) = ap₂ (map_two grove_sum) (formula-back p) (formula-back q)
@@ -55,8 +56,8 @@ formula-back (application h p q) =
 formula-back (hole_adjoint p q) = ap₂ (map_two hole_adjoint) (formula-back p) (formula-back q)
 formula-back (context_adjoint k p q) =
     λ i. map_three context_adjoint (Some k) (formula-back p i) (formula-back q i)
-formula-back (same_as a) = ap (map_one same_as) (term-back a)
-formula-back (length_is a) = ap (map_one length_is) (term-back a)
+formula-back (same_as a) = ap (option_map same_as) (term-back a)
+formula-back (length_is a) = ap (option_map length_is) (term-back a)
 formula-back (value_meets s a p) =
     λ i. map_three value_meets (sort-back s i) (term-back a i) (formula-back p i)
 

@@ -1,5 +1,6 @@
 -- Whether the line of an attempt goes so far is decided by looking.
 use Rattle.std.proofs.Common.{◌≡◌, ◌⊎◌, ℕ, zero, suc, ap, ap₂, refl, inl, inr, ⊎_elim, List, [], ◌∷◌, Option, Some, None}
+use Rattle.std.specs.Option.{unwrap_or}
 use mathlib.Core.List.{List-discrete}
 use Rattle.model_shapes.specs.Sorts.{Sort, value, shape, context, is_sort}
 use Rattle.model_shapes.specs.Tests.{sort_eq}
@@ -88,10 +89,6 @@ abbrev others : {A : Type 0} → List A → List A
 others [] = []
 others (a ∷ rest) = rest
 
-abbrev held_or : {A : Type 0} → A → Option A → A
-held_or a None = a
-held_or a (Some b) = b
-
 abbrev left_of : Formula → Judgement → Formula
 left_of d (entails p q s) = p
 left_of d (triple p c q k) = p
@@ -166,7 +163,7 @@ module _ (l : Letters) where
         by_case : Dec (judgements_of l p.premises ≡ js)
             → Dec (Some (judgements_of l p.premises) ≡ Some js)
         by_case (yes e) = yes (ap Some e)
-        by_case (no n) = no (λ e. n (ap (held_or []) e))
+        by_case (no n) = no (λ e. n (ap (λ o. unwrap_or o []) e))
 
     followed : Dec (Follows w (line_of l p))
     followed = both_hold concluded (premised w.premises)

@@ -1,5 +1,6 @@
 -- What some choice reaches, the choice that is read off reaches with one of the candidates for $x.
 use Rattle.std.proofs.Common.{◌≡◌, ℕ, zero, suc, Bool, true, false, ◌&&◌, ◌||◌, sym, refl, ap, ap₂, ◌∙◌, subst, arith, ◌≤◌, length, inl, inr, ⊎_elim, List, [], ◌∷◌, ◌++◌, Some}
+use Rattle.std.specs.Option.{option_or, unwrap_or}
 use Rattle.std.specs.Prelude.{◌⊎◌}
 use Rattle.model_shapes.proofs.Truth.{false≢true, both_true}
 use Rattle.model_shapes.specs.Sorts.{Sort, shape, tree}
@@ -16,11 +17,11 @@ use Rattle.rule_patterns.specs.Letter.{FormulaLetter, TermLetter, DataLetter, h'
 use Rattle.rule_patterns.specs.Patterns.{RequirementPattern, of_sort_p, x_of_sort_p, ConditionPattern, not_free_p, pure_p, LinePattern, judgement_of, judgements_of, terms_of, requirements_of, conditions_of, line_of}
 use Rattle.rule_patterns.specs.Trees.{Tree, var, leaf, one, two, three, four, bind, cons_two, formula_tree, term_tree, data_tree, judgement_tree, judgements_tree, terms_tree, tree_with}
 use Rattle.rule_patterns.specs.TreePatterns.{Letter, formula_letter, term_letter, data_letter, sort_letter, hole_letter, letter_tree, Pat, any, x_pat, x_sort_pat, with_pat, leaf_pat, closed_pat, one_pat, two_pat, three_pat, four_pat, under, make, judgement_pat, terms_pat}
-use Rattle.rule_patterns.specs.Finding.{first_of_two, or_else, attempt, conclusion_pat, premises_pat, conclusion_tree, cited_tree}
+use Rattle.rule_patterns.specs.Finding.{attempt, conclusion_pat, premises_pat, conclusion_tree, cited_tree}
 use Rattle.rule_patterns.specs.Candidates.{In, logics_in, sort_bound, new_variable, candidates, written_in, all_names, name_of_length}
 use Rattle.rule_patterns.specs.Stages.{Stage, conclusion_stage, premises_stage, first_stage, all_stage, Reaches}
 use Rattle.rule_patterns.proofs.Bridge.{judgement-made, judgements-made, terms-made}
-use Rattle.rule_patterns.proofs.Found.{if_so}
+use Rattle.rule_patterns.proofs.Found.{if_so, firsts}
 use Rattle.rule_patterns.proofs.Attempts.{concludes, follows, meets-first, meets-all, judgement-same, judgements-same, terms-same}
 use Rattle.rule_patterns.proofs.Swapping.{swapping, swapped, make-swap, swapped_at, free-swap, term_at-sort, formula_at-swap, term_at-swap}
 
@@ -118,10 +119,6 @@ module _ (x y : LogicVar) where
       by_case (no a) (no b) = refl
 
 -- THE SORT OF A BINDER, AND A FREE $x, ARE SEEN IN WHAT IS MADE
-sorts-first : (a b : Bool) (s : Sort) → first_of_two (if_so a s) (if_so b s) ≡ if_so (a || b) s
-sorts-first true b s = refl
-sorts-first false b s = refl
-
 sort-bound : (l : Letters) (p : Pat) → sort_bound p (make l p) ≡ if_so (binds p) l.x.sort
 sort-bound l (any a) = refl
 sort-bound l x_pat = refl
@@ -131,16 +128,16 @@ sort-bound l (leaf_pat n) = refl
 sort-bound l (closed_pat c) = refl
 sort-bound l (one_pat n p) = sort-bound l p
 sort-bound l (two_pat n p q) =
-    ap₂ first_of_two (sort-bound l p) (sort-bound l q) ∙ sorts-first (binds p) (binds q) l.x.sort
+    ap₂ option_or (sort-bound l p) (sort-bound l q) ∙ firsts (binds p) (binds q) l.x.sort
 sort-bound l (three_pat n p q r) =
-    ap₂ first_of_two (sort-bound l p)
-    (ap₂ first_of_two (sort-bound l q) (sort-bound l r) ∙ sorts-first (binds q) (binds r) l.x.sort)
-    ∙ sorts-first (binds p) (binds q || binds r) l.x.sort
+    ap₂ option_or (sort-bound l p)
+    (ap₂ option_or (sort-bound l q) (sort-bound l r) ∙ firsts (binds q) (binds r) l.x.sort)
+    ∙ firsts (binds p) (binds q || binds r) l.x.sort
 sort-bound l (four_pat n p q r s) =
-    ap₂ first_of_two
-    (ap₂ first_of_two (sort-bound l p) (sort-bound l q) ∙ sorts-first (binds p) (binds q) l.x.sort)
-    (ap₂ first_of_two (sort-bound l r) (sort-bound l s) ∙ sorts-first (binds r) (binds s) l.x.sort)
-    ∙ sorts-first (binds p || binds q) (binds r || binds s) l.x.sort
+    ap₂ option_or
+    (ap₂ option_or (sort-bound l p) (sort-bound l q) ∙ firsts (binds p) (binds q) l.x.sort)
+    (ap₂ option_or (sort-bound l r) (sort-bound l s) ∙ firsts (binds r) (binds s) l.x.sort)
+    ∙ firsts (binds p || binds q) (binds r || binds s) l.x.sort
 sort-bound l (under q p) = refl
 
 or-cases : (a b : Bool) → (a || b) ≡ true → (a ≡ true) ⊎ (b ≡ true)
@@ -358,7 +355,7 @@ module _ (p : LinePattern) (w : Written) (made : well_made p ≡ true)
       swaps = both_true _ _ kinds.1
 
       same-sort : c.x.sort ≡ fresh.sort
-      same-sort = sym (ap (or_else (shape tree))
+      same-sort = sym (ap (λ o. unwrap_or o (shape tree))
           (ap (sort_bound (conclusion_pat p)) (sym (conclusion-made c hc))
           ∙ (sort-bound c (conclusion_pat p) ∙ ap (λ b. if_so b c.x.sort) kinds.0)))
 

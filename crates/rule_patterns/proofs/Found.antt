@@ -1,5 +1,6 @@
 -- In what a choice makes of a pattern, each letter is found again.
 use Rattle.std.proofs.Common.{◌≡◌, Bool, true, false, cond, ◌==◌, ◌||◌, refl, ap, ap₂, ◌∙◌, Option, Some, None}
+use Rattle.std.specs.Option.{option_or}
 use Rattle.model_shapes.proofs.Truth.{false≢true}
 use Rattle.model_shapes.proofs.Tests.{nat-refl}
 use Rattle.model_terms.specs.Variables.{Var}
@@ -8,7 +9,7 @@ use Rattle.rule_patterns.proofs.PatternTests.{has}
 use Rattle.rule_patterns.specs.Letter.{FormulaLetter, TermLetter, DataLetter, P', Q', R', A', B', K', H', E', F', S', I', L', T', J', M', h', k', j'}
 use Rattle.rule_patterns.specs.Trees.{Tree}
 use Rattle.rule_patterns.specs.TreePatterns.{Letter, formula_letter, term_letter, data_letter, sort_letter, hole_letter, letter_tree, Pat, any, x_pat, x_sort_pat, with_pat, leaf_pat, closed_pat, one_pat, two_pat, three_pat, four_pat, under, make}
-use Rattle.rule_patterns.specs.Finding.{one_number, two_number, three_number, four_number, bind_number, same_formula_letter, same_term_letter, same_data_letter, same_letter, first_of_two, find}
+use Rattle.rule_patterns.specs.Finding.{one_number, two_number, three_number, four_number, bind_number, same_formula_letter, same_term_letter, same_data_letter, same_letter, find}
 use Rattle.rule_patterns.proofs.Substituting.{opened}
 
 formula_letter-is : (a b : FormulaLetter) → same_formula_letter a b ≡ true → a ≡ b
@@ -50,7 +51,8 @@ letter-is a b e = false≢true e
 abbrev pub if_so : {A : Type 0} → Bool → A → Option A
 if_so b t = cond b (Some t) None
 
-firsts : (a b : Bool) (t : Tree) → first_of_two (if_so a t) (if_so b t) ≡ if_so (a || b) t
+pub firsts : {A : Type 0} (a b : Bool) (t : A)
+    → option_or (if_so a t) (if_so b t) ≡ if_so (a || b) t
 firsts true b t = refl
 firsts false b t = refl
 
@@ -82,22 +84,22 @@ module _ (l : Letters) (a : Letter) where
       ∙ found p
   found (two_pat n p q) =
       same-cond (two_number n == two_number n)
-      (first_of_two (find x a p (make l p)) (find x a q (make l q))) (nat-refl (two_number n))
-      ∙ (ap₂ first_of_two (found p) (found q) ∙ firsts (has a p) (has a q) whole_letter)
+      (option_or (find x a p (make l p)) (find x a q (make l q))) (nat-refl (two_number n))
+      ∙ (ap₂ option_or (found p) (found q) ∙ firsts (has a p) (has a q) whole_letter)
   found (three_pat n p q r) =
       same-cond (three_number n == three_number n)
-      (first_of_two (find x a p (make l p))
-      (first_of_two (find x a q (make l q)) (find x a r (make l r)))) (nat-refl (three_number n))
-      ∙ (ap₂ first_of_two (found p)
-      (ap₂ first_of_two (found q) (found r) ∙ firsts (has a q) (has a r) whole_letter)
+      (option_or (find x a p (make l p))
+      (option_or (find x a q (make l q)) (find x a r (make l r)))) (nat-refl (three_number n))
+      ∙ (ap₂ option_or (found p)
+      (ap₂ option_or (found q) (found r) ∙ firsts (has a q) (has a r) whole_letter)
       ∙ firsts (has a p) (has a q || has a r) whole_letter)
   found (four_pat n p q r s) =
       same-cond (four_number n == four_number n)
-      (first_of_two (first_of_two (find x a p (make l p)) (find x a q (make l q)))
-      (first_of_two (find x a r (make l r)) (find x a s (make l s)))) (nat-refl (four_number n))
-      ∙ (ap₂ first_of_two
-      (ap₂ first_of_two (found p) (found q) ∙ firsts (has a p) (has a q) whole_letter)
-      (ap₂ first_of_two (found r) (found s) ∙ firsts (has a r) (has a s) whole_letter)
+      (option_or (option_or (find x a p (make l p)) (find x a q (make l q)))
+      (option_or (find x a r (make l r)) (find x a s (make l s)))) (nat-refl (four_number n))
+      ∙ (ap₂ option_or
+      (ap₂ option_or (found p) (found q) ∙ firsts (has a p) (has a q) whole_letter)
+      (ap₂ option_or (found r) (found s) ∙ firsts (has a r) (has a s) whole_letter)
       ∙ firsts (has a p || has a q) (has a r || has a s) whole_letter)
   found (under q p) =
       same-cond (bind_number q == bind_number q) _ (nat-refl (bind_number q))

@@ -5,8 +5,9 @@ use Rattle.model_terms.specs.Variables.{Var, prog, logic, bound}
 use Rattle.model_terms.specs.VariableTests.{var_eq}
 use Rattle.model_terms.specs.Terms.{Term, literal, variable, sum, difference, appended, raised, Substitution, under_binder, term_with}
 use Rattle.model_formulas.specs.Substitution.{closing, closing_at}
+use Rattle.model_formulas.proofs.Nameless.{then_with}
+use Rattle.rule_table.proofs.Opening.{opening}
 use Rattle.rule_patterns.specs.Trees.{Tree, var, leaf, one, two, three, four, bind, tree_with}
-use Rattle.rule_patterns.specs.Finding.{opening}
 use Rattle.rule_patterns.proofs.Bridge.{term-over}
 
 pub raised-with : (g : Substitution) (t : Term)
@@ -18,9 +19,6 @@ raised-with g (variable (bound i s)) = refl
 raised-with g (sum a b) = ap₂ sum (raised-with g a) (raised-with g b)
 raised-with g (difference a b) = ap₂ difference (raised-with g a) (raised-with g b)
 raised-with g (appended a b) = ap₂ appended (raised-with g a) (raised-with g b)
-
-abbrev pub then_with : Substitution → Substitution → Substitution
-then_with f g x = term_with g (f x)
 
 pub under-then : (f g : Substitution)
     → then_with (under_binder f) (under_binder g) ≡ under_binder (then_with f g)
@@ -67,19 +65,19 @@ tree-variable (four n a b c d) =
 tree-variable (bind q s a) =
     ap (bind q s) (ap (λ h. tree_with h a) under-variable ∙ tree-variable a)
 
-raised-opened : (x : Var) (y : Var) → term_with (opening x) (raised (variable y)) ≡ variable y
+raised-opened : (x : Var) (y : Var) → term_with (opening (variable x)) (raised (variable y)) ≡ variable y
 raised-opened x (prog y s) = refl
 raised-opened x (logic y s) = refl
 raised-opened x (bound i s) = refl
 
-close-open : (x : Var) → then_with (closing x) (opening x) ≡ variable
+close-open : (x : Var) → then_with (closing x) (opening (variable x)) ≡ variable
 close-open x = fun_ext (λ y. by_case y (var_eq y x))
   where
-    by_case : (y : Var) (d : Dec (y ≡ x)) → term_with (opening x) (closing_at d) ≡ variable y
+    by_case : (y : Var) (d : Dec (y ≡ x)) → term_with (opening (variable x)) (closing_at d) ≡ variable y
     by_case y (yes e) = ap variable (sym e)
     by_case y (no n) = raised-opened x y
 
 -- what was closed is opened again
-pub opened : (x : Var) (t : Tree) → tree_with (opening x) (tree_with (closing x) t) ≡ t
-opened x t = tree-then (closing x) (opening x) t
+pub opened : (x : Var) (t : Tree) → tree_with (opening (variable x)) (tree_with (closing x) t) ≡ t
+opened x t = tree-then (closing x) (opening (variable x)) t
     ∙ (ap (λ h. tree_with h t) (close-open x) ∙ tree-variable t)

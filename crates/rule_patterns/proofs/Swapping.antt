@@ -11,6 +11,7 @@ use Rattle.model_formulas.specs.Formulas.{Formula, truth, falsity, conjunction, 
 use Rattle.model_formulas.specs.Substitution.{formula_with, FreeIn, closing, closing_at, replacing, replacing_at}
 use Rattle.model_terms.specs.TermSorts.{has_sort}
 use Rattle.model_formulas.specs.WellSorted.{variable_at}
+use Rattle.model_formulas.proofs.Nameless.{then_with}
 use Rattle.rule_table.specs.Letters.{Letters, LogicVar, as_logic}
 use Rattle.rule_table.specs.Conditions.{TermAt}
 use Rattle.rule_patterns.specs.Constant.{Constant, node_constant, forest_constant, grove_constant, length_constant, constant_formula}
@@ -18,7 +19,7 @@ use Rattle.rule_patterns.specs.Letter.{FormulaLetter, TermLetter, P', Q', R', A'
 use Rattle.rule_patterns.specs.Trees.{var, one, two, three, four, bind, term_tree, hole_tree, sort_tree, formula_tree, tree_with}
 use Rattle.rule_patterns.specs.TreePatterns.{Letter, formula_letter, term_letter, data_letter, sort_letter, hole_letter, letter_tree, Pat, any, x_pat, x_sort_pat, with_pat, leaf_pat, closed_pat, one_pat, two_pat, three_pat, four_pat, under, make}
 use Rattle.rule_patterns.proofs.Bridge.{term-over, formula-over}
-use Rattle.rule_patterns.proofs.Substituting.{then_with, tree-then, raised-with}
+use Rattle.rule_patterns.proofs.Substituting.{tree-then, raised-with}
 
 -- the variable with two swapped
 abbrev pub swapped_at : {x y v : Var} → Dec (v ≡ x) → Dec (v ≡ y) → Var

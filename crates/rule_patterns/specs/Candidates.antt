@@ -1,6 +1,7 @@
 -- Needn't be believed: which logic variables are tried for $x: those that stand in what is
 -- written, and a new one.
 use Rattle.std.specs.Prelude.{◌≡◌, ◌⊎◌, ℕ, zero, suc, ◌+◌, length, List, [], ◌∷◌, ◌++◌, Option, Some, None}
+use Rattle.std.specs.Option.{option_or, unwrap_or}
 use Rattle.model_shapes.specs.Sorts.{Sort, shape, tree}
 use Rattle.model_terms.specs.Variables.{prog, logic, bound}
 use Rattle.rule_table.specs.Letters.{LogicVar}
@@ -8,7 +9,7 @@ use Rattle.rule_table.specs.Verdicts.{Written}
 use Rattle.rule_patterns.specs.Patterns.{LinePattern}
 use Rattle.rule_patterns.specs.Trees.{Tree, var, leaf, one, two, three, four, bind}
 use Rattle.rule_patterns.specs.TreePatterns.{Pat, one_pat, two_pat, three_pat, four_pat, under}
-use Rattle.rule_patterns.specs.Finding.{first_of_two, or_else, conclusion_pat, conclusion_tree, cited_tree}
+use Rattle.rule_patterns.specs.Finding.{conclusion_pat, conclusion_tree, cited_tree}
 
 -- the logic variables that stand free
 abbrev pub logics_in : Tree → List LogicVar
@@ -25,12 +26,12 @@ logics_in (bind q s a) = logics_in a
 -- the sort at the first binder of the pattern
 abbrev pub sort_bound : Pat → Tree → Option Sort
 sort_bound (one_pat n p) (one m t) = sort_bound p t
-sort_bound (two_pat n p q) (two m t u) = first_of_two (sort_bound p t) (sort_bound q u)
+sort_bound (two_pat n p q) (two m t u) = option_or (sort_bound p t) (sort_bound q u)
 sort_bound (three_pat n p q r) (three m t u v) =
-    first_of_two (sort_bound p t) (first_of_two (sort_bound q u) (sort_bound r v))
+    option_or (sort_bound p t) (option_or (sort_bound q u) (sort_bound r v))
 sort_bound (four_pat n p q r s) (four m t u v w) =
-    first_of_two (first_of_two (sort_bound p t) (sort_bound q u))
-    (first_of_two (sort_bound r v) (sort_bound s w))
+    option_or (option_or (sort_bound p t) (sort_bound q u))
+    (option_or (sort_bound r v) (sort_bound s w))
 sort_bound (under q p) (bind r s t) = Some s
 sort_bound p t = None
 
@@ -52,7 +53,7 @@ name_of_length (suc n) = 0 ∷ name_of_length n
 abbrev pub new_variable : LinePattern → Written → LogicVar
 new_variable p w = record {
   name = name_of_length (suc (all_names (written_in w)));
-  sort = or_else (shape tree) (sort_bound (conclusion_pat p) (conclusion_tree w));
+  sort = unwrap_or (sort_bound (conclusion_pat p) (conclusion_tree w)) (shape tree);
 }
 
 -- what is tried

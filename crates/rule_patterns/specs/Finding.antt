@@ -1,14 +1,16 @@
 -- Needn't be believed: the choice that the written judgements make, once $x is chosen: for each
 -- letter what stands at its first place.
-use Rattle.std.specs.Prelude.{ℕ, zero, suc, Bool, true, false, cond, ◌==◌, List, Option, Some, None}
+use Rattle.std.specs.Prelude.{ℕ, Bool, true, false, cond, ◌==◌, List, Option, Some, None}
+use Rattle.std.specs.Option.{option_or, unwrap_or}
 use Rattle.model_shapes.specs.Sorts.{shape, tree}
 use Rattle.model_shapes.specs.Values.{null}
-use Rattle.model_terms.specs.Variables.{Var, prog, logic, bound}
-use Rattle.model_terms.specs.Terms.{literal, variable, Substitution}
+use Rattle.model_terms.specs.Variables.{Var}
+use Rattle.model_terms.specs.Terms.{literal, variable}
 use Rattle.model_formulas.specs.Formulas.{truth, Side, whole, hole_left, hole_right}
 use Rattle.model_commands.specs.Theories.{Judgement}
 use Rattle.rule_table.specs.Letters.{Letters, LogicVar, as_logic}
 use Rattle.rule_table.specs.Verdicts.{Written}
+use Rattle.rule_table.proofs.Opening.{opening}
 use Rattle.rule_table.proofs.SomeLetters.{plain_letters}
 use Rattle.rule_patterns.specs.Letter.{FormulaLetter, TermLetter, DataLetter, P', Q', R', A', B', K', H', E', F', S', I', L', T', J', M', h', k', j'}
 use Rattle.rule_patterns.specs.Patterns.{LinePattern}
@@ -97,43 +99,28 @@ same_letter hole_letter hole_letter = true
 same_letter a b = false
 
 -- THE SEARCH
--- the name of the outermost binder becomes free
-abbrev pub opening : Var → Substitution
-opening x (prog name s) = variable (prog name s)
-opening x (logic name s) = variable (logic name s)
-opening x (bound zero s) = variable x
-opening x (bound (suc i) s) = variable (bound i s)
-
-abbrev pub first_of_two : {A : Type 0} → Option A → Option A → Option A
-first_of_two None o = o
-first_of_two (Some t) o = Some t
-
--- what stands at the first place of the letter
+-- what stands at the first place of the letter; under a binder its variable becomes $x again
 abbrev pub find : Var → Letter → Pat → Tree → Option Tree
 find x a (any b) t = cond (same_letter b a) (Some t) None
 find x a (one_pat n p) (one m t) = cond (one_number n == one_number m) (find x a p t) None
 find x a (two_pat n p q) (two m t u) =
-    cond (two_number n == two_number m) (first_of_two (find x a p t) (find x a q u)) None
+    cond (two_number n == two_number m) (option_or (find x a p t) (find x a q u)) None
 find x a (three_pat n p q r) (three m t u v) =
     cond (three_number n == three_number m)
-    (first_of_two (find x a p t) (first_of_two (find x a q u) (find x a r v))) None
+    (option_or (find x a p t) (option_or (find x a q u) (find x a r v))) None
 find x a (four_pat n p q r s) (four m t u v w) =
     cond (four_number n == four_number m)
-    (first_of_two (first_of_two (find x a p t) (find x a q u))
-    (first_of_two (find x a r v) (find x a s w))) None
+    (option_or (option_or (find x a p t) (find x a q u))
+    (option_or (find x a r v) (find x a s w))) None
 find x a (under q p) (bind r s t) =
-    cond (bind_number q == bind_number r) (find x a p (tree_with (opening x) t)) None
+    cond (bind_number q == bind_number r) (find x a p (tree_with (opening (variable x)) t)) None
 find x a p t = None
 
 -- THE CHOICE
 -- what is read from what was found
-abbrev pub or_else : {A : Type 0} → A → Option A → A
-or_else a None = a
-or_else a (Some b) = b
-
 abbrev pub read : {A : Type 0} → (Tree → Option A) → A → Option Tree → A
 read from a None = a
-read from a (Some t) = or_else a (from t)
+read from a (Some t) = unwrap_or (from t) a
 
 -- the letters that aren't found, and those that no pattern has, have any value
 abbrev pub letters_found : LogicVar → (Letter → Option Tree) → Letters
@@ -180,5 +167,5 @@ cited_tree (Some js) = judgements_tree js
 -- THE ATTEMPT with $x
 abbrev pub attempt : LinePattern → Written → LogicVar → Letters
 attempt p w x = letters_found x (λ a.
-    first_of_two (find (as_logic x) a (conclusion_pat p) (conclusion_tree w))
+    option_or (find (as_logic x) a (conclusion_pat p) (conclusion_tree w))
     (find (as_logic x) a (premises_pat p) (cited_tree w.premises)))

@@ -1,6 +1,7 @@
 -- Needn't be believed: terms, sorts, formulas and judgements as trees of one type, and the way
 -- back.
 use Rattle.std.specs.Prelude.{List, [], ◌∷◌, Option, Some, None}
+use Rattle.std.specs.Option.{option_map}
 use Rattle.model_shapes.specs.Sorts.{Sort, value, shape, context, ValueSort, DataSort}
 use Rattle.model_shapes.specs.Values.{Value}
 use Rattle.model_terms.specs.Variables.{Var}
@@ -123,13 +124,9 @@ tree_with f (four n a b c d) =
 tree_with f (bind q s a) = bind q s (tree_with (under_binder f) a)
 
 -- THE WAY BACK
-abbrev pub map_one : {A B : Type 0} → (A → B) → Option A → Option B
-map_one f None = None
-map_one f (Some a) = Some (f a)
-
 abbrev pub map_two : {A B C : Type 0} → (A → B → C) → Option A → Option B → Option C
 map_two f None b = None
-map_two f (Some a) b = map_one (f a) b
+map_two f (Some a) b = option_map (f a) b
 
 abbrev pub map_three : {A B C D : Type 0} → (A → B → C → D) → Option A → Option B → Option C
     → Option D
@@ -171,13 +168,13 @@ sort_from t = None
 abbrev pub formula_from : Tree → Option Formula
 formula_from (leaf true_leaf) = Some truth
 formula_from (leaf false_leaf) = Some falsity
-formula_from (one negation_one a) = map_one negation (formula_from a)
-formula_from (one tree_one a) = map_one one_tree (formula_from a)
-formula_from (one root_one a) = map_one one_root (formula_from a)
-formula_from (one same_one a) = map_one same_as (term_from a)
-formula_from (one length_one a) = map_one length_is (term_from a)
-formula_from (one empty_one a) = map_one empty (data_from a)
-formula_from (one hole_one a) = map_one bare_hole (data_from a)
+formula_from (one negation_one a) = option_map negation (formula_from a)
+formula_from (one tree_one a) = option_map one_tree (formula_from a)
+formula_from (one root_one a) = option_map one_root (formula_from a)
+formula_from (one same_one a) = option_map same_as (term_from a)
+formula_from (one length_one a) = option_map length_is (term_from a)
+formula_from (one empty_one a) = option_map empty (data_from a)
+formula_from (one hole_one a) = option_map bare_hole (data_from a)
 formula_from (two and_two a b) = map_two conjunction (formula_from a) (formula_from b)
 formula_from (two or_two a b) = map_two disjunction (formula_from a) (formula_from b)
 formula_from (two implies_two a b) = map_two implication (formula_from a) (formula_from b)
@@ -196,8 +193,8 @@ formula_from (three meets_three a b c) =
     map_three value_meets (sort_from a) (term_from b) (formula_from c)
 formula_from (four node_four a b c d) =
     map_four node_formula (term_from a) (term_from b) (formula_from c) (term_from d)
-formula_from (bind some_bind s a) = map_one (existential s) (formula_from a)
-formula_from (bind each_bind s a) = map_one (universal s) (formula_from a)
+formula_from (bind some_bind s a) = option_map (existential s) (formula_from a)
+formula_from (bind each_bind s a) = option_map (universal s) (formula_from a)
 formula_from t = None
 
 abbrev pub command_from : Tree → Option Command
