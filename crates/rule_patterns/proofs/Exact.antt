@@ -319,7 +319,8 @@ module _ (p : LinePattern) (w : Written) (made : well_made p ≡ true)
       × ((asks_nothing p.requirements && without_x p.conditions) ≡ true) = both_true _ _ k in
       let b : (plain (conclusion_pat p) ≡ true)
       × (plain (premises_pat p) ≡ true) = both_true _ _ a.0 in
-      let d : (asks_nothing p.requirements ≡ true) × (without_x p.conditions ≡ true) = both_true _ _ a.1 in
+      let d : (asks_nothing p.requirements ≡ true)
+      × (without_x p.conditions ≡ true) = both_true _ _ a.1 in
       let q : (plain (terms_pat p.arguments) ≡ true)
       × (plain (judgement_pat p.conclusion) ≡ true) = both_true _ _ b.0 in
       let e0 : terms_of (with_x c fresh) p.arguments ≡ terms_of c p.arguments =

@@ -55,7 +55,8 @@ known_then p a = has a (conclusion_pat p) || has a (premises_pat p)
 
 abbrev pub well_made : LinePattern → Bool
 well_made p =
-    (covers (known_first p) (conclusion_pat p) && covers_requirements (known_first p) p.requirements)
+    (covers (known_first p) (conclusion_pat p)
+    && covers_requirements (known_first p) p.requirements)
     && (covers (known_then p) (premises_pat p) && covers_conditions (known_then p) p.conditions)
 
 -- KINDS OF LINES
@@ -120,7 +121,8 @@ is_plain_line p =
     && (asks_nothing p.requirements && without_x p.conditions)
 
 abbrev pub is_binding_line : LinePattern → Bool
-is_binding_line p = binds (conclusion_pat p) && (may_swap_each p.requirements && may_swap p.conditions)
+is_binding_line p =
+    binds (conclusion_pat p) && (may_swap_each p.requirements && may_swap p.conditions)
 
 abbrev pub of_a_kind : LinePattern → Bool
 of_a_kind p = is_plain_line p || (is_binding_line p || names_x (conclusion_pat p))

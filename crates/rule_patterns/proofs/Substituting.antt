@@ -65,7 +65,7 @@ tree-variable (four n a b c d) =
 tree-variable (bind q s a) =
     ap (bind q s) (ap (λ h. tree_with h a) under-variable ∙ tree-variable a)
 
-raised-opened : (x : Var) (y : Var) → term_with (opening (variable x)) (raised (variable y)) ≡ variable y
+raised-opened : (x y : Var) → term_with (opening (variable x)) (raised (variable y)) ≡ variable y
 raised-opened x (prog y s) = refl
 raised-opened x (logic y s) = refl
 raised-opened x (bound i s) = refl
@@ -73,7 +73,8 @@ raised-opened x (bound i s) = refl
 close-open : (x : Var) → then_with (closing x) (opening (variable x)) ≡ variable
 close-open x = fun_ext (λ y. by_case y (var_eq y x))
   where
-    by_case : (y : Var) (d : Dec (y ≡ x)) → term_with (opening (variable x)) (closing_at d) ≡ variable y
+    by_case : (y : Var) (d : Dec (y ≡ x))
+        → term_with (opening (variable x)) (closing_at d) ≡ variable y
     by_case y (yes e) = ap variable (sym e)
     by_case y (no n) = raised-opened x y
 

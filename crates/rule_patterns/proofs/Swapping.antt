@@ -158,7 +158,8 @@ module _ (x y : LogicVar) (one_sort : x.sort ≡ y.sort) where
   letter-swap l hole_letter = hole-over swapping l.o
 
   -- a closed formula has neither
-  constant-kept : (c : Constant) → formula_tree (constant_formula c) ≡ tree_with swapping (formula_tree (constant_formula c))
+  constant-kept : (c : Constant)
+      → formula_tree (constant_formula c) ≡ tree_with swapping (formula_tree (constant_formula c))
   constant-kept node_constant = refl
   constant-kept forest_constant = refl
   constant-kept grove_constant = refl

@@ -45,7 +45,8 @@ abbrev Is_way : Way → List Row → Type 0
 Is_way way rows = (rows_by way rows ≡ rows) × (way_fits way ≡ true)
 
 way-named : (entries : List Entry) (ws : List Way) → readings_by ws entries ≡ readings entries
-    → ways_fit ws ≡ true → (name : Name) → Is_way (way_in entries ws name) (readings_in entries name)
+    → ways_fit ws ≡ true → (name : Name)
+    → Is_way (way_in entries ws name) (readings_in entries name)
 way-named [] ws e f name = (refl, refl)
 way-named (entry ∷ entries) [] e f name = absurd cc
 way-named (entry ∷ entries) (way ∷ ws) e f name =
