@@ -30,8 +30,8 @@ fn sort_in_root(formula: &Formula) -> Option<Sort> {
 
 // What is written of a formula that was read with a logic variable for a tree, and the sort that
 // the variable got.
-fn read_and_written(alloc: Global, text: &str) -> Result<(Text, Option<Sort>), Fail> {
-    let tokens = token_list(alloc, text.as_bytes())?;
+fn read_and_written(alloc: Global) -> Result<(Text, Option<Sort>), Fail> {
+    let tokens = token_list(alloc, b"(0g + [$x])")?;
     let vars = vec![in alloc; AnyVar::Logic(tree(alloc)?)]?;
     let formula = read_formula(alloc, &tokens, &vars)?;
     let sort = sort_in_root(&formula);
@@ -40,7 +40,7 @@ fn read_and_written(alloc: Global, text: &str) -> Result<(Text, Option<Sort>), F
 
 #[test]
 fn a_formula_is_read_with_the_sorts_of_a_list(rt: HostRuntime) -> Result<(), Fail> {
-    let (text, sort) = read_and_written(rt.alloc(), "(0g + [$x])")?;
+    let (text, sort) = read_and_written(rt.alloc())?;
     assert_eq!(rt; text.as_str(), "( 0g + [ $x ] )");
     assert!(rt; matches!(sort, Some(Sort::Shape(DataSort::Tree))));
     Ok(())
