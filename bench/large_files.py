@@ -18,9 +18,14 @@ that it can see. With --write the files are written, and nothing is measured.
     deep         formulas, terms and blocks that nest 90 brackets deep
     long         four formulas, each a quarter of the file
     names        a proof that uses as many logic variables as it has steps
+    conj         facts gathered into one conjunction, a conjunct a step, and taken out again
+    assoc        forests and groves whose brackets are moved over, a part at a time
+    levels       mono rules through 44 levels of nodes
+    binders      40 quantifiers brought in with written arguments and taken out again
 
 Each file is well formed and is accepted once each rule is built. Until then `check` answers with
-status 4 that a rule isn't, after all of the reading and the judging.
+status 4 that a rule isn't, after all of the reading and the judging. The last four need rules of
+entailment alone.
 """
 import os
 import pathlib
@@ -181,6 +186,144 @@ def entailments(room):
     return text + last.format(text.count("\nstep ") + 1)
 
 
+def proof_in_parts(room, head, part):
+    """One proof of parts that each give their steps, numbered on, with a last step by skip."""
+    last = "step {} by skip(): pre 0g do skip post 0g at g;\nend\n"
+    pieces, count, left = [head], 0, room - len(head) - len(last) - 3
+    while True:
+        steps = list(part(len(pieces), count))
+        piece = "".join(f"step {count + k} by {it};\n" for k, it in enumerate(steps, 1))
+        if len(piece) > left or count + len(steps) >= MOST_STEPS:
+            return "".join([*pieces, last.format(count + 1)])
+        pieces.append(piece)
+        count, left = count + len(steps), left - len(piece)
+
+
+FACTS = 40
+
+
+def gathered(number, before):
+    """The steps that gather facts of `true` into one conjunction, and take each out again."""
+    facts = [f"{{a + {number}}} = {{a + {number}}}", *(f"{k} = {k}" for k in range(2, FACTS + 1))]
+    whole = facts[0]
+    yield f"eq_refl(): true entails {whole} at g"
+    for k, fact in enumerate(facts[1:], 1):
+        yield f"eq_refl(): true entails {fact} at g"
+        whole = f"({whole} and {fact})"
+        yield f"and_in({before + 2 * k - 1}, {before + 2 * k}): true entails {whole} at g"
+    rest, at = whole, before + 2 * FACTS - 1
+    while rest != facts[0]:
+        less = rest[1:].rsplit(" and ", 1)[0]
+        yield f"and_left(): {rest} entails {less} at g"
+        yield f"cut({at}, {at + 1}): true entails {less} at g"
+        rest, at = less, at + 2
+
+
+def conj(room):
+    """Facts gathered into one conjunction."""
+    head = f"{HEAD}proc main(a: int) returns () sort g\nrequires 0g ensures 0g\nbody skip\nproof\n"
+    return proof_in_parts(room, head, gathered)
+
+
+TREES = 24
+
+
+def regrouped(number, before, sign, rule, sort):
+    """The steps that move the brackets of a row of parts from the left to the right."""
+    put, word = (("<", ">"), "tree") if sign == "*" else (("[", "]"), "root")
+    parts = [f'{put[0]}"{word}{number}"#$i[len {k}]%$l{put[1]}' for k in range(TREES)]
+    left = parts[0]
+    for part in parts[1:-1]:
+        left = f"({left} {sign} {part})"
+    right, at = parts[-1], before
+    whole = f"({left} {sign} {right})"
+    yield f"id(): {whole} entails {whole} at {sort}"
+    while left != parts[0]:
+        less, part = left[1:-1].rsplit(f" {sign} ", 1)
+        moved = f"({less} {sign} ({part} {sign} {right}))"
+        yield f"{rule}(): ({left} {sign} {right}) entails {moved} at {sort}"
+        yield f"cut({at + 1}, {at + 2}): {whole} entails {moved} at {sort}"
+        left, right, at = less, f"({part} {sign} {right})", at + 2
+
+
+def regrouped_both(number, before):
+    """The same of a forest and of a grove."""
+    forest = list(regrouped(number, before, "*", "star_assoc", "f"))
+    yield from forest
+    yield from regrouped(number, before + len(forest), "+", "plus_assoc", "g")
+
+
+def assoc(room):
+    """Forests and groves whose brackets are moved over."""
+    head = f"{HEAD}{NAMES}proc main() returns () sort g\nrequires 0g ensures 0g\nbody skip\nproof\n"
+    return proof_in_parts(room, head, regrouped_both)
+
+
+LEVELS = 44
+
+
+def node_levels(number, before):
+    """The steps that lead one entailment of forests through the levels of nodes."""
+    inner, outer, at = "0f", f"(0f or len {number})", before + 1
+    yield f"or_left(): {inner} entails {outer} at f"
+    for level in range(LEVELS):
+        name = f'"n{level}"#$i'
+        inner, outer = f"{name}[{inner}]%$l", f"{name}[{outer}]%$l"
+        yield f"mono_node({at}): {inner} entails {outer} at t"
+        inner, outer = f"<{inner}>", f"<{outer}>"
+        yield f"mono_tree({at + 1}): {inner} entails {outer} at f"
+        at += 2
+
+
+def levels(room):
+    """Mono rules through levels of nodes."""
+    head = f"{HEAD}{NAMES}proc main() returns () sort g\nrequires 0g ensures 0g\nbody skip\nproof\n"
+    return proof_in_parts(room, head, node_levels)
+
+
+BINDERS = 40
+
+
+def all_of(parts):
+    """The conjunction of the formulas, put together by pairs."""
+    if len(parts) == 1:
+        return parts[0]
+    return f"({all_of(parts[:len(parts) // 2])} and {all_of(parts[len(parts) // 2:])})"
+
+
+def bound_terms(count, terms):
+    """A formula of the terms, of which so many are variables that quantifiers bind."""
+    held = [f"$m{k}" if k < count else term for k, term in enumerate(terms)]
+    inner = all_of([f"{low} <= {high}" for low, high in zip(held[::2], held[1::2])])
+    for k in range(count):
+        inner = f"(exists $m{k} . {inner})"
+    return inner
+
+
+def free_again(number, before):
+    """The steps that bring quantifiers in, a written argument each, and take them out again."""
+    terms = [f"{{a + {number + k}}}" for k in range(BINDERS)]
+    start, at = bound_terms(0, terms), before + 1
+    yield f"id(): {start} entails {start} at g"
+    for k, term in enumerate(terms):
+        bound = bound_terms(k + 1, terms)
+        yield f"exists_in() with ({term}): {bound_terms(k, terms)} entails {bound} at g"
+        yield f"cut({at}, {at + 1}): {start} entails {bound} at g"
+        at += 2
+    inner = bound.rpartition(" . ")[2][:-BINDERS]
+    yield f"true_in(): {inner} entails true at g"
+    for k in range(BINDERS):
+        inner = f"(exists $m{k} . {inner})"
+        yield f"exists_out({at + 1 + k}): {inner} entails true at g"
+
+
+def binders(room):
+    """Quantifiers brought in and taken out."""
+    names = ", ".join(f"$m{k}" for k in range(BINDERS))
+    head = f"{HEAD}logic int {names};\nproc main(a: int) returns () sort g\n"
+    return proof_in_parts(room, f"{head}requires 0g ensures 0g\nbody skip\nproof\n", free_again)
+
+
 def nested(depth, left, inner, right):
     """The inner text in so many pairs of brackets."""
     return left * depth + inner + right * depth
@@ -244,6 +387,10 @@ SHAPES = {
     "deep": deep,
     "long": long,
     "names": names,
+    "conj": conj,
+    "assoc": assoc,
+    "levels": levels,
+    "binders": binders,
 }
 
 # accepted, and that a step names a rule that isn't built

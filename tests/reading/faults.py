@@ -1,4 +1,5 @@
 """Files that read and aren't well formed: the faults with their places."""
+from reading.built import is_built
 from reading.sorts import declared_by, is_command, is_sorted, scope_of, term_sort, walk
 
 BOTH_WAYS = """star_assoc star_left_assoc star_right_assoc star_mid_assoc star_unit unit_star
@@ -16,7 +17,6 @@ ONE_WAY = """id cut true_in false_out and_in and_left and_right or_left or_right
 OF_TRIPLES = """skip assign seq if while local call frame consequence eliminate disjunction
     absurd instance name children item item_none parent parent_none create append remove""".split()
 RULES = {*BOTH_WAYS, *(name + "_back" for name in BOTH_WAYS), *ONE_WAY, *OF_TRIPLES}
-BUILT = ("skip", "assign", "seq")
 
 
 def has_repeat(items):
@@ -122,9 +122,9 @@ def file_faults(theory):
             yield from ((at + 1, place, kind) for kind in step_faults(step, place, scope))
 
 
-def unbuilt_steps(theory):
+def unbuilt_steps(theory, stage):
     """Gives the steps by rules that there are and that can't be checked yet."""
     for at, procedure in enumerate(theory.procedures, 1):
         for place, step in enumerate(procedure.steps, 1):
-            if step.rule is not None and step.rule not in BUILT:
+            if step.rule is not None and not is_built(step.rule, stage):
                 yield at, place, "unbuilt"
