@@ -243,7 +243,7 @@ conditions-plain l x (pure_p a ∷ cs) e =
     ap₂ ◌∷◌ (ap pure (formula_at-plain l x a)) (conditions-plain l x cs e)
 
 -- THE NEW VARIABLE IS NEW
-name-length : (n : ℕ) → length (name_of_length n) ≡ n
+pub name-length : (n : ℕ) → length (name_of_length n) ≡ n
 name-length zero = refl
 name-length (suc n) = let e : length (name_of_length n) ≡ n = name-length n in omega (arith, e)
 
@@ -277,14 +277,7 @@ abbrev right_of : Tree → Tree
 right_of (two n a b) = b
 right_of t = t
 
-module _ (p : LinePattern) (w : Written) (made : well_made p ≡ true)
-    (kind : of_a_kind p ≡ true) where
-  new : In (new_variable p w) (written_in w) → ⊥
-  new = new-is-new p w
-
-  abbrev fresh : LogicVar
-  fresh = new_variable p w
-
+module _ (p : LinePattern) (w : Written) (made : well_made p ≡ true) (fresh : LogicVar) where
   -- what the attempts reach
   reached : (st : Stage) (c : Letters) → Reaches st w (line_of c p)
       → Reaches st w (line_of (attempt p w c.x) p)
@@ -344,21 +337,20 @@ module _ (p : LinePattern) (w : Written) (made : well_made p ≡ true)
         conditions = conditions-plain c fresh p.conditions d.1 i;
       }
 
+  -- then any variable is enough
+  pub enough-plain : is_plain_line p ≡ true → (st : Stage) (c : Letters)
+      → Reaches st w (line_of c p) → Reaches st w (line_of (attempt p w fresh) p)
+  enough-plain k st c h =
+      reached st (with_x c fresh) (subst (Reaches st w) (sym (plain-line k c)) h)
+
   -- BINDING
-  module _ (k : is_binding_line p ≡ true) (c : Letters) (hc : Concludes w (line_of c p))
+  module _ (new : In fresh (written_in w) → ⊥) (k : is_binding_line p ≡ true) (c : Letters)
+      (hc : Concludes w (line_of c p))
       (absent : In c.x (logics_in (conclusion_tree w) ++ logics_in (cited_tree w.premises)) → ⊥)
+      (same-sort : c.x.sort ≡ fresh.sort)
     where
-      kinds : (binds (conclusion_pat p) ≡ true)
-          × ((may_swap_each p.requirements && may_swap p.conditions) ≡ true)
-      kinds = both_true _ _ k
-
       swaps : (may_swap_each p.requirements ≡ true) × (may_swap p.conditions ≡ true)
-      swaps = both_true _ _ kinds.1
-
-      same-sort : c.x.sort ≡ fresh.sort
-      same-sort = sym (ap (λ o. unwrap_or o (shape tree))
-          (ap (sort_bound (conclusion_pat p)) (sym (conclusion-made c hc))
-          ∙ (sort-bound c (conclusion_pat p) ∙ ap (λ b. if_so b c.x.sort) kinds.0)))
+      swaps = both_true _ _ (both_true (binds (conclusion_pat p)) _ k).1
 
       abbrev d : Letters
       d = swapped c.x fresh same-sort c
@@ -436,29 +428,28 @@ module _ (p : LinePattern) (w : Written) (made : well_made p ≡ true)
       reaches-swapped all_stage h =
           (follows-swapped h.0.1, conditions-swapped p.conditions swaps.1 h.1)
 
-  -- THE CANDIDATES ARE ENOUGH
-  pub complete : (st : Stage) (c : Letters) → Reaches st w (line_of c p)
-      → (x : LogicVar) × In x (candidates p w) × Reaches st w (line_of (attempt p w x) p)
-  complete st c h =
+  -- THE WRITTEN VARIABLES AND A NEW ONE ARE ENOUGH, one of the sort that the choice gives to $x
+  pub enough : of_a_kind p ≡ true → (In fresh (written_in w) → ⊥) → (st : Stage) (c : Letters)
+      → (is_binding_line p ≡ true → c.x.sort ≡ fresh.sort) → Reaches st w (line_of c p)
+      → (x : LogicVar) × In x (fresh ∷ written_in w) × Reaches st w (line_of (attempt p w x) p)
+  enough kind new st c sorted h =
       by_case (in-or-not c.x (logics_in (conclusion_tree w) ++ logics_in (cited_tree w.premises)))
     where
       by_case : In c.x (logics_in (conclusion_tree w) ++ logics_in (cited_tree w.premises))
           ⊎ (In c.x (logics_in (conclusion_tree w) ++ logics_in (cited_tree w.premises)) → ⊥)
-          → (x : LogicVar) × In x (candidates p w) × Reaches st w (line_of (attempt p w x) p)
+          → (x : LogicVar) × In x (fresh ∷ written_in w)
+          × Reaches st w (line_of (attempt p w x) p)
       by_case (inl m) = (c.x, inr m, reached st c h)
       by_case (inr m) = ⊎_elim
-          (λ k. (
-            fresh,
-            inl refl,
-            reached st (with_x c fresh)
-                (subst (Reaches st w) (sym (plain-line k c)) h),
-          ))
+          (λ k. (fresh, inl refl, enough-plain k st c h))
           (λ r. ⊎_elim
           (λ k. (
             fresh,
             inl refl,
-            reached st (d k c (reaches-conclusion st w (line_of c p) h) m)
-                (reaches-swapped k c (reaches-conclusion st w (line_of c p) h) m st h),
+            reached st
+                (d new k c (reaches-conclusion st w (line_of c p) h) m (sorted k))
+                (reaches-swapped new k c (reaches-conclusion st w (line_of c p) h) m (sorted k) st
+                h),
           ))
           (λ k. absurd
           (m
@@ -468,3 +459,20 @@ module _ (p : LinePattern) (w : Written) (made : well_made p ≡ true)
           (x-named c (conclusion_pat p) k)))))
           (or-cases (is_binding_line p) (names_x (conclusion_pat p)) r))
           (or-cases (is_plain_line p) (is_binding_line p || names_x (conclusion_pat p)) kind)
+
+  -- the sort at the first binder of the conclusion is that of $x
+  pub sort-at-binder : is_binding_line p ≡ true → (c : Letters) → Concludes w (line_of c p)
+      → c.x.sort ≡ unwrap_or (sort_bound (conclusion_pat p) (conclusion_tree w)) (shape tree)
+  sort-at-binder k c hc = sym (ap (λ o. unwrap_or o (shape tree))
+      (ap (sort_bound (conclusion_pat p)) (sym (conclusion-made c hc))
+      ∙ (sort-bound c (conclusion_pat p)
+      ∙ ap (λ b. if_so b c.x.sort) (both_true (binds (conclusion_pat p)) _ k).0)))
+
+-- so are the candidates
+pub complete : (p : LinePattern) (w : Written) → well_made p ≡ true → of_a_kind p ≡ true
+    → (st : Stage) (c : Letters) → Reaches st w (line_of c p)
+    → (x : LogicVar) × In x (candidates p w) × Reaches st w (line_of (attempt p w x) p)
+complete p w made kind st c h =
+    enough p w made (new_variable p w) kind (new-is-new p w) st c
+    (λ k. sort-at-binder p w made (new_variable p w) k c
+    (reaches-conclusion st w (line_of c p) h)) h
