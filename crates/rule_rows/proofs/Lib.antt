@@ -1,0 +1,2 @@
+pub mod FoundRules
+pub mod PlacedWays
