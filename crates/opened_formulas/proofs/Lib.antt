@@ -1,0 +1,5 @@
+pub mod Zeros
+pub mod FreeOnes
+pub mod Occurrences
+pub mod Raised
+pub mod Scopes

@@ -1,0 +1,3 @@
+pub mod Pure
+pub mod Tests
+pub mod Reaching

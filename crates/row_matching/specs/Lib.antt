@@ -1,0 +1,3 @@
+pub mod FirstPlaces
+pub mod Forms
+pub mod Choices

@@ -1,0 +1,310 @@
+// What stands at the first place of a letter in a formula, form by form.
+ghost use Rattle.std.specs.Prelude.{◌≡◌, ◌==◌, IsTrue, cond, false, None, [], ◌∷◌};
+ghost use Rattle.std.specs.Option.{option_or};
+ghost use Rattle.model_terms.specs.Terms.{under_binder};
+ghost use Rattle.model_formulas.specs.Nameless.{nameless, walked};
+ghost use Rattle.model_formulas.specs.Substitution.{formula_with};
+ghost use Rattle.dom_terms.specs.Sorts.{sort_of};
+ghost use Rattle.dom_terms.specs.Terms.{logic_var_of};
+ghost use Rattle.formula_syntax.specs.Formulas.{formula_of, side_of};
+ghost use Rattle.rule_patterns.specs.Trees.{some_bind, each_bind, bind, formula_tree};
+ghost use Rattle.rule_patterns.specs.TreePatterns.{under, formula_pat};
+ghost use Rattle.rule_patterns.specs.Finding.{find, side_number};
+ghost use Rattle.row_patterns.specs.Views.{formula_in};
+ghost use Rattle.row_patterns.specs.Binders.{single};
+ghost use Rattle.opened_formulas.specs.Readings.{tried_var, renaming};
+ghost use Rattle.row_matching.specs.FirstPlaces.{letter_of, tree_found, unopened};
+ghost use Rattle.row_matching.specs.Forms.{is_connective, is_structural, is_sorted, is_of_terms};
+
+use crate::finding::{find_data, find_term};
+use crate::found::{Found, Letter, same_letter};
+use dom_terms::LogicVar;
+use formula_syntax::{Formula, Side};
+use opened_formulas::{Candidate, Opened};
+use row_patterns::Pattern;
+
+/// What stands at the letter's first place in a formula, below what was opened.
+#[cycle(find)]
+pub fn find_formula<'a>(
+    pattern: &Pattern,
+    a: &'a Formula,
+    opened: Option<Opened<'a>>,
+    candidate: Candidate<'a>,
+    letter: Letter,
+) -> Found<'a>
+    requires { IsTrue (single (unopened opened) pattern.now) }
+    ensures { tree_found result ≡ find (tried_var candidate.entry) (letter_of letter)
+        (formula_pat (formula_in pattern.now))
+        (formula_tree (formula_with (renaming opened.entry) (nameless (formula_of a.now)))) }
+{
+    match pattern {
+        Pattern::Letter(l) => if same_letter(Letter::Formula(*l), letter) {
+            Found::Part(a, opened)
+        } else {
+            Found::Nothing
+        },
+        Pattern::Exists(p) => match a {
+            Formula::Exists(y, b) => find_bound(p, y, b, opened, candidate, letter),
+            _ => Found::Nothing,
+        },
+        Pattern::Forall(p) => match a {
+            Formula::Forall(y, b) => find_bound(p, y, b, opened, candidate, letter),
+            _ => Found::Nothing,
+        },
+        Pattern::And(_, _) | Pattern::Or(_, _) | Pattern::Imp(_, _) | Pattern::Not(_) => {
+            find_connective(pattern, a, opened, candidate, letter)
+        }
+        Pattern::One(_)
+        | Pattern::Root(_)
+        | Pattern::Plus(_, _)
+        | Pattern::PlusHole(_, _)
+        | Pattern::HoleAdj(_, _)
+        | Pattern::Is(_) => find_structural(pattern, a, opened, candidate, letter),
+        Pattern::Hole(_)
+        | Pattern::Join(_, _, _)
+        | Pattern::App(_, _, _)
+        | Pattern::CtxAdj(_, _, _) => find_sorted(pattern, a, opened, candidate, letter),
+        Pattern::Eq(_, _) | Pattern::Le(_, _) | Pattern::Len(_) | Pattern::Node(_, _, _, _) => {
+            find_of_terms(pattern, a, opened, candidate, letter)
+        }
+        _ => Found::Nothing,
+    }
+}
+
+// the same at a binder, which opens where none has been opened
+#[cycle(find)]
+fn find_bound<'a>(
+    pattern: &Pattern,
+    binder: &'a LogicVar,
+    inner: &'a Formula,
+    opened: Option<Opened<'a>>,
+    candidate: Candidate<'a>,
+    letter: Letter,
+) -> Found<'a>
+    requires { IsTrue (cond (unopened opened) (single false pattern.now) false) }
+    ensures some { tree_found result ≡ find (tried_var candidate.entry) (letter_of letter)
+        (under some_bind (formula_pat (formula_in pattern.now)))
+        (bind some_bind (sort_of binder.now.sort)
+        (formula_tree (formula_with (under_binder (renaming opened.entry))
+        (walked (logic_var_of binder.now ∷ []) (formula_of inner.now))))) }
+    ensures each { tree_found result ≡ find (tried_var candidate.entry) (letter_of letter)
+        (under each_bind (formula_pat (formula_in pattern.now)))
+        (bind each_bind (sort_of binder.now.sort)
+        (formula_tree (formula_with (under_binder (renaming opened.entry))
+        (walked (logic_var_of binder.now ∷ []) (formula_of inner.now))))) }
+{
+    match opened {
+        None => {
+            let inside = Opened {
+                binder,
+                stands_for: candidate,
+            };
+            find_formula(pattern, inner, Some(inside), candidate, letter)
+        }
+        Some(_) => Found::Nothing,
+    }
+}
+
+// the same in a connective
+#[cycle(find)]
+fn find_connective<'a>(
+    pattern: &Pattern,
+    a: &'a Formula,
+    opened: Option<Opened<'a>>,
+    candidate: Candidate<'a>,
+    letter: Letter,
+) -> Found<'a>
+    requires { IsTrue (single (unopened opened) pattern.now) }
+    ensures { tree_found result
+        ≡ cond (is_connective pattern.now) (find (tried_var candidate.entry) (letter_of letter)
+        (formula_pat (formula_in pattern.now))
+        (formula_tree (formula_with (renaming opened.entry) (nameless (formula_of a.now))))) None }
+{
+    match pattern {
+        Pattern::And(p, q) => match a {
+            Formula::And(b, c) => find_both(p, b, q, c, opened, candidate, letter),
+            _ => Found::Nothing,
+        },
+        Pattern::Or(p, q) => match a {
+            Formula::Or(b, c) => find_both(p, b, q, c, opened, candidate, letter),
+            _ => Found::Nothing,
+        },
+        Pattern::Imp(p, q) => match a {
+            Formula::Imp(b, c) => find_both(p, b, q, c, opened, candidate, letter),
+            _ => Found::Nothing,
+        },
+        Pattern::Not(p) => match a {
+            Formula::Not(b) => find_formula(p, b, opened, candidate, letter),
+            _ => Found::Nothing,
+        },
+        _ => Found::Nothing,
+    }
+}
+
+// the same in a formula of parts alone
+#[cycle(find)]
+fn find_structural<'a>(
+    pattern: &Pattern,
+    a: &'a Formula,
+    opened: Option<Opened<'a>>,
+    candidate: Candidate<'a>,
+    letter: Letter,
+) -> Found<'a>
+    requires { IsTrue (single (unopened opened) pattern.now) }
+    ensures { tree_found result
+        ≡ cond (is_structural pattern.now) (find (tried_var candidate.entry) (letter_of letter)
+        (formula_pat (formula_in pattern.now))
+        (formula_tree (formula_with (renaming opened.entry) (nameless (formula_of a.now))))) None }
+{
+    match pattern {
+        Pattern::Plus(p, q) => match a {
+            Formula::Plus(b, c) => find_both(p, b, q, c, opened, candidate, letter),
+            _ => Found::Nothing,
+        },
+        Pattern::PlusHole(p, q) => match a {
+            Formula::PlusHole(b, c) => find_both(p, b, q, c, opened, candidate, letter),
+            _ => Found::Nothing,
+        },
+        Pattern::HoleAdj(p, q) => match a {
+            Formula::HoleAdj(b, c) => find_both(p, b, q, c, opened, candidate, letter),
+            _ => Found::Nothing,
+        },
+        Pattern::One(p) => match a {
+            Formula::One(b) => find_formula(p, b, opened, candidate, letter),
+            _ => Found::Nothing,
+        },
+        Pattern::Root(p) => match a {
+            Formula::Root(b) => find_formula(p, b, opened, candidate, letter),
+            _ => Found::Nothing,
+        },
+        Pattern::Is(p) => match a {
+            Formula::Is(_, b) => find_formula(p, b, opened, candidate, letter),
+            _ => Found::Nothing,
+        },
+        _ => Found::Nothing,
+    }
+}
+
+// the same in a formula with a sort or a side
+#[cycle(find)]
+fn find_sorted<'a>(
+    pattern: &Pattern,
+    a: &'a Formula,
+    opened: Option<Opened<'a>>,
+    candidate: Candidate<'a>,
+    letter: Letter,
+) -> Found<'a>
+    requires { IsTrue (single (unopened opened) pattern.now) }
+    ensures { tree_found result
+        ≡ cond (is_sorted pattern.now) (find (tried_var candidate.entry) (letter_of letter)
+        (formula_pat (formula_in pattern.now))
+        (formula_tree (formula_with (renaming opened.entry) (nameless (formula_of a.now))))) None }
+{
+    match pattern {
+        Pattern::Hole(p) => match a {
+            Formula::Hole(b) => find_data(*p, *b, candidate, letter),
+            _ => Found::Nothing,
+        },
+        Pattern::Join(side, p, q) => match a {
+            Formula::Join(other, b, c) => if same_side(*side, *other) {
+                find_both(p, b, q, c, opened, candidate, letter)
+            } else {
+                Found::Nothing
+            },
+            _ => Found::Nothing,
+        },
+        Pattern::App(h, p, q) => match a {
+            Formula::App(k, b, c) => {
+                let parts = find_both(p, b, q, c, opened, candidate, letter);
+                find_data(*h, *k, candidate, letter).or(parts)
+            },
+            _ => Found::Nothing,
+        },
+        Pattern::CtxAdj(h, p, q) => match a {
+            Formula::CtxAdj(k, b, c) => {
+                let parts = find_both(p, b, q, c, opened, candidate, letter);
+                find_data(*h, *k, candidate, letter).or(parts)
+            },
+            _ => Found::Nothing,
+        },
+        _ => Found::Nothing,
+    }
+}
+
+// the same in a formula with terms
+#[cycle(find)]
+fn find_of_terms<'a>(
+    pattern: &Pattern,
+    a: &'a Formula,
+    opened: Option<Opened<'a>>,
+    candidate: Candidate<'a>,
+    letter: Letter,
+) -> Found<'a>
+    requires { IsTrue (single (unopened opened) pattern.now) }
+    ensures { tree_found result
+        ≡ cond (is_of_terms pattern.now) (find (tried_var candidate.entry) (letter_of letter)
+        (formula_pat (formula_in pattern.now))
+        (formula_tree (formula_with (renaming opened.entry) (nameless (formula_of a.now))))) None }
+{
+    match pattern {
+        Pattern::Eq(p, q) => match a {
+            Formula::Eq(b, c) => {
+                let left = find_term(p, b, opened, candidate, letter);
+                left.or(find_term(q, c, opened, candidate, letter))
+            },
+            _ => Found::Nothing,
+        },
+        Pattern::Le(p, q) => match a {
+            Formula::Le(b, c) => {
+                let left = find_term(p, b, opened, candidate, letter);
+                left.or(find_term(q, c, opened, candidate, letter))
+            },
+            _ => Found::Nothing,
+        },
+        Pattern::Len(p) => match a {
+            Formula::Len(b) => find_term(p, b, opened, candidate, letter),
+            _ => Found::Nothing,
+        },
+        Pattern::Node(p, q, r, s) => match a {
+            Formula::Node(b, c, d, e) => {
+                let name = find_term(p, b, opened, candidate, letter);
+                let number = find_term(q, c, opened, candidate, letter);
+                let children = find_formula(r, d, opened, candidate, letter);
+                let list = find_term(s, e, opened, candidate, letter);
+                name.or(number).or(children.or(list))
+            },
+            _ => Found::Nothing,
+        },
+        _ => Found::Nothing,
+    }
+}
+
+// the same in two formulas, first in the left one
+#[cycle(find)]
+fn find_both<'a>(
+    p: &Pattern,
+    a: &'a Formula,
+    q: &Pattern,
+    b: &'a Formula,
+    opened: Option<Opened<'a>>,
+    candidate: Candidate<'a>,
+    letter: Letter,
+) -> Found<'a>
+    requires left { IsTrue (single (unopened opened) p.now) }
+    requires right { IsTrue (single (unopened opened) q.now) }
+    ensures { tree_found result ≡ option_or
+        (find (tried_var candidate.entry) (letter_of letter) (formula_pat (formula_in p.now))
+        (formula_tree (formula_with (renaming opened.entry) (nameless (formula_of a.now)))))
+        (find (tried_var candidate.entry) (letter_of letter) (formula_pat (formula_in q.now))
+        (formula_tree (formula_with (renaming opened.entry) (nameless (formula_of b.now))))) }
+{
+    let left = find_formula(p, a, opened, candidate, letter);
+    left.or(find_formula(q, b, opened, candidate, letter))
+}
+
+// whether the hole is at the same side
+fn same_side(left: Side, right: Side) -> bool
+    ensures { result ≡ (side_number (side_of left) == side_number (side_of right)) }
+{
+    left == right
+}

@@ -1,0 +1,462 @@
+// Whether a formula is what the choice that is read off makes of a pattern, form by form.
+ghost use Rattle.std.specs.Prelude.{◌≡◌, ◌&&◌, ◌||◌, not, cond, IsTrue, Some, false, [], ◌∷◌};
+ghost use Rattle.model_shapes.specs.Tests as sorts;
+ghost use Rattle.model_terms.specs.VariableTests.{same_var};
+ghost use Rattle.model_terms.specs.Terms.{term_with, under_binder, variable};
+ghost use Rattle.model_formulas.specs.Nameless.{nameless, walked};
+ghost use Rattle.model_formulas.specs.SameFormulas as tests;
+ghost use Rattle.model_formulas.specs.Substitution.{closing, formula_with};
+ghost use Rattle.dom_terms.specs.Sorts.{sort_of};
+ghost use Rattle.dom_terms.specs.Terms.{logic_var_of, term_of};
+ghost use Rattle.formula_syntax.specs.Formulas.{formula_of, side_of};
+ghost use Rattle.formula_syntax.specs.FreeVariables.{is_among, occurrences};
+ghost use Rattle.rule_table.specs.Letters.{as_logic};
+ghost use Rattle.rule_patterns.specs.Patterns as patterns;
+ghost use Rattle.row_patterns.specs.Views.{letter_in, term_letter_in, formula_in};
+ghost use Rattle.row_patterns.specs.Binders.{single, single_row};
+ghost use Rattle.opened_formulas.specs.Readings.{tried_var, renaming, putting};
+ghost use Rattle.row_matching.specs.FirstPlaces.{formula_found, unopened};
+ghost use Rattle.row_matching.specs.Forms.{is_constant, is_connective, is_structural, is_sorted, is_of_terms};
+ghost use Rattle.row_matching.specs.Choices.{choice_of};
+
+use crate::choosing::{formula_at, term_at};
+use crate::fitting::{fits_data, fits_term, has_sort_of_x, is_x};
+use crate::found::Found;
+use crate::source::Source;
+use closed_formulas::is_closed;
+use dom_terms::{LogicVar, Term};
+use formula_syntax::{Formula, Side};
+use opened_formulas::{Candidate, Opened, Put, Reading, Scope, is_candidate, mentions, same_below};
+use row_patterns::{FormulaLetter, Pattern, TermLetter};
+
+// whether the formula is what was found, with what is put
+#[tactic(auto, using(crate::proofs::Bound::put_rules))]
+fn same_found(found: Found, put: Option<Put>, a: &Formula, opened: Option<Opened>) -> bool
+    ensures { result ≡ tests.same_formula
+        (formula_with (putting put.entry) (formula_found found.entry))
+        (formula_with (renaming opened.entry) (nameless (formula_of a.now))) }
+{
+    match found {
+        Found::Part(part, below) => {
+            let reading = Reading { opened: below, put };
+            same_below(part, a, &Scope::Outside(reading, opened))
+        }
+        _ => matches!(a, Formula::True),
+    }
+}
+
+// whether the formula is what was found
+#[tactic(auto, using(crate::proofs::Bound::nothing_rules))]
+fn same_part(found: Found, a: &Formula, opened: Option<Opened>) -> bool
+    ensures { result ≡ tests.same_formula (formula_found found.entry)
+        (formula_with (renaming opened.entry) (nameless (formula_of a.now))) }
+{
+    same_found(found, None, a, opened)
+}
+
+// whether the formula is what was found, with the term for the variable
+#[tactic(auto, using(crate::proofs::Bound::put_rules))]
+fn fits_put<'x>(
+    part: Found<'x>,
+    candidate: Candidate<'x>,
+    term: &'x Term,
+    below: Option<Opened<'x>>,
+    a: &Formula,
+    opened: Option<Opened>,
+) -> bool
+    ensures { result ≡ tests.same_formula
+        (formula_with (λ z. cond (same_var z (tried_var candidate.entry))
+        (term_with (renaming below.entry) (term_of term.now)) (variable z))
+        (formula_found part.entry))
+        (formula_with (renaming opened.entry) (nameless (formula_of a.now))) }
+{
+    let put = Put {
+        variable: candidate,
+        term,
+        opened: below,
+    };
+    same_found(part, Some(put), a, opened)
+}
+
+// whether the formula is the letter's, with the term for $x
+fn fits_replaced<'a>(
+    term: TermLetter,
+    letter: FormulaLetter,
+    a: &Formula,
+    opened: Option<Opened>,
+    candidate: Candidate<'a>,
+    source: &Source<'a>,
+) -> bool
+    requires { IsTrue (single_row source.now.row.now) }
+    ensures { result ≡ tests.same_formula
+        (patterns.formula_of (choice_of source.now candidate.entry)
+        (patterns.replaced (term_letter_in term) (letter_in letter)))
+        (formula_with (renaming opened.entry) (nameless (formula_of a.now))) }
+{
+    let part = formula_at(&*source, candidate, letter);
+    match term_at(&*source, candidate, term) {
+        Found::Value(term, below) => fits_put(part, candidate, term, below, a, opened),
+        _ => {
+            let null = Term::NullNode;
+            fits_put(part, candidate, &null, None, a, opened)
+        }
+    }
+}
+
+// whether the formula is a pattern's without parts
+fn fits_constant<'a>(
+    pattern: &Pattern,
+    a: &Formula,
+    opened: Option<Opened>,
+    candidate: Candidate<'a>,
+    source: &Source<'a>,
+) -> bool
+    ensures { result ≡ (is_constant pattern.now && tests.same_formula
+        (patterns.formula_of (choice_of source.now candidate.entry) (formula_in pattern.now))
+        (formula_with (renaming opened.entry) (nameless (formula_of a.now)))) }
+{
+    match pattern {
+        Pattern::True => matches!(a, Formula::True),
+        Pattern::False => matches!(a, Formula::False),
+        Pattern::EmptyForest => matches!(a, Formula::EmptyForest),
+        Pattern::EmptyGrove => matches!(a, Formula::EmptyGrove),
+        Pattern::Var => match a {
+            Formula::Var(y) => is_x(y, opened, candidate, &*source),
+            _ => false,
+        },
+        _ => false,
+    }
+}
+
+/// Whether the formula is the pattern's, up to the names of bound variables.
+#[cycle(fits)]
+pub fn fits_formula<'a>(
+    pattern: &Pattern,
+    a: &Formula,
+    opened: Option<Opened>,
+    candidate: Candidate<'a>,
+    source: &Source<'a>,
+) -> bool
+    requires single { IsTrue (single (unopened opened) pattern.now) }
+    requires row { IsTrue (single_row source.now.row.now) }
+    ensures { result ≡ tests.same_formula
+        (patterns.formula_of (choice_of source.now candidate.entry) (formula_in pattern.now))
+        (formula_with (renaming opened.entry) (nameless (formula_of a.now))) }
+{
+    match pattern {
+        Pattern::Letter(l) => same_part(formula_at(&*source, candidate, *l), a, opened),
+        Pattern::Replaced(e, l) => fits_replaced(*e, *l, a, opened, candidate, &*source),
+        Pattern::Closed(closed) => is_closed(*closed, a, opened),
+        Pattern::Exists(p) => match a {
+            Formula::Exists(y, b) => fits_bound(p, y, b, opened, candidate, &*source),
+            _ => false,
+        },
+        Pattern::Forall(p) => match a {
+            Formula::Forall(y, b) => fits_bound(p, y, b, opened, candidate, &*source),
+            _ => false,
+        },
+        Pattern::True
+        | Pattern::False
+        | Pattern::EmptyForest
+        | Pattern::EmptyGrove
+        | Pattern::Var => fits_constant(pattern, a, opened, candidate, &*source),
+        Pattern::And(_, _) | Pattern::Or(_, _) | Pattern::Imp(_, _) | Pattern::Not(_) => {
+            fits_connective(pattern, a, opened, candidate, &*source)
+        }
+        Pattern::One(_)
+        | Pattern::Root(_)
+        | Pattern::Plus(_, _)
+        | Pattern::PlusHole(_, _)
+        | Pattern::HoleAdj(_, _)
+        | Pattern::Is(_) => fits_structural(pattern, a, opened, candidate, &*source),
+        Pattern::Hole(_)
+        | Pattern::Join(_, _, _)
+        | Pattern::App(_, _, _)
+        | Pattern::CtxAdj(_, _, _) => fits_sorted(pattern, a, opened, candidate, &*source),
+        Pattern::Eq(_, _) | Pattern::Le(_, _) | Pattern::Len(_) | Pattern::Node(_, _, _, _) => {
+            fits_of_terms(pattern, a, opened, candidate, &*source)
+        }
+    }
+}
+
+// whether the binder has the sort of $x, and is $x or has it free nowhere below
+fn binds_x<'a>(y: &LogicVar, b: &Formula, candidate: Candidate<'a>, source: &Source<'a>) -> bool
+    ensures { result
+        ≡ (sorts.same_sort (choice_of source.now candidate.entry).x.sort (sort_of y.now.sort)
+        && (same_var (tried_var candidate.entry) (logic_var_of y.now)
+        || not (is_among (tried_var candidate.entry) (occurrences (formula_of b.now))))) }
+{
+    has_sort_of_x(y, candidate, &*source) && (is_candidate(candidate, y) || !mentions(b, candidate))
+}
+
+// the binder, with $x for its variable
+fn opened_at<'x>(binder: &'x LogicVar, stands_for: Candidate<'x>) -> Opened<'x>
+    ensures { renaming (Some result) ≡ (λ z. variable
+        (cond (same_var z (logic_var_of binder.now)) (tried_var stands_for.entry) z)) }
+{
+    Opened { binder, stands_for }
+}
+
+// whether the binder may be one of $x, and the formula below it is the pattern's
+#[cycle(fits)]
+fn fits_below<'a>(
+    pattern: &Pattern,
+    y: &LogicVar,
+    b: &Formula,
+    candidate: Candidate<'a>,
+    source: &Source<'a>,
+) -> bool
+    requires single { IsTrue (single false pattern.now) }
+    requires row { IsTrue (single_row source.now.row.now) }
+    ensures { result
+        ≡ ((sorts.same_sort (choice_of source.now candidate.entry).x.sort (sort_of y.now.sort)
+        && (same_var (tried_var candidate.entry) (logic_var_of y.now)
+        || not (is_among (tried_var candidate.entry) (occurrences (formula_of b.now)))))
+        && tests.same_formula
+        (patterns.formula_of (choice_of source.now candidate.entry) (formula_in pattern.now))
+        (formula_with (λ z. variable
+        (cond (same_var z (logic_var_of y.now)) (tried_var candidate.entry) z))
+        (nameless (formula_of b.now)))) }
+{
+    binds_x(y, b, candidate, &*source)
+        && fits_formula(
+            pattern,
+            b,
+            Some(opened_at(y, candidate)),
+            candidate,
+            &*source,
+        )
+}
+
+// whether the binder and what it binds are the pattern's, where none has been opened
+#[cycle(fits)]
+fn fits_bound<'a>(
+    pattern: &Pattern,
+    y: &LogicVar,
+    b: &Formula,
+    opened: Option<Opened>,
+    candidate: Candidate<'a>,
+    source: &Source<'a>,
+) -> bool
+    requires single { IsTrue (cond (unopened opened) (single false pattern.now) false) }
+    requires row { IsTrue (single_row source.now.row.now) }
+    ensures { result
+        ≡ (sorts.same_sort (choice_of source.now candidate.entry).x.sort (sort_of y.now.sort)
+        && tests.same_formula
+        (formula_with (closing (as_logic (choice_of source.now candidate.entry).x))
+        (patterns.formula_of (choice_of source.now candidate.entry) (formula_in pattern.now)))
+        (formula_with (under_binder (renaming opened.entry))
+        (walked (logic_var_of y.now ∷ []) (formula_of b.now)))) }
+{
+    match opened {
+        None => fits_below(pattern, y, b, candidate, &*source),
+        Some(_) => false,
+    }
+}
+
+// the same of a connective
+#[cycle(fits)]
+fn fits_connective<'a>(
+    pattern: &Pattern,
+    a: &Formula,
+    opened: Option<Opened>,
+    candidate: Candidate<'a>,
+    source: &Source<'a>,
+) -> bool
+    requires single { IsTrue (single (unopened opened) pattern.now) }
+    requires row { IsTrue (single_row source.now.row.now) }
+    ensures { result ≡ (is_connective pattern.now && tests.same_formula
+        (patterns.formula_of (choice_of source.now candidate.entry) (formula_in pattern.now))
+        (formula_with (renaming opened.entry) (nameless (formula_of a.now)))) }
+{
+    match pattern {
+        Pattern::And(p, q) => match a {
+            Formula::And(b, c) => fits_both(p, b, q, c, opened, candidate, &*source),
+            _ => false,
+        },
+        Pattern::Or(p, q) => match a {
+            Formula::Or(b, c) => fits_both(p, b, q, c, opened, candidate, &*source),
+            _ => false,
+        },
+        Pattern::Imp(p, q) => match a {
+            Formula::Imp(b, c) => fits_both(p, b, q, c, opened, candidate, &*source),
+            _ => false,
+        },
+        Pattern::Not(p) => match a {
+            Formula::Not(b) => fits_formula(p, b, opened, candidate, &*source),
+            _ => false,
+        },
+        _ => false,
+    }
+}
+
+// the same of a formula of parts alone
+#[cycle(fits)]
+fn fits_structural<'a>(
+    pattern: &Pattern,
+    a: &Formula,
+    opened: Option<Opened>,
+    candidate: Candidate<'a>,
+    source: &Source<'a>,
+) -> bool
+    requires single { IsTrue (single (unopened opened) pattern.now) }
+    requires row { IsTrue (single_row source.now.row.now) }
+    ensures { result ≡ (is_structural pattern.now && tests.same_formula
+        (patterns.formula_of (choice_of source.now candidate.entry) (formula_in pattern.now))
+        (formula_with (renaming opened.entry) (nameless (formula_of a.now)))) }
+{
+    match pattern {
+        Pattern::Plus(p, q) => match a {
+            Formula::Plus(b, c) => fits_both(p, b, q, c, opened, candidate, &*source),
+            _ => false,
+        },
+        Pattern::PlusHole(p, q) => match a {
+            Formula::PlusHole(b, c) => fits_both(p, b, q, c, opened, candidate, &*source),
+            _ => false,
+        },
+        Pattern::HoleAdj(p, q) => match a {
+            Formula::HoleAdj(b, c) => fits_both(p, b, q, c, opened, candidate, &*source),
+            _ => false,
+        },
+        Pattern::One(p) => match a {
+            Formula::One(b) => fits_formula(p, b, opened, candidate, &*source),
+            _ => false,
+        },
+        Pattern::Root(p) => match a {
+            Formula::Root(b) => fits_formula(p, b, opened, candidate, &*source),
+            _ => false,
+        },
+        Pattern::Is(p) => match a {
+            Formula::Is(y, b) => {
+                has_sort_of_x(y, candidate, &*source)
+                    && is_x(y, opened, candidate, &*source)
+                    && fits_formula(p, b, opened, candidate, &*source)
+            },
+            _ => false,
+        },
+        _ => false,
+    }
+}
+
+// the same of a formula with a sort or a side
+#[cycle(fits)]
+fn fits_sorted<'a>(
+    pattern: &Pattern,
+    a: &Formula,
+    opened: Option<Opened>,
+    candidate: Candidate<'a>,
+    source: &Source<'a>,
+) -> bool
+    requires single { IsTrue (single (unopened opened) pattern.now) }
+    requires row { IsTrue (single_row source.now.row.now) }
+    ensures { result ≡ (is_sorted pattern.now && tests.same_formula
+        (patterns.formula_of (choice_of source.now candidate.entry) (formula_in pattern.now))
+        (formula_with (renaming opened.entry) (nameless (formula_of a.now)))) }
+{
+    match pattern {
+        Pattern::Hole(p) => match a {
+            Formula::Hole(b) => fits_data(*p, *b, candidate, &*source),
+            _ => false,
+        },
+        Pattern::Join(side, p, q) => match a {
+            Formula::Join(other, b, c) => {
+                same_side(*side, *other) && fits_both(p, b, q, c, opened, candidate, &*source)
+            },
+            _ => false,
+        },
+        Pattern::App(h, p, q) => match a {
+            Formula::App(k, b, c) => {
+                fits_data(*h, *k, candidate, &*source)
+                    && fits_both(p, b, q, c, opened, candidate, &*source)
+            },
+            _ => false,
+        },
+        Pattern::CtxAdj(h, p, q) => match a {
+            Formula::CtxAdj(k, b, c) => {
+                fits_data(*h, *k, candidate, &*source)
+                    && fits_both(p, b, q, c, opened, candidate, &*source)
+            },
+            _ => false,
+        },
+        _ => false,
+    }
+}
+
+// the same of a formula with terms
+#[cycle(fits)]
+fn fits_of_terms<'a>(
+    pattern: &Pattern,
+    a: &Formula,
+    opened: Option<Opened>,
+    candidate: Candidate<'a>,
+    source: &Source<'a>,
+) -> bool
+    requires single { IsTrue (single (unopened opened) pattern.now) }
+    requires row { IsTrue (single_row source.now.row.now) }
+    ensures { result ≡ (is_of_terms pattern.now && tests.same_formula
+        (patterns.formula_of (choice_of source.now candidate.entry) (formula_in pattern.now))
+        (formula_with (renaming opened.entry) (nameless (formula_of a.now)))) }
+{
+    match pattern {
+        Pattern::Eq(p, q) => match a {
+            Formula::Eq(b, c) => {
+                fits_term(p, b, opened, candidate, &*source)
+                    && fits_term(q, c, opened, candidate, &*source)
+            },
+            _ => false,
+        },
+        Pattern::Le(p, q) => match a {
+            Formula::Le(b, c) => {
+                fits_term(p, b, opened, candidate, &*source)
+                    && fits_term(q, c, opened, candidate, &*source)
+            },
+            _ => false,
+        },
+        Pattern::Len(p) => match a {
+            Formula::Len(b) => fits_term(p, b, opened, candidate, &*source),
+            _ => false,
+        },
+        Pattern::Node(p, q, r, s) => match a {
+            Formula::Node(b, c, d, e) => {
+                fits_term(p, b, opened, candidate, &*source)
+                    && fits_term(q, c, opened, candidate, &*source)
+                    && fits_formula(r, d, opened, candidate, &*source)
+                    && fits_term(s, e, opened, candidate, &*source)
+            },
+            _ => false,
+        },
+        _ => false,
+    }
+}
+
+// the same of two formulas
+#[cycle(fits)]
+fn fits_both<'a>(
+    p: &Pattern,
+    a: &Formula,
+    q: &Pattern,
+    b: &Formula,
+    opened: Option<Opened>,
+    candidate: Candidate<'a>,
+    source: &Source<'a>,
+) -> bool
+    requires left { IsTrue (single (unopened opened) p.now) }
+    requires right { IsTrue (single (unopened opened) q.now) }
+    requires row { IsTrue (single_row source.now.row.now) }
+    ensures { result ≡ (tests.same_formula
+        (patterns.formula_of (choice_of source.now candidate.entry) (formula_in p.now))
+        (formula_with (renaming opened.entry) (nameless (formula_of a.now)))
+        && tests.same_formula
+        (patterns.formula_of (choice_of source.now candidate.entry) (formula_in q.now))
+        (formula_with (renaming opened.entry) (nameless (formula_of b.now)))) }
+{
+    fits_formula(p, a, opened, candidate, &*source)
+        && fits_formula(q, b, opened, candidate, &*source)
+}
+
+// whether the hole is at the same side
+fn same_side(left: Side, right: Side) -> bool
+    ensures { result ≡ tests.same_side (side_of left) (side_of right) }
+{
+    left == right
+}
