@@ -1,0 +1,9 @@
+mod Decided
+mod Written
+mod DistinctVerdicts
+mod ConcatVerdicts
+mod LinearLaws
+mod LinearSteps
+mod FormLaws
+mod LinearWritten
+mod SumLaws

@@ -1,0 +1,7 @@
+pub mod Steps
+pub mod Equations
+pub mod Texts
+pub mod Pieces
+pub mod Linear
+pub mod Forms
+pub mod Sums

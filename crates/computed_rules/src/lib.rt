@@ -1,0 +1,14 @@
+//! Three of the four rules of entailment that compute: `distinct`, `linear` and `concat`.
+//! Promises for each step that cites no other step the exact verdict of the table of rules.
+//! Stands on the table of rules and on the formulas of the program.
+#![tactic(auto)]
+
+mod comparisons;
+mod forms;
+mod literals;
+mod sums;
+mod texts;
+
+pub use literals::distinct;
+pub use sums::linear;
+pub use texts::concat;
