@@ -1,7 +1,9 @@
 mod Decided
 mod Written
+pub mod ChangedTerms
 mod DistinctVerdicts
 mod ConcatVerdicts
+mod EqSubstVerdicts
 mod LinearLaws
 mod LinearSteps
 mod FormLaws

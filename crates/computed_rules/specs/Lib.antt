@@ -5,3 +5,4 @@ pub mod Pieces
 pub mod Linear
 pub mod Forms
 pub mod Sums
+pub mod Changes

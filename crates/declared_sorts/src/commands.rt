@@ -4,6 +4,7 @@ ghost use Rattle.model_grammar.specs.Sorts.{sorted_name, sorted_term, sorted_com
 ghost use Rattle.dom_terms.specs.Terms.{prog_var_of, term_of};
 ghost use Rattle.theory_syntax.specs.Commands.{block_with, command_of};
 ghost use Rattle.declared_sorts.specs.Declarations.{declared_of};
+ghost use Rattle.declared_sorts.specs.Known.{Knows};
 
 use crate::declared::Declared;
 use crate::sorted::{Sorted, set_all};
@@ -23,6 +24,7 @@ impl Sorted for Command {
     // A local variable keeps the sort that it is written with.
     #[cycle(sorting)]
     fn set_sorts(&mut self, declared: &Declared)
+        requires { Knows declared.now }
         ensures { command_of self.new
             ≡ sorted_command (declared_of declared.now) (command_of self.old) }
     {
@@ -61,6 +63,7 @@ impl Sorted for Command {
 // Gives a variable that is set, and each variable of the term behind it, the sort of its
 // declaration.
 fn set_target(x: &mut ProgVar, term: &mut Term, declared: &Declared)
+    requires { Knows declared.now }
     ensures x { prog_var_of x.new ≡ sorted_name (declared_of declared.now) (prog_var_of x.old) }
     ensures term { term_of term.new ≡ sorted_term (declared_of declared.now) (term_of term.old) }
 {
@@ -71,6 +74,7 @@ fn set_target(x: &mut ProgVar, term: &mut Term, declared: &Declared)
 // Gives each variable of the commands of a block the sort of its declaration.
 #[cycle(sorting)]
 fn set_commands(commands: &mut [Command], declared: &Declared)
+    requires { Knows declared.now }
     ensures { block_with (map command_of commands.new)
         ≡ sorted_block (declared_of declared.now) (block_with (map command_of commands.old)) }
 {

@@ -4,6 +4,7 @@ ghost use Rattle.model_grammar.specs.Sorts.{sorted_formula, sorted_var};
 ghost use Rattle.dom_terms.specs.Terms.{logic_var_of};
 ghost use Rattle.formula_syntax.specs.Formulas.{formula_of};
 ghost use Rattle.declared_sorts.specs.Declarations.{declared_of};
+ghost use Rattle.declared_sorts.specs.Known.{Knows};
 
 use crate::declared::Declared;
 use crate::sorted::Sorted;
@@ -22,6 +23,7 @@ impl Sorted for Formula {
 
     #[cycle(formula_sorting)]
     fn set_sorts(&mut self, declared: &Declared)
+        requires { Knows declared.now }
         ensures { formula_of self.new
             ≡ sorted_formula (declared_of declared.now) (formula_of self.old) }
     {
@@ -62,6 +64,7 @@ impl Sorted for Formula {
 // Gives each variable of two formulas the sort of its declaration.
 #[cycle(formula_sorting)]
 fn set_formulas(left: &mut Formula, right: &mut Formula, declared: &Declared)
+    requires { Knows declared.now }
     ensures left { formula_of left.new
         ≡ sorted_formula (declared_of declared.now) (formula_of left.old) }
     ensures right { formula_of right.new
@@ -74,6 +77,7 @@ fn set_formulas(left: &mut Formula, right: &mut Formula, declared: &Declared)
 // Gives a variable, and each variable of the formula behind it, the sort of its declaration.
 #[cycle(formula_sorting)]
 fn set_scope(variable: &mut LogicVar, inner: &mut Formula, declared: &Declared)
+    requires { Knows declared.now }
     ensures variable { logic_var_of variable.new
         ≡ sorted_var (declared_of declared.now) (logic_var_of variable.old) }
     ensures inner { formula_of inner.new

@@ -3,8 +3,9 @@ ghost use Rattle.std.specs.Prelude.{◌≡◌, map};
 ghost use Rattle.model_grammar.specs.Sorts.{sorted_name, sorted_var};
 ghost use Rattle.dom_terms.specs.Terms.{prog_var_of, logic_var_of};
 ghost use Rattle.declared_sorts.specs.Declarations.{declared_of};
+ghost use Rattle.declared_sorts.specs.Known.{Knows};
 
-use crate::declared::{Declared, logic_sort_named, sort_named};
+use crate::declared::Declared;
 use dom_terms::{LogicVar, ProgVar};
 
 /// Something that stands for plain data, whose variables can be given the sorts of their
@@ -23,11 +24,13 @@ pub trait Sorted: Sized {
 
     /// Gives each variable the sort of its declaration.
     fn set_sorts(&mut self, declared: &Declared)
+        requires { Knows declared.now }
         ensures { seen self.new ≡ sorted (declared_of declared.now) (seen self.old) };
 }
 
 /// Gives each variable of the items the sort of its declaration.
 pub fn set_all<T: Sorted>(items: &mut [T], declared: &Declared)
+    requires { Knows declared.now }
     ensures { map T.seen items.new ≡ map (T.sorted (declared_of declared.now))
         (map T.seen items.old) }
 {
@@ -46,10 +49,11 @@ impl Sorted for ProgVar {
     ghost sorted = { sorted_name };
 
     fn set_sorts(&mut self, declared: &Declared)
+        requires { Knows declared.now }
         ensures { prog_var_of self.new
             ≡ sorted_name (declared_of declared.now) (prog_var_of self.old) }
     {
-        self.sort = sort_named(declared.variables, self.name.as_str());
+        self.sort = declared.sort_named(self.name.as_str());
     }
 }
 
@@ -63,9 +67,10 @@ impl Sorted for LogicVar {
     ghost sorted = { sorted_var };
 
     fn set_sorts(&mut self, declared: &Declared)
+        requires { Knows declared.now }
         ensures { logic_var_of self.new
             ≡ sorted_var (declared_of declared.now) (logic_var_of self.old) }
     {
-        self.sort = logic_sort_named(declared.logics, self.name.as_str());
+        self.sort = declared.logic_sort_named(self.name.as_str());
     }
 }

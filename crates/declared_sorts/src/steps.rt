@@ -3,6 +3,7 @@ ghost use Rattle.std.specs.Prelude.{◌≡◌};
 ghost use Rattle.model_grammar.specs.Sorts.{sorted_reason, sorted_judgement, sorted_step};
 ghost use Rattle.theory_syntax.specs.Judgements.{reason_of, judgement_of, step_of};
 ghost use Rattle.declared_sorts.specs.Declarations.{declared_of};
+ghost use Rattle.declared_sorts.specs.Known.{Knows};
 
 use crate::declared::Declared;
 use crate::sorted::{Sorted, set_all};
@@ -19,6 +20,7 @@ impl Sorted for Judgement {
     ghost sorted = { sorted_judgement };
 
     fn set_sorts(&mut self, declared: &Declared)
+        requires { Knows declared.now }
         ensures { judgement_of self.new
             ≡ sorted_judgement (declared_of declared.now) (judgement_of self.old) }
     {
@@ -46,6 +48,7 @@ impl Sorted for Reason {
     ghost sorted = { sorted_reason };
 
     fn set_sorts(&mut self, declared: &Declared)
+        requires { Knows declared.now }
         ensures { reason_of self.new
             ≡ sorted_reason (declared_of declared.now) (reason_of self.old) }
     {
@@ -67,6 +70,7 @@ impl Sorted for Step {
     ghost sorted = { sorted_step };
 
     fn set_sorts(&mut self, declared: &Declared)
+        requires { Knows declared.now }
         ensures { step_of self.new ≡ sorted_step (declared_of declared.now) (step_of self.old) }
     {
         self.reason.set_sorts(declared);

@@ -4,6 +4,7 @@ ghost use Rattle.model_grammar.specs.Sorts.{sorted_term, sorted_cond};
 ghost use Rattle.dom_terms.specs.Terms.{term_of};
 ghost use Rattle.dom_terms.specs.Conditions.{cond_of};
 ghost use Rattle.declared_sorts.specs.Declarations.{declared_of};
+ghost use Rattle.declared_sorts.specs.Known.{Knows};
 
 use crate::declared::Declared;
 use crate::sorted::Sorted;
@@ -19,6 +20,7 @@ impl Sorted for Term {
     ghost sorted = { sorted_term };
 
     fn set_sorts(&mut self, declared: &Declared)
+        requires { Knows declared.now }
         ensures { term_of self.new ≡ sorted_term (declared_of declared.now) (term_of self.old) }
     {
         match self {
@@ -47,6 +49,7 @@ impl Sorted for Term {
 
 /// Gives each variable of two terms the sort of its declaration.
 pub fn set_terms(left: &mut Term, right: &mut Term, declared: &Declared)
+    requires { Knows declared.now }
     ensures left { term_of left.new ≡ sorted_term (declared_of declared.now) (term_of left.old) }
     ensures right { term_of right.new
         ≡ sorted_term (declared_of declared.now) (term_of right.old) }
@@ -65,6 +68,7 @@ impl Sorted for Cond {
     ghost sorted = { sorted_cond };
 
     fn set_sorts(&mut self, declared: &Declared)
+        requires { Knows declared.now }
         ensures { cond_of self.new ≡ sorted_cond (declared_of declared.now) (cond_of self.old) }
     {
         match self {

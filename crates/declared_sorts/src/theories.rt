@@ -3,11 +3,13 @@ ghost use Rattle.std.specs.Prelude.{◌≡◌, OnOk, map};
 ghost use Rattle.model_grammar.specs.Sorts.{sorted_procedure, with_sorts};
 ghost use Rattle.dom_terms.specs.Terms.{logic_var_of};
 ghost use Rattle.theory_syntax.specs.Theories.{procedure_of, theory_of};
+ghost use Rattle.declared_sorts.specs.Names.{of_logic, Tells};
 
 use crate::declared::Declared;
 use crate::locals::declared_in;
+use crate::names::{Names, names_of};
 use crate::sorted::{Sorted, set_all};
-use dom_terms::{LogicVar, OutOfMemory};
+use dom_terms::{LogicVar, OutOfMemory, Sort};
 use std::alloc::Global;
 use theory_syntax::{Procedure, Theory};
 
@@ -15,16 +17,17 @@ use theory_syntax::{Procedure, Theory};
 fn set_procedure(
     alloc: Global,
     logics: &[LogicVar],
+    logic_names: &Names<Sort>,
     procedure: &mut Procedure,
 ) -> Result<(), OutOfMemory>
+    requires { Tells logic_names.now (map of_logic logics.now) }
     ensures { OnOk result (procedure_of procedure.new
         ≡ sorted_procedure (map logic_var_of logics.now) (procedure_of procedure.old)) }
 {
-    let variables = declared_in(alloc, procedure)?;
-    let declared = Declared {
-        variables: variables.as_slice(),
-        logics,
-    };
+    let found = declared_in(alloc, procedure)?;
+    let variables = found.as_slice();
+    let variable_names = names_of(alloc, variables)?;
+    let declared = Declared::new(variables, &variable_names, logics, logic_names);
     procedure.pre.set_sorts(&declared);
     procedure.post.set_sorts(&declared);
     procedure.body.set_sorts(&declared);
@@ -33,6 +36,23 @@ fn set_procedure(
 }
 
 // Gives each variable of the procedures the sort of its declaration.
+fn set_each(
+    alloc: Global,
+    logics: &[LogicVar],
+    logic_names: &Names<Sort>,
+    procedures: &mut [Procedure],
+) -> Result<(), OutOfMemory>
+    requires { Tells logic_names.now (map of_logic logics.now) }
+    ensures { OnOk result (map procedure_of procedures.new
+        ≡ map (sorted_procedure (map logic_var_of logics.now)) (map procedure_of procedures.old)) }
+{
+    for i in 0..procedures.len() {
+        set_procedure(alloc, logics, logic_names, &mut procedures[i])?;
+    }
+    Ok(())
+}
+
+// The same, over the logic variables alone.
 fn set_procedures(
     alloc: Global,
     logics: &[LogicVar],
@@ -41,10 +61,8 @@ fn set_procedures(
     ensures { OnOk result (map procedure_of procedures.new
         ≡ map (sorted_procedure (map logic_var_of logics.now)) (map procedure_of procedures.old)) }
 {
-    for i in 0..procedures.len() {
-        set_procedure(alloc, logics, &mut procedures[i])?;
-    }
-    Ok(())
+    let logic_names = names_of(alloc, logics)?;
+    set_each(alloc, logics, &logic_names, procedures)
 }
 
 /// Gives each variable of a theory the sort of the first declaration of its name in scope. Where

@@ -11,16 +11,18 @@ ghost use Rattle.formula_syntax.specs.Binders.{bound_by};
 
 use dom_terms::{LogicVar, Term, same_logic_var, same_prog_var, same_sort, same_text};
 
-// the binders passed on the way down a formula, the nearest first
+/// The binders passed on the way down a formula, the nearest first.
 #[derive(Drop)]
-pub(crate) enum Binders<'a> {
+pub enum Binders<'a> {
+    /// None.
     Empty,
+    /// The nearest one, and those outside it.
     More(&'a LogicVar, &'a Binders<'a>),
 }
 
-// whether the terms are the same, each below its binders
+/// Whether the terms are the same, each below its binders.
 #[tactic(auto, using(crate::proofs::BoundNames::prog_rules))]
-pub(crate) fn same_term(left: &Term, right: &Term, over: &Binders, other: &Binders) -> bool
+pub fn same_term(left: &Term, right: &Term, over: &Binders, other: &Binders) -> bool
     requires left { length (bound_by over.now) < 2 ^ 32 }
     requires right { length (bound_by other.now) < 2 ^ 32 }
     ensures { result ≡ tests.same_term
@@ -43,13 +45,8 @@ pub(crate) fn same_term(left: &Term, right: &Term, over: &Binders, other: &Binde
     }
 }
 
-// whether the variables are the same, each below its binders
-pub(crate) fn same_variable(
-    left: &LogicVar,
-    right: &LogicVar,
-    over: &Binders,
-    other: &Binders,
-) -> bool
+/// Whether the variables are the same, each below its binders.
+pub fn same_variable(left: &LogicVar, right: &LogicVar, over: &Binders, other: &Binders) -> bool
     requires left { length (bound_by over.now) < 2 ^ 32 }
     requires right { length (bound_by other.now) < 2 ^ 32 }
     ensures { result ≡ same_var

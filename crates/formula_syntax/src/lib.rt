@@ -17,6 +17,7 @@ mod sorting;
 mod substituting;
 mod variables;
 
+pub use binders::{Binders, same_term, same_variable};
 pub use dom_terms::{both_have, has_sort};
 pub use entailments::Entailment;
 pub use formulas::{Formula, Side};

@@ -1,14 +1,29 @@
 // The first token that passes a limit.
 ghost use Rattle.std.specs.Prelude.{◌≡◌, ◌<◌, map};
-ghost use Rattle.model_text.specs.Lexemes.{lexeme_of};
+ghost use Rattle.model_text.specs.Lexemes.{terminal, lexeme_of};
 ghost use Rattle.model_text.specs.Nesting as model;
 ghost use Rattle.dom_terms.specs.Limits.{NamesLimit};
 ghost use Rattle.text_tokens.specs.Tokens.{token_of};
 ghost use Rattle.text_tokens.specs.Lexemes.{lexemes_in};
 
+use crate::reserved::is_same;
 use crate::tokens::{Token, TokenKind, Tokens};
 use dom_terms::LimitKind;
 use dom_terms::limits::TEXT_BYTES;
+
+// Whether the text is that of an opening bracket.
+fn opens(text: &str) -> bool
+    ensures { result ≡ model.opens (terminal text.now) }
+{
+    is_same(text, "(") || is_same(text, "[") || is_same(text, "{") || is_same(text, "<")
+}
+
+// Whether the text is that of a closing bracket.
+fn closes(text: &str) -> bool
+    ensures { result ≡ model.closes (terminal text.now) }
+{
+    is_same(text, ")") || is_same(text, "]") || is_same(text, "}") || is_same(text, ">")
+}
 
 // How many brackets are open behind the token, where so many are open before it.
 #[tactic(auto, using(crate::proofs::BracketLemmas::brackets))]
@@ -19,10 +34,13 @@ fn open_behind(before: u64, token: &Token) -> u64
     if token.kind != TokenKind::Symbol {
         return before;
     }
-    match token.text.as_str() {
-        "(" | "[" | "{" | "<" => before + 1,
-        ")" | "]" | "}" | ">" => before.saturating_sub(1),
-        _ => before,
+    let text = token.text.as_str();
+    if opens(text) {
+        before + 1
+    } else if closes(text) {
+        before.saturating_sub(1)
+    } else {
+        before
     }
 }
 

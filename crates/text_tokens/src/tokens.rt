@@ -47,14 +47,22 @@ pub type Tokens = List<Token>;
 impl Token {
     /// Whether the token is the symbol or the reserved word of this text. It never is for `step`,
     /// which `is_step` asks for.
-    #[inline]
     pub fn is_terminal(&self, text: &str) -> bool
         ensures { IsTrue result ↔ (lexeme_of (token_of self.now) ≡ terminal text.now) }
     {
+        self.is_spelled(text) && self.is_of_terminal_kind()
+    }
+
+    // Whether a token of its kind and text is the symbol or the reserved word of its text. It is
+    // asked behind the comparison of the texts, which mostly differ.
+    fn is_of_terminal_kind(&self) -> bool
+        ensures { IsTrue result ↔ (lexeme_of (token_of self.now) ≡ terminal self.now.text) }
+    {
         match self.kind {
-            TokenKind::Symbol => self.is_spelled(text),
+            TokenKind::Symbol => true,
             TokenKind::Word => {
-                self.is_spelled(text) && !is_same(text, "step") && is_reserved(text)
+                let text = self.text.as_str();
+                !is_same(text, "step") && is_reserved(text)
             }
             _ => false,
         }

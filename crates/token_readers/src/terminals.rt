@@ -1,18 +1,30 @@
 // Reserved words and symbols.
-ghost use Rattle.std.specs.Prelude.{◌≡◌};
+ghost use Rattle.std.specs.Prelude.{◌≡◌, ℕ, List, false};
 ghost use Rattle.std.specs.Option.{option_map};
 ghost use Rattle.token_readers.specs.Reading.{is_terminal, after, terminal_at};
 ghost use Rattle.token_readers.specs.Giving.{Gives};
 ghost use Rattle.token_readers.specs.Leaves.{seen, lexemes_in};
 
 use crate::fault::ReadFault;
-use text_tokens::Token;
+use text_tokens::{Token, TokenKind, is_reserved};
 
 /// Whether the token is this reserved word or symbol.
 pub fn is_this(token: &Token, text: &str) -> bool
     ensures { result ≡ is_terminal text.now (seen token.now) }
 {
     token.is_terminal(text)
+}
+
+/// Whether the token may be a reserved word or a symbol.
+#[tactic(auto, using(crate::proofs::TerminalTests::no_reserved, crate::proofs::TerminalTests::no_number))]
+pub fn may_be_terminal(token: &Token) -> bool
+    ensures { result ≡ false → (text : List ℕ) → is_terminal text (seen token.now) ≡ false }
+{
+    match token.kind {
+        TokenKind::Symbol => true,
+        TokenKind::Word => is_reserved(token.text.as_str()),
+        _ => false,
+    }
 }
 
 /// What stands behind the reserved word or symbol, where it comes first.

@@ -3,7 +3,7 @@ use Rattle.model_grammar.specs.Sorts.{sorted_procedure}
 use Rattle.dom_terms.specs.Terms.{logic_var_of}
 use Rattle.theory_syntax.specs.Theories.{procedure_of}
 use Rattle.declared_sorts.proofs.Each.{all_changed}
-use Rattle.declared_sorts.proofs.theories.set_procedures.Goals as goal
+use Rattle.declared_sorts.proofs.theories.set_each.Goals as goal
 
 pub returns : goal.returns
 returns c =
