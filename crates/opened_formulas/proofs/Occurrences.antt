@@ -76,13 +76,13 @@ module _ (o : Opened) (x : Var) (p : Named) where
       ((occurs-free p x).0 f)
 
   forth : occurs_below o x p ≡ true → IsFree
-  forth e = go (same_var x c) (occurs y) (same_var x y) (occurs x) refl refl refl refl e
+  forth e = by-cases (same_var x c) (occurs y) (same_var x y) (occurs x) refl refl refl refl e
     where
-      go : (a b d e : Bool) → same_var x c ≡ a → occurs y ≡ b → same_var x y ≡ d → occurs x ≡ e
+      by-cases : (a b d e : Bool) → same_var x c ≡ a → occurs y ≡ b → same_var x y ≡ d → occurs x ≡ e
           → ((a && b) || (not d && e)) ≡ true → IsFree
-      go true true d e f g h i j = read f g
-      go a b false true f g h i j = kept h i
-      go a b d e f g h i j = false≢true j
+      by-cases true true d e f g h i j = read f g
+      by-cases a b false true f g h i j = kept h i
+      by-cases a b d e f g h i j = false≢true j
 
   at-free : (z : Var) → FreeIn z (nameless p) → (b : Bool) → same_var z y ≡ b → x ≡ cond b c z
       → occurs_below o x p ≡ true

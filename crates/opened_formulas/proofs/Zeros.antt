@@ -25,17 +25,17 @@ zeros-same (suc m) zero = sym (suc-zero m)
 zeros-same (suc m) (suc n) = zeros-same m n ∙ sym (suc-suc m n)
 
 pub same_var-turned : (x y : Var) → same_var x y ≡ same_var y x
-same_var-turned x y = go (same_var x y) (same_var y x) refl refl
+same_var-turned x y = by-cases (same_var x y) (same_var y x) refl refl
   where
     turned : (x y : Var) → same_var x y ≡ true → same_var y x ≡ false → ⊥
     turned x y e f =
         false≢true (sym f ∙ (ap (same_var y) (same_var-is x y e) ∙ same_var-refl y))
 
-    go : (a b : Bool) → same_var x y ≡ a → same_var y x ≡ b → a ≡ b
-    go true true e f = refl
-    go false false e f = refl
-    go true false e f = absurd (turned x y e f)
-    go false true e f = absurd (turned y x f e)
+    by-cases : (a b : Bool) → same_var x y ≡ a → same_var y x ≡ b → a ≡ b
+    by-cases true true e f = refl
+    by-cases false false e f = refl
+    by-cases true false e f = absurd (turned x y e f)
+    by-cases false true e f = absurd (turned y x f e)
 
 pub ruleset zeros = (zeros-some)
 

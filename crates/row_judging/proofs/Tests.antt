@@ -82,13 +82,13 @@ sort-at (context h k) a =
     (both_true (variable_at (context h k) a) (is_sort (context h k)), λ m. both m.0 m.1)
 
 pub own-sort : (x : LogicVar) → IsTrue (is_sort x.sort) ↔ TermAt x.sort (as_term x)
-own-sort x = go x.sort
+own-sort x = by-cases x.sort
   where
-    go : (s : Sort)
+    by-cases : (s : Sort)
         → IsTrue (is_sort s) ↔ TermAt s (as_term (record { name = x.name; sort = s }))
-    go (value u) = (λ e. same_sort-refl (value u), λ e. refl)
-    go (shape k) = (λ e. (same_sort-refl (shape k), refl), λ e. refl)
-    go (context h k) = (λ e. (same_sort-refl (context h k), e), λ m. m.1)
+    by-cases (value u) = (λ e. same_sort-refl (value u), λ e. refl)
+    by-cases (shape k) = (λ e. (same_sort-refl (shape k), refl), λ e. refl)
+    by-cases (context h k) = (λ e. (same_sort-refl (context h k), e), λ m. m.1)
 
 -- ONE AND NONE, and other numbers of premises
 and-true : (b : Bool) → b ≡ (b && true)
@@ -121,13 +121,13 @@ pub one-differs : (l : Letters) (ps : Premises) (p : Judged) (cited : Cited) →
     → false ≡ same_list same_judgement (judgements_of l (premises_in ps)) (all_cited cited)
 one-differs l ps p cited e n =
     sym (ap (λ q. same_list same_judgement (judgements_of l (premises_in q)) (all_cited cited)) e
-    ∙ go cited n)
+    ∙ by-cases cited n)
   where
-    go : (d : Cited) → ((a : _) → d ≡ c.One a → ⊥)
+    by-cases : (d : Cited) → ((a : _) → d ≡ c.One a → ⊥)
         → same_list same_judgement (judgement_of l (judgement_in p) ∷ []) (all_cited d) ≡ false
-    go c.Nothing m = refl
-    go (c.One a) m = absurd (m a refl)
-    go (c.Two a b) m =
+    by-cases c.Nothing m = refl
+    by-cases (c.One a) m = absurd (m a refl)
+    by-cases (c.Two a b) m =
         and-false (same_judgement (judgement_of l (judgement_in p)) (judged a.now))
 
 -- two premises
@@ -136,13 +136,13 @@ pub two-differ : (l : Letters) (ps : Premises) (p q : Judged) (cited : Cited) �
     → false ≡ same_list same_judgement (judgements_of l (premises_in ps)) (all_cited cited)
 two-differ l ps p q cited e n =
     sym (ap (λ x. same_list same_judgement (judgements_of l (premises_in x)) (all_cited cited)) e
-    ∙ go cited n)
+    ∙ by-cases cited n)
   where
-    go : (d : Cited) → ((a b : _) → d ≡ c.Two a b → ⊥)
+    by-cases : (d : Cited) → ((a b : _) → d ≡ c.Two a b → ⊥)
         → same_list same_judgement
         (judgement_of l (judgement_in p) ∷ judgement_of l (judgement_in q) ∷ []) (all_cited d)
         ≡ false
-    go c.Nothing m = refl
-    go (c.One a) m =
+    by-cases c.Nothing m = refl
+    by-cases (c.One a) m =
         and-false (same_judgement (judgement_of l (judgement_in p)) (judged a.now))
-    go (c.Two a b) m = absurd (m a b refl)
+    by-cases (c.Two a b) m = absurd (m a b refl)

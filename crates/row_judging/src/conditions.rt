@@ -16,10 +16,10 @@ use row_matching::{Found, Source, formula_at};
 use row_patterns::Condition;
 
 // whether the condition is met
-pub(crate) fn is_met<'a>(
+pub(crate) fn is_met<'r, 'a>(
     condition: Condition,
     candidate: Candidate<'a>,
-    source: &Source<'a>,
+    source: &Source<'r, 'a>,
 ) -> bool
     requires { IsTrue (single_row source.now.row.now) }
     ensures { IsTrue result ↔ AllHold (patterns.conditions_of

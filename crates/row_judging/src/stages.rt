@@ -27,7 +27,7 @@ pub enum Stage {
 }
 
 /// Whether the line that is read off with the candidate reaches the stage.
-pub fn tries<'a>(stage: Stage, candidate: Candidate<'a>, source: &Source<'a>) -> bool
+pub fn tries<'r, 'a>(stage: Stage, candidate: Candidate<'a>, source: &Source<'r, 'a>) -> bool
     requires { IsTrue (single_row source.now.row.now) }
     ensures { IsTrue result ↔ Reaches (stage_in stage) (written_of source.now)
         (line_of (attempt (line_in source.now.row.now) (written_of source.now)
@@ -37,7 +37,7 @@ pub fn tries<'a>(stage: Stage, candidate: Candidate<'a>, source: &Source<'a>) ->
 }
 
 // the same of the choice that the row is matched with
-fn reaches<'a>(stage: Stage, candidate: Candidate<'a>, source: &Source<'a>) -> bool
+fn reaches<'r, 'a>(stage: Stage, candidate: Candidate<'a>, source: &Source<'r, 'a>) -> bool
     requires { IsTrue (single_row source.now.row.now) }
     ensures { IsTrue result ↔ Reaches (stage_in stage) (written_of source.now)
         (line_at source.now candidate.entry) }
@@ -50,7 +50,7 @@ fn reaches<'a>(stage: Stage, candidate: Candidate<'a>, source: &Source<'a>) -> b
 }
 
 // whether the condition is met too
-fn meets<'a>(candidate: Candidate<'a>, source: &Source<'a>) -> bool
+fn meets<'r, 'a>(candidate: Candidate<'a>, source: &Source<'r, 'a>) -> bool
     requires { IsTrue (single_row source.now.row.now) }
     ensures { IsTrue result
         ↔ Reaches all_stage (written_of source.now) (line_at source.now candidate.entry) }
@@ -60,7 +60,7 @@ fn meets<'a>(candidate: Candidate<'a>, source: &Source<'a>) -> bool
 }
 
 // whether the arguments and the conclusion are the row's, and what it asks is met
-fn concludes<'a>(candidate: Candidate<'a>, source: &Source<'a>) -> bool
+fn concludes<'r, 'a>(candidate: Candidate<'a>, source: &Source<'r, 'a>) -> bool
     requires { IsTrue (single_row source.now.row.now) }
     ensures { IsTrue result
         ↔ Reaches conclusion_stage (written_of source.now) (line_at source.now candidate.entry) }
@@ -79,7 +79,7 @@ fn concludes<'a>(candidate: Candidate<'a>, source: &Source<'a>) -> bool
 }
 
 // whether the premises are the row's too
-fn follows<'a>(candidate: Candidate<'a>, source: &Source<'a>) -> bool
+fn follows<'r, 'a>(candidate: Candidate<'a>, source: &Source<'r, 'a>) -> bool
     requires { IsTrue (single_row source.now.row.now) }
     ensures { IsTrue result
         ↔ Reaches premises_stage (written_of source.now) (line_at source.now candidate.entry) }

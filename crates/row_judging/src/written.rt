@@ -16,11 +16,11 @@ use row_patterns::{Asked, Judged, Premises, TermPattern};
 
 // whether the arguments are those of the row
 #[tactic(auto, using(crate::proofs::Tests::outside_rules))]
-pub(crate) fn fits_arguments<'a>(
+pub(crate) fn fits_arguments<'r, 'a>(
     asked: Asked,
     arguments: &[Term],
     candidate: Candidate<'a>,
-    source: &Source<'a>,
+    source: &Source<'r, 'a>,
 ) -> bool
     requires { IsTrue (single_row source.now.row.now) }
     ensures { result ≡ same_list same_term
@@ -38,11 +38,11 @@ pub(crate) fn fits_arguments<'a>(
 
 // whether the entailment is that of the row
 #[tactic(auto, using(crate::proofs::Tests::outside_rules))]
-pub(crate) fn fits_judged<'a>(
+pub(crate) fn fits_judged<'r, 'a>(
     pattern: &Judged,
     written: &Entailment,
     candidate: Candidate<'a>,
-    source: &Source<'a>,
+    source: &Source<'r, 'a>,
 ) -> bool
     requires single { IsTrue (single_judged pattern.now) }
     requires row { IsTrue (single_row source.now.row.now) }
@@ -56,11 +56,11 @@ pub(crate) fn fits_judged<'a>(
 }
 
 // whether the cited entailments are the premises of the row
-pub(crate) fn fits_premises<'a>(
+pub(crate) fn fits_premises<'r, 'a>(
     pattern: &Premises,
     cited: Cited,
     candidate: Candidate<'a>,
-    source: &Source<'a>,
+    source: &Source<'r, 'a>,
 ) -> bool
     requires single { IsTrue (single_premises pattern.now) }
     requires row { IsTrue (single_row source.now.row.now) }

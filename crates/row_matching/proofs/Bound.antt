@@ -73,7 +73,7 @@ closed-other x z n (no m) = refl
 -- a variable isn't free where it was closed over
 not-in-closed : (x : LogicVar) (f : Formula)
     → FreeIn (as_logic x) (formula_with (closing (as_logic x)) f) → ⊥
-not-in-closed x f m = go (free-from f (closing (as_logic x)) (as_logic x) m)
+not-in-closed x f m = by-cases (free-from f (closing (as_logic x)) (as_logic x) m)
   where
     at : (z : Var) → (d : Dec (z ≡ as_logic x))
         → InTerm (as_logic x) (closing_at {x = as_logic x} d) → ⊥
@@ -82,8 +82,8 @@ not-in-closed x f m = go (free-from f (closing (as_logic x)) (as_logic x) m)
     at (logic n s) (no k) i = k (sym i)
     at (bound j s) (no k) i = cc
 
-    go : ((z : Var) × FreeIn z f × InTerm (as_logic x) (closing (as_logic x) z)) → ⊥
-    go h = at h.0 (var_eq h.0 (as_logic x)) h.2
+    by-cases : ((z : Var) × FreeIn z f × InTerm (as_logic x) (closing (as_logic x) z)) → ⊥
+    by-cases h = at h.0 (var_eq h.0 (as_logic x)) h.2
 
 -- another one stays free
 in-closed : (x : LogicVar) (y : Var) (f : Formula) → (as_logic x ≡ y → ⊥)
@@ -93,11 +93,11 @@ in-closed x y f n m = free-into f (closing y) (as_logic x) (as_logic x)
     m
 
 one-itself : (y z : Var) → one_for y y z ≡ z
-one-itself y z = go (same_var z y) refl
+one-itself y z = by-cases (same_var z y) refl
   where
-    go : (b : Bool) → same_var z y ≡ b → cond b y z ≡ z
-    go true e = sym (same_var-is z y e)
-    go false e = refl
+    by-cases : (b : Bool) → same_var z y ≡ b → cond b y z ≡ z
+    by-cases true e = sym (same_var-is z y e)
+    by-cases false e = refl
 
 -- each for itself
 all-itself : (y : Var) (p : Formula) → formula_with (λ z. variable (one_for y y z)) p ≡ p
@@ -124,16 +124,16 @@ module _ (x y : LogicVar) (f : Formula) (n : Named) where
 
   closed-same : x.sort ≡ y.sort → is_absent ≡ true
       → formula_with (closing X) inside ≡ formula_with (closing Y) (nameless n)
-  closed-same s e = go (same_var X Y) refl e
+  closed-same s e = by-cases (same_var X Y) refl e
     where
-      go : (b : Bool) → same_var X Y ≡ b → (b || not (is_among X (occurrences n))) ≡ true
+      by-cases : (b : Bool) → same_var X Y ≡ b → (b || not (is_among X (occurrences n))) ≡ true
           → formula_with (closing X) inside ≡ formula_with (closing Y) (nameless n)
-      go true q h =
+      by-cases true q h =
           let p : X ≡ Y = same_var-is X Y q in
           (λ i. formula_with (closing (p i))
           (formula_with (λ z. variable (one_for Y (p i) z)) (nameless n)))
           ∙ ap (formula_with (closing Y)) (all-itself Y (nameless n))
-      go false q h =
+      by-cases false q h =
           let free : FreeIn X (nameless n) → ⊥ =
           λ m. false≢true (sym (ap not ((occurs-free n X).1 m)) ∙ h) in
           let r : exists Y (nameless n)
@@ -146,12 +146,12 @@ module _ (x y : LogicVar) (f : Formula) (n : Named) where
       ∙ (ap (formula_with (opening (variable X))) e ∙ opened-closed X y (nameless n))
 
   absent : formula_with (closing X) f ≡ formula_with (closing Y) (nameless n) → is_absent ≡ true
-  absent e = go (same_var X Y) (is_among X (occurrences n)) refl refl
+  absent e = by-cases (same_var X Y) (is_among X (occurrences n)) refl refl
     where
-      go : (a b : Bool) → same_var X Y ≡ a → is_among X (occurrences n) ≡ b → is_absent ≡ true
-      go true b q r = ap (λ c. c || not (is_among X (occurrences n))) q
-      go false false q r = ap₂ (λ c d. c || not d) q r
-      go false true q r = absurd (not-in-closed x f (subst (FreeIn X) (sym e)
+      by-cases : (a b : Bool) → same_var X Y ≡ a → is_among X (occurrences n) ≡ b → is_absent ≡ true
+      by-cases true b q r = ap (λ c. c || not (is_among X (occurrences n))) q
+      by-cases false false q r = ap₂ (λ c d. c || not d) q r
+      by-cases false true q r = absurd (not-in-closed x f (subst (FreeIn X) (sym e)
           (in-closed x Y (nameless n) (same_var-not X Y q) ((occurs-free n X).0 r))))
 
   bound-fits : x.sort ≡ y.sort → (is_absent && same_formula f inside)

@@ -27,14 +27,14 @@ use Rattle.opened_formulas.specs.Readings.{renaming}
 -- A TERM FOR A VARIABLE is put by a test
 pub replaced-cond : (x : Var) (t : Term) (z : Var)
     → replacing x t z ≡ cond (same_var z x) t (variable z)
-replaced-cond x t z = go (same_var z x) refl (var_eq z x)
+replaced-cond x t z = by-cases (same_var z x) refl (var_eq z x)
   where
-    go : (b : Bool) → same_var z x ≡ b → (d : Dec (z ≡ x))
+    by-cases : (b : Bool) → same_var z x ≡ b → (d : Dec (z ≡ x))
         → replacing_at {x = x} {y = z} t d ≡ cond (same_var z x) t (variable z)
-    go true e (yes p) = sym (ap (λ b. cond b t (variable z)) e)
-    go true e (no n) = absurd (n (same_var-is z x e))
-    go false e (yes p) = absurd (same_var-not z x e p)
-    go false e (no n) = sym (ap (λ b. cond b t (variable z)) e)
+    by-cases true e (yes p) = sym (ap (λ b. cond b t (variable z)) e)
+    by-cases true e (no n) = absurd (n (same_var-is z x e))
+    by-cases false e (yes p) = absurd (same_var-not z x e p)
+    by-cases false e (no n) = sym (ap (λ b. cond b t (variable z)) e)
 
 -- one variable for another
 abbrev pub one_for : Var → Var → Var → Var

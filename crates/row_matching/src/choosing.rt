@@ -14,8 +14,8 @@ use opened_formulas::Candidate;
 use row_patterns::{DataLetter, FormulaLetter, TermLetter};
 
 /// The formula that is read off for the letter.
-pub fn formula_at<'a>(
-    source: &Source<'a>,
+pub fn formula_at<'r, 'a>(
+    source: &Source<'r, 'a>,
     candidate: Candidate<'a>,
     letter: FormulaLetter,
 ) -> Found<'a>
@@ -27,7 +27,11 @@ pub fn formula_at<'a>(
 }
 
 /// The term.
-pub fn term_at<'a>(source: &Source<'a>, candidate: Candidate<'a>, letter: TermLetter) -> Found<'a>
+pub fn term_at<'r, 'a>(
+    source: &Source<'r, 'a>,
+    candidate: Candidate<'a>,
+    letter: TermLetter,
+) -> Found<'a>
     requires { IsTrue (single_row source.now.row.now) }
     ensures { term_found result
         ≡ letters.term_at (choice_of source.now candidate.entry) (term_letter_in letter) }
@@ -36,7 +40,11 @@ pub fn term_at<'a>(source: &Source<'a>, candidate: Candidate<'a>, letter: TermLe
 }
 
 /// The data sort.
-pub fn data_at<'a>(source: &Source<'a>, candidate: Candidate<'a>, letter: DataLetter) -> DataSort
+pub fn data_at<'r, 'a>(
+    source: &Source<'r, 'a>,
+    candidate: Candidate<'a>,
+    letter: DataLetter,
+) -> DataSort
     requires { IsTrue (single_row source.now.row.now) }
     ensures { data_sort_of result
         ≡ letters.data_at (choice_of source.now candidate.entry) (data_letter_in letter) }
@@ -45,7 +53,7 @@ pub fn data_at<'a>(source: &Source<'a>, candidate: Candidate<'a>, letter: DataLe
 }
 
 /// The hole, or none.
-pub fn hole_at<'a>(source: &Source<'a>, candidate: Candidate<'a>) -> Option<DataSort>
+pub fn hole_at<'r, 'a>(source: &Source<'r, 'a>, candidate: Candidate<'a>) -> Option<DataSort>
     requires { IsTrue (single_row source.now.row.now) }
     ensures { hole_of result ≡ (choice_of source.now candidate.entry).o }
 {
@@ -53,7 +61,7 @@ pub fn hole_at<'a>(source: &Source<'a>, candidate: Candidate<'a>) -> Option<Data
 }
 
 /// The sort.
-pub fn sort_at<'a>(source: &Source<'a>, candidate: Candidate<'a>) -> Sort
+pub fn sort_at<'r, 'a>(source: &Source<'r, 'a>, candidate: Candidate<'a>) -> Sort
     requires { IsTrue (single_row source.now.row.now) }
     ensures { sort_of result ≡ (choice_of source.now candidate.entry).s }
 {

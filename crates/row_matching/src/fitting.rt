@@ -23,11 +23,11 @@ use opened_formulas::{Candidate, Opened, same_candidate, same_opened_term, stand
 use row_patterns::{DataPattern, SortPattern, TermPattern};
 
 // whether the data sort is the pattern's
-pub(crate) fn fits_data<'a>(
+pub(crate) fn fits_data<'r, 'a>(
     pattern: DataPattern,
     sort: DataSort,
     candidate: Candidate<'a>,
-    source: &Source<'a>,
+    source: &Source<'r, 'a>,
 ) -> bool
     requires { IsTrue (single_row source.now.row.now) }
     ensures { result ≡ sorts.same_data_sort
@@ -52,11 +52,11 @@ fn sort_tried(candidate: Candidate) -> Sort
 
 /// Whether the sort is the pattern's.
 #[tactic(auto, using(crate::proofs::Bound::choice_rules))]
-pub fn fits_sort<'a>(
+pub fn fits_sort<'r, 'a>(
     pattern: SortPattern,
     sort: Sort,
     candidate: Candidate<'a>,
-    source: &Source<'a>,
+    source: &Source<'r, 'a>,
 ) -> bool
     requires { IsTrue (single_row source.now.row.now) }
     ensures { result ≡ sorts.same_sort
@@ -88,7 +88,11 @@ pub fn fits_sort<'a>(
 
 // whether the variable has the sort of $x
 #[tactic(auto, using(crate::proofs::Bound::choice_rules))]
-pub(crate) fn has_sort_of_x<'a>(y: &LogicVar, candidate: Candidate<'a>, source: &Source<'a>) -> bool
+pub(crate) fn has_sort_of_x<'r, 'a>(
+    y: &LogicVar,
+    candidate: Candidate<'a>,
+    source: &Source<'r, 'a>,
+) -> bool
     ensures { result ≡ sorts.same_sort (choice_of source.now candidate.entry).x.sort
         (sort_of y.now.sort) }
 {
@@ -97,11 +101,11 @@ pub(crate) fn has_sort_of_x<'a>(y: &LogicVar, candidate: Candidate<'a>, source: 
 
 // whether the variable is $x
 #[tactic(auto, using(crate::proofs::Bound::choice_rules))]
-pub(crate) fn is_x<'a>(
+pub(crate) fn is_x<'r, 'a>(
     y: &LogicVar,
     opened: Option<Opened>,
     candidate: Candidate<'a>,
-    source: &Source<'a>,
+    source: &Source<'r, 'a>,
 ) -> bool
     ensures { result ≡ same_var (as_logic (choice_of source.now candidate.entry).x)
         (renamed opened.entry (logic_var_of y.now)) }
@@ -123,12 +127,12 @@ fn same_value(found: Found, a: &Term, opened: Option<Opened>) -> bool
 
 /// Whether the term of a formula is the pattern's.
 #[tactic(auto, using(crate::proofs::Bound::prog_rules))]
-pub fn fits_term<'a>(
+pub fn fits_term<'r, 'a>(
     pattern: &TermPattern,
     a: &Term,
     opened: Option<Opened>,
     candidate: Candidate<'a>,
-    source: &Source<'a>,
+    source: &Source<'r, 'a>,
 ) -> bool
     requires { IsTrue (single_row source.now.row.now) }
     ensures { result ≡ tests.same_term

@@ -79,13 +79,13 @@ fn fits_put<'x>(
 }
 
 // whether the formula is the letter's, with the term for $x
-fn fits_replaced<'a>(
+fn fits_replaced<'r, 'a>(
     term: TermLetter,
     letter: FormulaLetter,
     a: &Formula,
     opened: Option<Opened>,
     candidate: Candidate<'a>,
-    source: &Source<'a>,
+    source: &Source<'r, 'a>,
 ) -> bool
     requires { IsTrue (single_row source.now.row.now) }
     ensures { result ≡ tests.same_formula
@@ -104,12 +104,12 @@ fn fits_replaced<'a>(
 }
 
 // whether the formula is a pattern's without parts
-fn fits_constant<'a>(
+fn fits_constant<'r, 'a>(
     pattern: &Pattern,
     a: &Formula,
     opened: Option<Opened>,
     candidate: Candidate<'a>,
-    source: &Source<'a>,
+    source: &Source<'r, 'a>,
 ) -> bool
     ensures { result ≡ (is_constant pattern.now && tests.same_formula
         (patterns.formula_of (choice_of source.now candidate.entry) (formula_in pattern.now))
@@ -130,12 +130,12 @@ fn fits_constant<'a>(
 
 /// Whether the formula is the pattern's, up to the names of bound variables.
 #[cycle(fits)]
-pub fn fits_formula<'a>(
+pub fn fits_formula<'r, 'a>(
     pattern: &Pattern,
     a: &Formula,
     opened: Option<Opened>,
     candidate: Candidate<'a>,
-    source: &Source<'a>,
+    source: &Source<'r, 'a>,
 ) -> bool
     requires single { IsTrue (single (unopened opened) pattern.now) }
     requires row { IsTrue (single_row source.now.row.now) }
@@ -180,7 +180,12 @@ pub fn fits_formula<'a>(
 }
 
 // whether the binder has the sort of $x, and is $x or has it free nowhere below
-fn binds_x<'a>(y: &LogicVar, b: &Formula, candidate: Candidate<'a>, source: &Source<'a>) -> bool
+fn binds_x<'r, 'a>(
+    y: &LogicVar,
+    b: &Formula,
+    candidate: Candidate<'a>,
+    source: &Source<'r, 'a>,
+) -> bool
     ensures { result
         ≡ (sorts.same_sort (choice_of source.now candidate.entry).x.sort (sort_of y.now.sort)
         && (same_var (tried_var candidate.entry) (logic_var_of y.now)
@@ -199,12 +204,12 @@ fn opened_at<'x>(binder: &'x LogicVar, stands_for: Candidate<'x>) -> Opened<'x>
 
 // whether the binder may be one of $x, and the formula below it is the pattern's
 #[cycle(fits)]
-fn fits_below<'a>(
+fn fits_below<'r, 'a>(
     pattern: &Pattern,
     y: &LogicVar,
     b: &Formula,
     candidate: Candidate<'a>,
-    source: &Source<'a>,
+    source: &Source<'r, 'a>,
 ) -> bool
     requires single { IsTrue (single false pattern.now) }
     requires row { IsTrue (single_row source.now.row.now) }
@@ -230,13 +235,13 @@ fn fits_below<'a>(
 
 // whether the binder and what it binds are the pattern's, where none has been opened
 #[cycle(fits)]
-fn fits_bound<'a>(
+fn fits_bound<'r, 'a>(
     pattern: &Pattern,
     y: &LogicVar,
     b: &Formula,
     opened: Option<Opened>,
     candidate: Candidate<'a>,
-    source: &Source<'a>,
+    source: &Source<'r, 'a>,
 ) -> bool
     requires single { IsTrue (cond (unopened opened) (single false pattern.now) false) }
     requires row { IsTrue (single_row source.now.row.now) }
@@ -256,12 +261,12 @@ fn fits_bound<'a>(
 
 // the same of a connective
 #[cycle(fits)]
-fn fits_connective<'a>(
+fn fits_connective<'r, 'a>(
     pattern: &Pattern,
     a: &Formula,
     opened: Option<Opened>,
     candidate: Candidate<'a>,
-    source: &Source<'a>,
+    source: &Source<'r, 'a>,
 ) -> bool
     requires single { IsTrue (single (unopened opened) pattern.now) }
     requires row { IsTrue (single_row source.now.row.now) }
@@ -292,12 +297,12 @@ fn fits_connective<'a>(
 
 // the same of a formula of parts alone
 #[cycle(fits)]
-fn fits_structural<'a>(
+fn fits_structural<'r, 'a>(
     pattern: &Pattern,
     a: &Formula,
     opened: Option<Opened>,
     candidate: Candidate<'a>,
-    source: &Source<'a>,
+    source: &Source<'r, 'a>,
 ) -> bool
     requires single { IsTrue (single (unopened opened) pattern.now) }
     requires row { IsTrue (single_row source.now.row.now) }
@@ -340,12 +345,12 @@ fn fits_structural<'a>(
 
 // the same of a formula with a sort or a side
 #[cycle(fits)]
-fn fits_sorted<'a>(
+fn fits_sorted<'r, 'a>(
     pattern: &Pattern,
     a: &Formula,
     opened: Option<Opened>,
     candidate: Candidate<'a>,
-    source: &Source<'a>,
+    source: &Source<'r, 'a>,
 ) -> bool
     requires single { IsTrue (single (unopened opened) pattern.now) }
     requires row { IsTrue (single_row source.now.row.now) }
@@ -384,12 +389,12 @@ fn fits_sorted<'a>(
 
 // the same of a formula with terms
 #[cycle(fits)]
-fn fits_of_terms<'a>(
+fn fits_of_terms<'r, 'a>(
     pattern: &Pattern,
     a: &Formula,
     opened: Option<Opened>,
     candidate: Candidate<'a>,
-    source: &Source<'a>,
+    source: &Source<'r, 'a>,
 ) -> bool
     requires single { IsTrue (single (unopened opened) pattern.now) }
     requires row { IsTrue (single_row source.now.row.now) }
@@ -431,14 +436,14 @@ fn fits_of_terms<'a>(
 
 // the same of two formulas
 #[cycle(fits)]
-fn fits_both<'a>(
+fn fits_both<'r, 'a>(
     p: &Pattern,
     a: &Formula,
     q: &Pattern,
     b: &Formula,
     opened: Option<Opened>,
     candidate: Candidate<'a>,
-    source: &Source<'a>,
+    source: &Source<'r, 'a>,
 ) -> bool
     requires left { IsTrue (single (unopened opened) p.now) }
     requires right { IsTrue (single (unopened opened) q.now) }

@@ -30,11 +30,11 @@ pub enum Cited<'a> {
     Two(&'a Entailment, &'a Entailment),
 }
 
-/// A row, and what is written for it at a step.
+/// A row, and what is written for it at a step: `'r` is how long the row lives, `'a` the rest.
 #[derive(Clone, Copy)]
-pub struct Source<'a> {
+pub struct Source<'r, 'a> {
     /// The row.
-    pub row: &'a Row<'a>,
+    pub row: &'r Row<'r>,
     /// The arguments.
     pub arguments: &'a [Term],
     /// The cited entailments.
@@ -103,7 +103,11 @@ fn find_premises<'a>(
 
 /// What stands at the letter's first place: in the argument and the conclusion, or else in the
 /// premises.
-pub fn found_at<'a>(source: Source<'a>, candidate: Candidate<'a>, letter: Letter) -> Found<'a>
+pub fn found_at<'r, 'a>(
+    source: Source<'r, 'a>,
+    candidate: Candidate<'a>,
+    letter: Letter,
+) -> Found<'a>
     requires { IsTrue (single_row source.row.now) }
     ensures { tree_found result ≡ option_or
         (find (tried_var candidate.entry) (letter_of letter)

@@ -1,0 +1,2 @@
+pub mod Citing
+pub mod Steps

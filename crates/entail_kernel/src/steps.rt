@@ -1,0 +1,106 @@
+// Steps by rules of entailment.
+ghost use Rattle.std.specs.Prelude.{◌≡◌, IfOk, map};
+ghost use Rattle.model_commands.specs.Theories.{nameless_judgement};
+ghost use Rattle.rule_table.specs.Accepted as accepted;
+ghost use Rattle.rule_table.specs.Table.{entailments};
+ghost use Rattle.rule_table.specs.Verdicts.{IsVerdict, readings_in};
+ghost use Rattle.dom_terms.specs.Terms.{term_of};
+ghost use Rattle.theory_syntax.specs.Judgements.{judgement_of, reason_of};
+ghost use Rattle.row_patterns.specs.Verdicts.{verdict_in};
+ghost use Rattle.row_matching.specs.Choices.{judged};
+ghost use Rattle.rule_rows.specs.Names.{name_of};
+ghost use Rattle.cited_steps.specs.Earlier.{AreCitable, steps_in};
+ghost use Rattle.entail_rules.specs.Premises.{Cites, IsSmallEntailment};
+ghost use Rattle.entail_kernel.specs.Citing.{CitesOne};
+ghost use Rattle.entail_kernel.specs.Steps.{EntailmentVerdict, IsEntailmentStep};
+
+use cited_steps::cited;
+use dom_terms::{OutOfMemory, Term, Verdict};
+use entail_rules::{Cited, EntailRule, rule_of, verdict_on};
+use formula_syntax::Entailment;
+use std::alloc::Global;
+use theory_syntax::{Judgement, Reason, Step};
+
+// The entailment that the step of the number says, if it is one.
+fn cited_entailment(number: u32, earlier: &[Step]) -> Option<&Entailment>
+    requires { AreCitable earlier.now }
+    ensures { CitesOne number earlier.now result }
+{
+    match cited(number, earlier)? {
+        Judgement::Entails(entailment) => Some(entailment),
+        Judgement::Triple(_) => None,
+    }
+}
+
+// The entailments that are cited, where they are two at most.
+fn cited_entailments<'a>(numbers: &[u32], earlier: &'a [Step]) -> Option<Cited<'a>>
+    requires { AreCitable earlier.now }
+    ensures { Cites result (accepted.cited (steps_in earlier.now) numbers.now) }
+{
+    match numbers {
+        [] => Some(Cited::Nothing),
+        [n] => Some(Cited::One(cited_entailment(*n, earlier)?)),
+        [n, m] => {
+            let first = cited_entailment(*n, earlier)?;
+            let second = cited_entailment(*m, earlier)?;
+            Some(Cited::Two(first, second))
+        }
+        _ => None,
+    }
+}
+
+/// The verdict on an entailment by the rule, with these arguments and citations, over the steps
+/// before it. OutOfMemory comes only where memory is refused.
+pub fn entailment_by(
+    alloc: Global,
+    rule: EntailRule,
+    earlier: &[Step],
+    numbers: &[u32],
+    arguments: &[Term],
+    conclusion: &Entailment,
+) -> Result<Verdict, OutOfMemory>
+    requires earlier { AreCitable earlier.now }
+    requires small { IsSmallEntailment conclusion.now }
+    ensures { IfOk result (λ v. IsVerdict (readings_in entailments (name_of rule))
+        (accepted.written_at (steps_in earlier.now) numbers.now (map term_of arguments.now)
+        (judged conclusion.now)) (verdict_in v)) }
+{
+    let cited = cited_entailments(numbers, earlier);
+    verdict_on(alloc, rule, arguments, cited, conclusion)
+}
+
+/// The verdict on a step that names a rule of entailment and judges an entailment, over the steps
+/// before it. OutOfMemory comes only where memory is refused.
+pub fn check_entailment(
+    alloc: Global,
+    earlier: &[Step],
+    step: &Step,
+) -> Result<Verdict, OutOfMemory>
+    requires earlier { AreCitable earlier.now }
+    requires step { IsEntailmentStep step.now }
+    ensures { IfOk result (λ v. EntailmentVerdict (steps_in earlier.now)
+        (reason_of step.now.reason) (nameless_judgement (judgement_of step.now.judgement))
+        (verdict_in v)) }
+{
+    let Judgement::Entails(conclusion) = &step.judgement else {
+        unreachable!();
+    };
+    let Reason::Rule {
+        name,
+        premises,
+        arguments,
+    } = &step.reason else {
+        unreachable!();
+    };
+    let Some(rule) = rule_of(name.as_str()) else {
+        unreachable!();
+    };
+    entailment_by(
+        alloc,
+        rule,
+        earlier,
+        premises.as_slice(),
+        arguments.as_slice(),
+        conclusion,
+    )
+}

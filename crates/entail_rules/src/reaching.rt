@@ -1,0 +1,159 @@
+// Whether some line of a row goes so far along with a step: the variables for $x are tried.
+ghost use Rattle.std.specs.Prelude.{◌≡◌, ◌↔◌, IsTrue, map, true};
+ghost use Rattle.formula_syntax.specs.Formulas.{any_var_of};
+ghost use Rattle.rule_table.specs.Letters.{Letters};
+ghost use Rattle.rule_table.specs.Verdicts.{SomeLine};
+ghost use Rattle.rule_patterns.specs.Patterns.{line_of, rows_of};
+ghost use Rattle.rule_patterns.specs.Stages.{Reaches};
+ghost use Rattle.rule_patterns.proofs.PatternTests.{fits, all_fit};
+ghost use Rattle.row_patterns.specs.Binders.{single_row, all_single};
+ghost use Rattle.row_patterns.specs.Views.{line_in, patterns_in};
+ghost use Rattle.row_matching.specs.Choices.{written_of};
+ghost use Rattle.row_judging.specs.Lines.{stage_in};
+ghost use Rattle.entail_rules.specs.Steps.{step_written};
+ghost use Rattle.entail_rules.specs.Tried.{AreBelow, AreCovered, Enough, EnoughEach, HasEach, ReachesAs, SomeLetters, SomeNew, SomeWritten, FollowsAs};
+
+use crate::steps::Step;
+use crate::variables::{SORTS, Tried, Variables};
+use dom_terms::{DataSort, Sort};
+use formula_syntax::AnyVar;
+use opened_formulas::Candidate;
+use row_judging::{Stage, tries};
+use row_matching::Source;
+use row_patterns::{Condition, Row};
+
+// each sort
+fn sorts() -> &'static [Sort]
+    ensures { HasEach result.now }
+{
+    SORTS
+}
+
+// whether the line of a new variable of some of these sorts, whose name has that length, goes so
+// far
+fn some_new(stage: Stage, length: usize, sorts: &[Sort], source: &Source) -> bool
+    requires { IsTrue (single_row source.now.row.now) }
+    ensures { IsTrue result ↔ SomeNew (stage_in stage) length source.now sorts.now }
+{
+    match sorts {
+        [] => false,
+        [sort, rest @ ..] => {
+            if tries(stage, Candidate::New(length, *sort), &*source) {
+                return true;
+            }
+            some_new(stage, length, rest, &*source)
+        }
+    }
+}
+
+// whether that of the variable does
+fn reaches_as<'a>(stage: Stage, variable: &'a AnyVar, source: &Source<'a>) -> bool
+    requires { IsTrue (single_row source.now.row.now) }
+    ensures { IsTrue result ↔ ReachesAs (stage_in stage) source.now (any_var_of variable.now) }
+{
+    match variable {
+        AnyVar::Prog(_) => false,
+        AnyVar::Logic(x) => tries(stage, Candidate::Written(x), &*source),
+    }
+}
+
+// whether that of one of the written variables does
+fn some_written<'a>(stage: Stage, variables: &'a [AnyVar], source: &Source<'a>) -> bool
+    requires { IsTrue (single_row source.now.row.now) }
+    ensures { IsTrue result ↔ SomeWritten (stage_in stage) source.now variables.now }
+{
+    let mut rest = variables;
+    'variables: while let [variable, others @ ..] = rest {
+        if reaches_as(stage, variable, &*source) {
+            return true;
+        }
+        rest = others;
+    }
+    false
+}
+
+// whether some line of the row goes so far, where these variables are tried
+fn some_tried<'a>(stage: Stage, variables: &'a Variables, source: &Source<'a>) -> bool
+    requires single { IsTrue (single_row source.now.row.now) }
+    requires fits { fits (line_in source.now.row.now) ≡ true }
+    requires covered { AreCovered (written_of source.now) (map any_var_of variables.now.written.items) }
+    requires below { AreBelow variables.now.new_length (map any_var_of variables.now.written.items) }
+    ensures { IsTrue result ↔ SomeLetters (stage_in stage) source.now }
+{
+    if some_new(stage, variables.new_length, sorts(), &*source) {
+        return true;
+    }
+    some_written(stage, variables.written.as_slice(), &*source)
+}
+
+// whether some line of the row goes so far
+fn row_reaches<'a>(stage: Stage, row: &'a Row<'a>, step: Step<'a>, tried: Tried<'a>) -> bool
+    requires single { IsTrue (single_row row.now) }
+    requires fits { fits (line_in row.now) ≡ true }
+    requires enough { Enough (line_in row.now) (step_written step) tried }
+    ensures { IsTrue result ↔ ((letters : Letters) × Reaches (stage_in stage)
+        (step_written step.entry) (line_of letters (line_in row.now))) }
+{
+    let source = Source {
+        row,
+        arguments: step.arguments,
+        cited: step.cited,
+        conclusion: step.conclusion,
+    };
+    match tried {
+        Tried::Any => tries(
+            stage,
+            Candidate::New(0, Sort::Shape(DataSort::Tree)),
+            &source,
+        ),
+        Tried::These(variables) => some_tried(stage, variables, &source),
+    }
+}
+
+/// Whether some line of the rows goes so far.
+#[tactic(auto, using(crate::proofs::Reached::row_rules))]
+pub(crate) fn some_reaches<'a>(
+    stage: Stage,
+    rows: &'a [Row<'a>],
+    step: Step<'a>,
+    tried: Tried<'a>,
+) -> bool
+    requires single { all_single rows.now ≡ true }
+    requires fits { all_fit (patterns_in rows.now) ≡ true }
+    requires enough { EnoughEach (patterns_in rows.now) (step_written step) tried }
+    ensures { IsTrue result ↔ SomeLine (rows_of (patterns_in rows.now))
+        (Reaches (stage_in stage) (step_written step.entry)) }
+{
+    match rows {
+        [] => false,
+        [row, rest @ ..] => {
+            if row_reaches(stage, row, step, tried) {
+                return true;
+            }
+            some_reaches(stage, rest, step, tried)
+        }
+    }
+}
+
+/// The condition of the first row of which some line follows.
+#[tactic(auto, using(crate::proofs::Reached::row_rules))]
+pub(crate) fn first_following<'a>(
+    rows: &'a [Row<'a>],
+    step: Step<'a>,
+    tried: Tried<'a>,
+) -> Option<Condition>
+    requires single { all_single rows.now ≡ true }
+    requires fits { all_fit (patterns_in rows.now) ≡ true }
+    requires enough { EnoughEach (patterns_in rows.now) (step_written step) tried }
+    ensures { FollowsAs (step_written step.entry) rows.now result }
+{
+    match rows {
+        [] => None,
+        [row, rest @ ..] => {
+            if row_reaches(Stage::Premises, row, step, tried) {
+                return Some(row.condition);
+            }
+            first_following(rest, step, tried)
+        }
+    }
+}
