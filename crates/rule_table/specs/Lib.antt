@@ -11,6 +11,7 @@ pub mod Equations
 pub mod Structure
 pub mod Monotony
 pub mod Contexts
+pub mod Checked
 pub mod Closed
 pub mod Variables
 pub mod Nodes
@@ -20,3 +21,4 @@ pub mod Axioms
 pub mod Table
 pub mod Verdicts
 pub mod Accepted
+pub mod Checked
