@@ -21,4 +21,3 @@ pub mod Axioms
 pub mod Table
 pub mod Verdicts
 pub mod Accepted
-pub mod Checked
