@@ -16,7 +16,7 @@ ghost use Rattle.logic_text.specs.DeclaredFormulas.{declared_vars, SpellsFormula
 
 use crate::formula_reading::formula;
 use crate::grove_reading::MOST_DEPTH;
-use declared_sorts::{Declared, Sorted};
+use declared_sorts::{Declared, Sorted, names_of};
 use dom_terms::{Copied, LogicVars, OutOfMemory, Vars};
 use formula_syntax::{AnyVar, Formula};
 use std::alloc::Global;
@@ -56,11 +56,12 @@ fn set_declared(alloc: Global, formula: &mut Formula, vars: &[AnyVar]) -> Result
     ensures { OnOk result (formula_of formula.new
         ≡ sorted_formula (declared_vars vars.now) (formula_of formula.old)) }
 {
-    let (variables, logics) = of_each_kind(alloc, vars)?;
-    let declared = Declared {
-        variables: variables.as_slice(),
-        logics: logics.as_slice(),
-    };
+    let kinds = of_each_kind(alloc, vars)?;
+    let variables = kinds.0.as_slice();
+    let logics = kinds.1.as_slice();
+    let variable_names = names_of(alloc, variables)?;
+    let logic_names = names_of(alloc, logics)?;
+    let declared = Declared::new(variables, &variable_names, logics, &logic_names);
     formula.set_sorts(&declared);
     Ok(())
 }
