@@ -5,6 +5,7 @@ ghost use Rattle.model_text.specs.Lexemes.{Lexeme};
 ghost use Rattle.model_text.specs.FaultTokens.{AreOfTokens, IsFaultToken};
 ghost use Rattle.model_grammar.specs.Formulas.{SpellsFormula};
 ghost use Rattle.model_grammar.specs.Sorts.{sorted_formula};
+ghost use Rattle.declared_sorts.specs.Names.{of_logic, Tells};
 ghost use Rattle.dom_terms.specs.Terms.{prog_var_of, logic_var_of};
 ghost use Rattle.formula_syntax.specs.Formulas.{formula_of};
 ghost use Rattle.token_readers.specs.Faults.{IfBadText};
@@ -16,8 +17,8 @@ ghost use Rattle.logic_text.specs.DeclaredFormulas.{declared_vars, SpellsFormula
 
 use crate::formula_reading::formula;
 use crate::grove_reading::MOST_DEPTH;
-use declared_sorts::{Declared, Sorted, names_of};
-use dom_terms::{Copied, LogicVars, OutOfMemory, Vars};
+use declared_sorts::{Declared, Names, Sorted, names_of};
+use dom_terms::{Copied, LogicVar, LogicVars, OutOfMemory, ProgVar, Sort, Vars};
 use formula_syntax::{AnyVar, Formula};
 use std::alloc::Global;
 use text_tokens::{Token, Tokens};
@@ -51,19 +52,47 @@ fn of_each_kind(alloc: Global, vars: &[AnyVar]) -> Result<(Vars, LogicVars), Out
     Ok((variables, logics))
 }
 
-// Gives each variable of the formula the sort of its declaration.
+// Gives each variable of the formula the sort of its declaration, among these.
+fn set_with(
+    alloc: Global,
+    formula: &mut Formula,
+    variables: &[ProgVar],
+    logics: &[LogicVar],
+    logic_names: &Names<Sort>,
+) -> Result<(), OutOfMemory>
+    requires { Tells logic_names.now (map of_logic logics.now) }
+    ensures { OnOk result (formula_of formula.new ≡ sorted_formula
+        (record { variables = map prog_var_of variables.now; logics = map logic_var_of logics.now })
+        (formula_of formula.old)) }
+{
+    let variable_names = names_of(alloc, variables)?;
+    let declared = Declared::new(variables, &variable_names, logics, logic_names);
+    formula.set_sorts(&declared);
+    Ok(())
+}
+
+// The same without a table of the names.
+fn set_among(
+    alloc: Global,
+    formula: &mut Formula,
+    variables: &[ProgVar],
+    logics: &[LogicVar],
+) -> Result<(), OutOfMemory>
+    ensures { OnOk result (formula_of formula.new ≡ sorted_formula
+        (record { variables = map prog_var_of variables.now; logics = map logic_var_of logics.now })
+        (formula_of formula.old)) }
+{
+    let logic_names = names_of(alloc, logics)?;
+    set_with(alloc, formula, variables, logics, &logic_names)
+}
+
+// The same among the list of both kinds.
 fn set_declared(alloc: Global, formula: &mut Formula, vars: &[AnyVar]) -> Result<(), OutOfMemory>
     ensures { OnOk result (formula_of formula.new
         ≡ sorted_formula (declared_vars vars.now) (formula_of formula.old)) }
 {
-    let kinds = of_each_kind(alloc, vars)?;
-    let variables = kinds.0.as_slice();
-    let logics = kinds.1.as_slice();
-    let variable_names = names_of(alloc, variables)?;
-    let logic_names = names_of(alloc, logics)?;
-    let declared = Declared::new(variables, &variable_names, logics, &logic_names);
-    formula.set_sorts(&declared);
-    Ok(())
+    let (variables, logics) = of_each_kind(alloc, vars)?;
+    set_among(alloc, formula, variables.as_slice(), logics.as_slice())
 }
 
 /// The formula that the tokens spell, all of them. Each variable has the sort of the first of
