@@ -1,5 +1,7 @@
 pub mod Coverage
-pub mod Matching
+pub mod EnoughTried
 pub mod PlainRows
 pub mod Reached
+pub mod RowsLeft
+pub mod RuleVerdicts
 pub mod VerdictLaws

@@ -13,7 +13,7 @@ use Rattle.rule_table.specs.Letters.{Letters, LogicVar, as_logic}
 use Rattle.rule_patterns.specs.Candidates.{In, name_of_length, written_in}
 use Rattle.rule_patterns.specs.Finding.{attempt}
 use Rattle.rule_patterns.specs.Patterns.{LinePattern, line_of}
-use Rattle.rule_patterns.specs.Stages.{Stage, Reaches}
+use Rattle.rule_patterns.specs.Stages.{Stage}
 use Rattle.rule_patterns.proofs.PatternTests.{all_fit, is_plain_line, fits, well_made, of_a_kind}
 use Rattle.rule_patterns.proofs.Exact.{enough, enough-plain, name-length}
 use Rattle.rule_table.specs.Verdicts.{Follows, Written}

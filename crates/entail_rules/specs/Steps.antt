@@ -1,5 +1,5 @@
 -- Needn't be believed: what is written at a step, and the logic variables that are written.
-use Rattle.std.specs.Prelude.{Some, List, [], ◌∷◌, ◌++◌, map}
+use Rattle.std.specs.Prelude.{Bool, true, false, Option, Some, List, [], ◌∷◌, ◌++◌, map}
 use Rattle.std.specs.List.{flat_map}
 use Rattle.model_terms.specs.Variables.{Var, prog, logic, bound}
 use Rattle.model_terms.specs.Terms.{Term, literal, variable, sum, difference, appended}
@@ -12,6 +12,11 @@ use Rattle.row_matching.specs.Choices.{judged, all_cited}
 use Rattle.row_matching.specs.declared.source.Cited.{Cited}
 use Rattle.row_matching.specs.declared.source.Cited.TheVariants as c
 use Rattle.entail_rules.specs.declared.steps.Step.{Step}
+
+-- whether entailments are cited, and none
+abbrev pub nothing_cited : Option Cited → Bool
+nothing_cited (Some c.Nothing) = true
+nothing_cited cited = false
 
 -- what is written
 abbrev pub step_written : Step → Written

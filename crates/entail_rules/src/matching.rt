@@ -14,6 +14,7 @@ ghost use Rattle.row_patterns.specs.Views.{patterns_in};
 ghost use Rattle.rule_rows.specs.Names.{name_of, computed_name};
 ghost use Rattle.row_matching.specs.Choices.{judged};
 ghost use Rattle.entail_rules.specs.Premises.{Cites, IsSmallEntailment, unfollowed, written_with};
+ghost use Rattle.entail_rules.specs.Steps.{nothing_cited};
 
 use crate::steps::Step;
 use crate::verdicts::matched;
@@ -36,9 +37,9 @@ fn without_premises(verdict: Verdict) -> Verdict
 }
 
 // The verdict by a rule with these rows.
-fn by_rows<'a>(
+fn by_rows<'r, 'a>(
     alloc: Global,
-    rows: &'a [Row<'a>],
+    rows: &'r [Row<'r>],
     arguments: &'a [Term],
     cited: Option<Cited<'a>>,
     conclusion: &'a Entailment,
@@ -94,6 +95,13 @@ fn computed(
     }
 }
 
+// Whether entailments are cited, and none.
+fn cites_nothing(cited: Option<Cited>) -> bool
+    ensures { result ≡ nothing_cited cited.entry }
+{
+    matches!(cited, Some(Cited::Nothing))
+}
+
 // The verdict by a rule that computes.
 fn by_computing(
     alloc: Global,
@@ -111,10 +119,10 @@ fn by_computing(
         (written_with arguments.now premises conclusion.now) (verdict_in v)) }
 {
     let verdict = computed(alloc, rule, arguments, conclusion)?;
-    match cited {
-        Some(Cited::Nothing) => Ok(verdict),
-        _ => Ok(without_premises(verdict)),
+    if cites_nothing(cited) {
+        return Ok(verdict);
     }
+    Ok(without_premises(verdict))
 }
 
 /// The verdict on a step by the rule, with these arguments and this conclusion, where these

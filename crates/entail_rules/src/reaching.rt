@@ -47,7 +47,7 @@ fn some_new(stage: Stage, length: usize, sorts: &[Sort], source: &Source) -> boo
 }
 
 // whether that of the variable does
-fn reaches_as<'a>(stage: Stage, variable: &'a AnyVar, source: &Source<'a>) -> bool
+fn reaches_as<'r, 'a>(stage: Stage, variable: &'a AnyVar, source: &Source<'r, 'a>) -> bool
     requires { IsTrue (single_row source.now.row.now) }
     ensures { IsTrue result ↔ ReachesAs (stage_in stage) source.now (any_var_of variable.now) }
 {
@@ -58,7 +58,7 @@ fn reaches_as<'a>(stage: Stage, variable: &'a AnyVar, source: &Source<'a>) -> bo
 }
 
 // whether that of one of the written variables does
-fn some_written<'a>(stage: Stage, variables: &'a [AnyVar], source: &Source<'a>) -> bool
+fn some_written<'r, 'a>(stage: Stage, variables: &'a [AnyVar], source: &Source<'r, 'a>) -> bool
     requires { IsTrue (single_row source.now.row.now) }
     ensures { IsTrue result ↔ SomeWritten (stage_in stage) source.now variables.now }
 {
@@ -73,7 +73,7 @@ fn some_written<'a>(stage: Stage, variables: &'a [AnyVar], source: &Source<'a>) 
 }
 
 // whether some line of the row goes so far, where these variables are tried
-fn some_tried<'a>(stage: Stage, variables: &'a Variables, source: &Source<'a>) -> bool
+fn some_tried<'r, 'a>(stage: Stage, variables: &'a Variables, source: &Source<'r, 'a>) -> bool
     requires single { IsTrue (single_row source.now.row.now) }
     requires fits { fits (line_in source.now.row.now) ≡ true }
     requires covered { AreCovered (written_of source.now) (map any_var_of variables.now.written.items) }
@@ -87,7 +87,7 @@ fn some_tried<'a>(stage: Stage, variables: &'a Variables, source: &Source<'a>) -
 }
 
 // whether some line of the row goes so far
-fn row_reaches<'a>(stage: Stage, row: &'a Row<'a>, step: Step<'a>, tried: Tried<'a>) -> bool
+fn row_reaches<'r, 'a>(stage: Stage, row: &'r Row<'r>, step: Step<'a>, tried: Tried<'a>) -> bool
     requires single { IsTrue (single_row row.now) }
     requires fits { fits (line_in row.now) ≡ true }
     requires enough { Enough (line_in row.now) (step_written step) tried }
@@ -112,9 +112,9 @@ fn row_reaches<'a>(stage: Stage, row: &'a Row<'a>, step: Step<'a>, tried: Tried<
 
 /// Whether some line of the rows goes so far.
 #[tactic(auto, using(crate::proofs::Reached::row_rules))]
-pub(crate) fn some_reaches<'a>(
+pub(crate) fn some_reaches<'r, 'a>(
     stage: Stage,
-    rows: &'a [Row<'a>],
+    rows: &'r [Row<'r>],
     step: Step<'a>,
     tried: Tried<'a>,
 ) -> bool
@@ -137,8 +137,8 @@ pub(crate) fn some_reaches<'a>(
 
 /// The condition of the first row of which some line follows.
 #[tactic(auto, using(crate::proofs::Reached::row_rules))]
-pub(crate) fn first_following<'a>(
-    rows: &'a [Row<'a>],
+pub(crate) fn first_following<'r, 'a>(
+    rows: &'r [Row<'r>],
     step: Step<'a>,
     tried: Tried<'a>,
 ) -> Option<Condition>

@@ -19,7 +19,7 @@ use row_patterns::{Condition, Row};
 use std::alloc::Global;
 
 // The verdict, with the variables that are tried.
-fn staged<'a>(rows: &'a [Row<'a>], step: Step<'a>, tried: Tried<'a>) -> Verdict
+fn staged<'r, 'a>(rows: &'r [Row<'r>], step: Step<'a>, tried: Tried<'a>) -> Verdict
     requires single { all_single rows.now ≡ true }
     requires fits { all_fit (patterns_in rows.now) ≡ true }
     requires enough { EnoughEach (patterns_in rows.now) (step_written step) tried }
@@ -41,9 +41,9 @@ fn staged<'a>(rows: &'a [Row<'a>], step: Step<'a>, tried: Tried<'a>) -> Verdict
 }
 
 /// The verdict on the step by a rule with these rows.
-pub(crate) fn matched<'a>(
+pub(crate) fn matched<'r, 'a>(
     alloc: Global,
-    rows: &'a [Row<'a>],
+    rows: &'r [Row<'r>],
     step: Step<'a>,
 ) -> Result<Verdict, OutOfMemory>
     requires single { all_single rows.now ≡ true }
