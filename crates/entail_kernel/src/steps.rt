@@ -89,7 +89,8 @@ pub fn check_entailment(
         name,
         premises,
         arguments,
-    } = &step.reason else {
+    } = &step.reason
+    else {
         unreachable!();
     };
     let Some(rule) = rule_of(name.as_str()) else {

@@ -81,9 +81,7 @@ fn computed(
     conclusion: &Entailment,
 ) -> Result<Verdict, OutOfMemory>
     requires small { IsSmallEntailment conclusion.now }
-    requires sorted {
-        first_fault (formula_of conclusion.now.right) (sort_of conclusion.now.sort) ≡ None
-    }
+    requires sorted { first_fault (formula_of conclusion.now.right) (sort_of conclusion.now.sort) ≡ None }
     ensures { IfOk result (λ v. IsVerdict (readings_in entailments (computed_name rule))
         (written_with arguments.now (Some []) conclusion.now) (verdict_in v)) }
 {
@@ -111,9 +109,7 @@ fn by_computing(
     conclusion: &Entailment,
 ) -> Result<Verdict, OutOfMemory>
     requires small { IsSmallEntailment conclusion.now }
-    requires sorted {
-        first_fault (formula_of conclusion.now.right) (sort_of conclusion.now.sort) ≡ None
-    }
+    requires sorted { first_fault (formula_of conclusion.now.right) (sort_of conclusion.now.sort) ≡ None }
     ensures { IfOk result (λ v. (premises : Option (List Judgement)) → Cites cited.entry premises
         → IsVerdict (readings_in entailments (computed_name rule))
         (written_with arguments.now premises conclusion.now) (verdict_in v)) }
@@ -137,9 +133,7 @@ pub fn verdict_on(
     conclusion: &Entailment,
 ) -> Result<Verdict, OutOfMemory>
     requires small { IsSmallEntailment conclusion.now }
-    requires sorted {
-        first_fault (formula_of conclusion.now.right) (sort_of conclusion.now.sort) ≡ None
-    }
+    requires sorted { first_fault (formula_of conclusion.now.right) (sort_of conclusion.now.sort) ≡ None }
     ensures { IfOk result (λ v. (premises : Option (List Judgement)) → Cites cited.entry premises
         → IsVerdict (readings_in entailments (name_of rule))
         (written_with arguments.now premises conclusion.now) (verdict_in v)) }
@@ -173,9 +167,7 @@ pub fn matches(
     conclusion: &Entailment,
 ) -> Result<Verdict, OutOfMemory>
     requires small { IsSmallEntailment conclusion.now }
-    requires sorted {
-        first_fault (formula_of conclusion.now.right) (sort_of conclusion.now.sort) ≡ None
-    }
+    requires sorted { first_fault (formula_of conclusion.now.right) (sort_of conclusion.now.sort) ≡ None }
     ensures { IfOk result (λ v. IsVerdict (readings_in entailments (name_of rule))
         (written_with arguments.now (Some (map judged premises.now)) conclusion.now)
         (verdict_in v)) }
