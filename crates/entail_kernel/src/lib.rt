@@ -5,4 +5,5 @@
 
 mod steps;
 
+pub use entail_rules::{EntailRule, rule_of};
 pub use steps::{check_entailment, entailment_by};
