@@ -3,7 +3,7 @@ use Rattle.std.proofs.Common.{◌≡◌, ◌∙◌, inl, ℕ, ◌<◌, true, Lis
 use Rattle.model_commands.specs.Theories.{Theory}
 use Rattle.dom_terms.specs.declared.limits.LimitKind as own
 use Rattle.outside_io.specs.Causes.{Told}
-use Rattle.model_rules.proofs.Sound.{accepted_hold}
+use Rattle.triple_laws.proofs.Theories.{accepted_theories_hold}
 use Rattle.model_limits.specs.Limits.{standard_limits}
 use Rattle.model_answers.specs.Words.{Request, check, run}
 use Rattle.model_text.specs.Lexemes.{Lexeme}
@@ -31,8 +31,9 @@ too_large Spells most bad_line bytes s output long e =
 sound_verdict : (bytes : List ℕ) (theory : Theory) (s : Status) (output : List ℕ)
     → IsFile bytes theory → Verdict theory s output → s ≡ status.Done → IsProved bytes
 sound_verdict bytes t s output file (is_unbuilt f n e) q = absurd cc
-sound_verdict bytes t s output file (says_yes e x) q = (t, file, accepted_hold t x)
-sound_verdict bytes t s output file (has_gap f x e a) q = absurd cc
+sound_verdict bytes t s output file (says_yes e x) q =
+    (t, file, accepted_theories_hold t file.well_formed x)
+sound_verdict bytes t s output file (has_gap n m f x e a h d) q = absurd cc
 sound_verdict bytes t s output file (says_no e x n) q = absurd cc
 
 -- the status is no yes

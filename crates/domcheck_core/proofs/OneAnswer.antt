@@ -4,9 +4,10 @@ use Rattle.model_shapes.specs.Values.{Value}
 use Rattle.model_limits.specs.Limits.{LimitKind}
 use Rattle.model_limits.specs.FirstOf.{or_else}
 use Rattle.model_formulas.specs.Formulas.{Named}
-use Rattle.model_commands.specs.Theories.{ProcedureOf, Procedure, Step, Theory}
+use Rattle.model_commands.specs.Theories.{ProcedureOf, StepOf, Theory}
 use Rattle.model_files.specs.FileFaults.{FileFault, first_file_fault}
-use Rattle.model_rules.proofs.Gaps.{gap-not-accepted, one-gap}
+use Rattle.rule_table.specs.Accepted.{BadPlace}
+use Rattle.rule_table.proofs.Places.{accepted-none, one-first-bad}
 use Rattle.model_text.specs.Lexemes.{Lexeme}
 use Rattle.model_text.specs.Nesting.{lexemes_of}
 use Rattle.model_text.specs.FaultTokens.{IsFaultToken}
@@ -18,7 +19,7 @@ use Rattle.model_answers.specs.Texts.{text_limit, theory_limit, IsFile}
 use Rattle.model_answers.specs.Output.{bad_text_line, bad_document_text_line, unbuilt_line, gap_line}
 use Rattle.proof_text.proofs.Exact.{one_theory}
 use Rattle.logic_text.proofs.Exact.{at_most_one}
-use Rattle.domcheck_core.specs.Answers.{Books, Answer, limit_answer, fault_answer, Unread, over_limit, spells_nothing, theory_refusal, NoFile, unread, refused, Verdict, is_unbuilt, says_yes, has_gap, says_no, CheckAnswer, no_file, judged, grove_answer, DocumentAnswer, no_document, is_document, IsCalled, NotCalled, RunAnswer, not_run, not_called, is_called, IsAnswer, bad_words, checked, ran, IsToldBook, IsTold}
+use Rattle.domcheck_core.specs.Answers.{Books, Answer, limit_answer, fault_answer, Unread, over_limit, spells_nothing, theory_refusal, NoFile, unread, refused, numbered, Verdict, is_unbuilt, says_yes, has_gap, says_no, CheckAnswer, no_file, judged, grove_answer, DocumentAnswer, no_document, is_document, IsCalled, NotCalled, RunAnswer, not_run, not_called, is_called, IsAnswer, bad_words, checked, ran, IsToldBook, IsTold}
 use Rattle.domcheck_core.specs.declared.status.Status.{Status}
 
 -- values in options
@@ -116,11 +117,11 @@ one_no_file bytes s t o p (refused u e spelled f) (refused v d spells g) =
     (ap theory_refusal (one_theory (lexemes_of bytes) u v spelled spells) ∙ g)
 
 -- CHECK
-gap_lines : (f g : Procedure) (x y : Step) → f ≡ g → x ≡ y
+gap_lines : (f g : ProcedureOf Named) (x y : StepOf Named) → f ≡ g → x ≡ y
     → gap_line x.number f.name x.line ≡ gap_line y.number g.name y.line
-gap_lines f g x y e d = subst (λ (z : Procedure). gap_line x.number f.name x.line
+gap_lines f g x y e d = subst (λ (z : ProcedureOf Named). gap_line x.number f.name x.line
     ≡ gap_line y.number z.name y.line) e
-    (ap (λ (z : Step). gap_line z.number f.name z.line) d)
+    (ap (λ (z : StepOf Named). gap_line z.number f.name z.line) d)
 
 one_verdict : (theory : Theory) (s t : Status) (o p : List ℕ) → Verdict theory s o
     → Verdict theory t p → Equal s o t p
@@ -128,25 +129,32 @@ one_verdict theory s t o p (is_unbuilt f n e) (is_unbuilt g m h) =
     let same : (f, n) ≡ (g, m) = some_same (f, n) (g, m) (sym e ∙ h) in
     (refl, ap (λ (z : ℕ × ℕ). unbuilt_line z.0 z.1) same)
 one_verdict theory s t o p (is_unbuilt f n e) (says_yes h y) = absurd (some_none _ (sym e ∙ h))
-one_verdict theory s t o p (is_unbuilt f n e) (has_gap g x h a) =
+one_verdict theory s t o p (is_unbuilt f n e) (has_gap q m g x h a b d) =
     absurd (some_none _ (sym e ∙ h))
 one_verdict theory s t o p (is_unbuilt f n e) (says_no h y z) = absurd (some_none _ (sym e ∙ h))
 one_verdict theory s t o p (says_yes e x) (is_unbuilt g m h) = absurd (some_none _ (sym h ∙ e))
 one_verdict theory s t o p (says_yes e x) (says_yes h y) = (refl, refl)
-one_verdict theory s t o p (says_yes e x) (has_gap g y h a) =
-    absurd (gap-not-accepted theory g y a x)
+one_verdict theory s t o p (says_yes e x) (has_gap q m g y h a b d) =
+    absurd (accepted-none theory _ x a)
 one_verdict theory s t o p (says_yes e x) (says_no h y z) = absurd (y x)
-one_verdict theory s t o p (has_gap f x e a) (is_unbuilt g m h) =
+one_verdict theory s t o p (has_gap n l f x e a b d) (is_unbuilt g m h) =
     absurd (some_none _ (sym h ∙ e))
-one_verdict theory s t o p (has_gap f x e a) (says_yes h y) =
-    absurd (gap-not-accepted theory f x a y)
-one_verdict theory s t o p (has_gap f x e a) (has_gap g y h b) =
-    let same = one-gap _ f g x y a b in
-    (refl, gap_lines f g x y same.0 same.1)
-one_verdict theory s t o p (has_gap f x e a) (says_no h y z) = absurd (z f x a)
+one_verdict theory s t o p (has_gap n l f x e a b d) (says_yes h y) =
+    absurd (accepted-none theory _ y a)
+one_verdict theory s t o p (has_gap n l f x e a b d) (has_gap m k g y h c u v) =
+    let same = one-first-bad theory _ _ a c in
+    let procedures : n ≡ m = ap (λ (z : BadPlace). z.procedure) same in
+    let places : l ≡ k = ap (λ (z : BadPlace). z.step) same in
+    let one : f ≡ g = some_same f g
+    (sym b ∙ ap (λ (z : ℕ). numbered z theory.procedures) procedures ∙ u) in
+    let step : x ≡ y = some_same x y
+    (sym d ∙ ap (λ (z : ℕ). numbered z f.proof) places
+    ∙ ap (λ (z : ProcedureOf Named). numbered k z.proof) one ∙ v) in
+    (refl, gap_lines f g x y one step)
+one_verdict theory s t o p (has_gap n l f x e a b d) (says_no h y z) = absurd (z n l a)
 one_verdict theory s t o p (says_no e x n) (is_unbuilt g m h) = absurd (some_none _ (sym h ∙ e))
 one_verdict theory s t o p (says_no e x n) (says_yes h y) = absurd (x y)
-one_verdict theory s t o p (says_no e x n) (has_gap g y h a) = absurd (n g y a)
+one_verdict theory s t o p (says_no e x n) (has_gap q m g y h a b d) = absurd (n q m a)
 one_verdict theory s t o p (says_no e x n) (says_no h y z) = (refl, refl)
 
 pub one_check : (bytes : List ℕ) (s t : Status) (o p : List ℕ)

@@ -151,7 +151,7 @@ speaks_verdict : (theory : Theory) (s : Status) (o : List ℕ) → Verdict theor
     → speaks s ≡ true
 speaks_verdict theory s o (is_unbuilt f n e) = refl
 speaks_verdict theory s o (says_yes e x) = refl
-speaks_verdict theory s o (has_gap f x e a) = refl
+speaks_verdict theory s o (has_gap n m f x e a h d) = refl
 speaks_verdict theory s o (says_no e x n) = refl
 
 speaks_check : (bytes : List ℕ) (s : Status) (o : List ℕ) → CheckAnswer bytes s o
@@ -194,7 +194,7 @@ module _ (file : List ℕ) where
       → PossibleCheck s
   possible_verdict theory s o (is_unbuilt f n e) = (3, lit< tt, refl)
   possible_verdict theory s o (says_yes e x) = (0, lit< tt, refl)
-  possible_verdict theory s o (has_gap f x e a) = (5, lit< tt, refl)
+  possible_verdict theory s o (has_gap n m f x e a h d) = (5, lit< tt, refl)
   possible_verdict theory s o (says_no e x n) = (1, lit< tt, refl)
 
   possible_check : (bytes : List ℕ) (s : Status) (o : List ℕ) → CheckAnswer bytes s o

@@ -1,20 +1,19 @@
 -- The answer to the words: the status and the output, one case for each row.
-use Rattle.std.specs.Prelude.{◌≡◌, ℕ, nat_le, List, Option, Some, None, option_map}
+use Rattle.std.specs.Prelude.{◌≡◌, ℕ, zero, suc, nat_le, List, Option, Some, None, option_map, slice_get}
 use Rattle.model_shapes.specs.Trees.{Trees}
 use Rattle.model_shapes.specs.Values.{Value}
 use Rattle.model_formulas.specs.Formulas.{Named}
 use Rattle.model_terms.specs.Stores.{ProgVar}
 use Rattle.model_terms.specs.TermLimits.{or_else, unless}
-use Rattle.model_commands.specs.Theories.{ProcedureOf, Procedure, Step, Theory, procedures_of}
+use Rattle.model_commands.specs.Theories.{ProcedureOf, StepOf, Theory, procedures_of}
 use Rattle.model_files.specs.FileFaults.{FileFault, first_file_fault}
 use Rattle.model_machine.specs.Machine.{start}
 use Rattle.model_machine.specs.Outcomes.{Outcome, ends, spends, passes_limit, has_fault, no_pick, outcome}
 use Rattle.model_limits.specs.Limits as limits
 use Rattle.model_limits.specs.Limits.{standard_limits}
 use Rattle.model_groves.specs.Sizes.{size}
-use Rattle.model_rules.specs.Accepted.{IsAccepted}
-use Rattle.model_rules.specs.Gaps.{IsFirstGap}
-use Rattle.model_rules.specs.Checked.{first_unbuilt}
+use Rattle.rule_table.specs.Checked.{first_unbuilt}
+use Rattle.rule_table.specs.Accepted.{IsAccepted, gap, IsFirstBad}
 use Rattle.model_text.specs.Lexemes.{Lexeme}
 use Rattle.model_text.specs.Nesting.{lexemes_of}
 use Rattle.model_text.specs.FaultTokens.{IsFaultToken}
@@ -81,17 +80,28 @@ pub data NoFile (bytes : List ℕ) : Status → List ℕ → Type 0 where
       → NoFile bytes s output
 
 -- CHECK
+-- the one with the number, counted from 1
+abbrev pub numbered : {A : Type 0} → ℕ → List A → Option A
+numbered zero items = None
+numbered (suc n) items = slice_get items n
+
+-- the first bad place is a gap, at this step of this procedure, each counted from 1
+abbrev pub IsGap : Theory → ℕ → ℕ → Type 0
+IsGap theory procedure step =
+    IsFirstBad theory (record { procedure = procedure; step = step; fault = gap })
+
 -- the answer of `check` on the theory of a file
 pub data Verdict (theory : Theory) : Status → List ℕ → Type 0 where
   is_unbuilt : (procedure step : ℕ) → first_unbuilt theory ≡ Some (procedure, step)
       → Verdict theory status.BadFile (unbuilt_line procedure step)
   says_yes : first_unbuilt theory ≡ None → IsAccepted theory
       → Verdict theory status.Done (accepted_line theory)
-  has_gap : (f : Procedure) (step : Step) → first_unbuilt theory ≡ None
-      → IsFirstGap (procedures_of theory) f step
+  has_gap : (procedure place : ℕ) (f : ProcedureOf Named) (step : StepOf Named)
+      → first_unbuilt theory ≡ None → IsGap theory procedure place
+      → numbered procedure theory.procedures ≡ Some f → numbered place f.proof ≡ Some step
       → Verdict theory status.GapLeft (gap_line step.number f.name step.line)
   says_no : first_unbuilt theory ≡ None → (IsAccepted theory → ⊥)
-      → ((f : Procedure) (step : Step) → IsFirstGap (procedures_of theory) f step → ⊥)
+      → ((procedure place : ℕ) → IsGap theory procedure place → ⊥)
       → Verdict theory status.StepFails not_accepted_line
 
 -- and on bytes

@@ -5,7 +5,7 @@ use Rattle.outside_io.specs.Causes.{Told}
 use Rattle.outside_io.specs.Pieces.{Took, TookPrefix}
 use Rattle.model_commands.specs.Theories.{Theory, procedures_of}
 use Rattle.model_machine.specs.LocalTriples.{MeetsItsSpecification}
-use Rattle.model_rules.specs.Accepted.{Each}
+use Rattle.rule_table.specs.Accepted.{Each}
 use Rattle.model_answers.specs.Words.{Request, check, run, reading_of}
 use Rattle.model_answers.specs.Texts.{IsFile}
 use Rattle.domcheck_core.specs.Answers.{Books, IsAnswer, IsTold, IsCalled, NotCalled}

@@ -4,3 +4,4 @@ pub mod Calls
 pub mod Clauses
 pub mod Numbers
 pub mod Refusals
+pub mod Stands

@@ -1,5 +1,8 @@
+pub mod BadPlaces
+pub mod BlockChains
 pub mod Decisions
+pub mod EntailmentRows
 pub mod InstanceLaws
-pub mod Acceptance
-pub mod GapLaws
-pub mod Steps
+pub mod Instances
+pub mod Walks
+pub mod WellFormed

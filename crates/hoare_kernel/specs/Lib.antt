@@ -1,4 +1,3 @@
-pub mod Answers
-pub mod Citable
 pub mod Refusals
 pub mod Tests
+pub mod Walks

@@ -4,12 +4,12 @@ ghost use Rattle.dom_terms.specs.Sorts.{data_sort_of};
 ghost use Rattle.formula_syntax.specs.Formulas.{formula_of};
 ghost use Rattle.theory_syntax.specs.Commands.{block_of, command_of};
 ghost use Rattle.theory_syntax.specs.Judgements.{judgement_of, step_of, triple_of};
-ghost use Rattle.hoare_kernel.specs.Citable.{AreCitable};
+ghost use Rattle.cited_steps.specs.Earlier.{AreCitable};
 ghost use Rattle.model_files.specs.Sizes.{IsSmall, JudgementIsSmall};
 ghost use Rattle.hoare_kernel.specs.Tests as test;
 
-use crate::citations::cited;
 use crate::same::{are_equal, same};
+use cited_steps::cited;
 use dom_terms::{DataSort, OutOfMemory, same_data_sort};
 use formula_syntax::Formula;
 use std::alloc::Global;
@@ -50,12 +50,11 @@ fn after<'a>(
 pub fn is_chain(
     alloc: Global,
     earlier: &[Step],
-    numbered: bool,
     citations: &[u32],
     triple: &Triple,
     block: &[Command],
 ) -> Result<bool, OutOfMemory>
-    requires earlier { AreCitable numbered earlier.now }
+    requires earlier { AreCitable earlier.now }
     requires triple { JudgementIsSmall (triple_of triple.now) }
     ensures { IfOk result (λ b. b ≡ test.ends
         (test.reached (map step_of earlier.now) citations.now (formula_of triple.now.pre)
@@ -67,7 +66,7 @@ pub fn is_chain(
         let [command, others @ ..] = commands else {
             return Ok(false);
         };
-        let Some(judgement) = cited(*number, earlier, numbered) else {
+        let Some(judgement) = cited(*number, earlier) else {
             return Ok(false);
         };
         let Some(reached) = after(alloc, judgement, at, command, triple.sort)? else {

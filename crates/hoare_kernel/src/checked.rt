@@ -1,11 +1,13 @@
 // The first step that names a rule which isn't checked yet.
-ghost use Rattle.std.specs.Prelude.{◌≡◌, ◌<◌, length, map};
+ghost use Rattle.std.specs.Prelude.{◌≡◌, ◌<◌, length, map, bytes_eq, codes, ◌∷◌, []};
+ghost use Rattle.std.specs.List.{list_any};
 ghost use Rattle.std.specs.Option.{option_map};
-ghost use Rattle.model_rules.specs.Checked as model;
+ghost use Rattle.rule_table.specs.Checked as model;
 ghost use Rattle.model_files.specs.Sizes.{TheoryIsSmall};
 ghost use Rattle.theory_syntax.specs.Judgements.{reason_of, step_of};
 ghost use Rattle.theory_syntax.specs.Theories.{theory_of};
 
+use rule_rows::rule_of;
 use theory_syntax::{Reason, Step, Theory};
 
 /// Where a step stands that names a rule which isn't checked yet.
@@ -17,6 +19,14 @@ pub struct Unbuilt {
     pub step: u32,
 }
 
+// Whether the rule of triples is one that is checked.
+fn is_for_triples(name: &str) -> bool
+    ensures { result ≡ list_any (bytes_eq name.now)
+        (codes "skip" ∷ codes "assign" ∷ codes "seq" ∷ []) }
+{
+    name == "skip" || name == "assign" || name == "seq"
+}
+
 // Whether no rule is named, or one that is checked.
 fn is_checked(reason: &Reason) -> bool
     ensures { result ≡ model.is_checked (reason_of reason.now) }
@@ -25,7 +35,7 @@ fn is_checked(reason: &Reason) -> bool
         Reason::Auto => true,
         Reason::Rule { name, .. } => {
             let name = name.as_str();
-            name == "skip" || name == "assign" || name == "seq"
+            rule_of(name).is_some() || is_for_triples(name)
         }
     }
 }

@@ -22,7 +22,7 @@ use Rattle.model_machine.proofs.Fine.{entering-proper, returning-proper}
 use Rattle.model_machine.proofs.Runs.{Well, at_end, followed, WellOn}
 use Rattle.model_commands.proofs.StoreLaws.{proper-store, other-store}
 use Rattle.model_machine.proofs.Unmodified.{returning-other}
-use Rattle.model_rules.proofs.Ends.{At, Sound, At-map, to_sound}
+use Rattle.triple_laws.proofs.Ends.{At, Sound, At-map, to_sound}
 use Rattle.triple_laws.specs.BySteps.{Below}
 use Rattle.rule_table.specs.Rules.{passing, itself}
 use Rattle.rule_table.specs.Notation.{prog_term}

@@ -25,7 +25,7 @@ use Rattle.model_commands.specs.Theories.{Procedures}
 use Rattle.model_machine.proofs.Runs.{Well, Well-less, at_end, at_step, at_zero, followed, WellOn}
 use Rattle.model_terms.proofs.StoreLaws.{set-proper, value-fits, default-fits, set-same}
 use Rattle.model_commands.proofs.StoreLaws.{meaning-value, proper-store, other-store, set-meaning, true-meets, false-fails}
-use Rattle.model_rules.proofs.Ends.{At, At-map, Sound, to_sound}
+use Rattle.triple_laws.proofs.Ends.{At, At-map, Sound, to_sound}
 use Rattle.triple_laws.proofs.Endings.{set-env}
 use Rattle.entailment_laws.specs.Judgements.{AllProved}
 use Rattle.triple_laws.specs.BySteps.{in_steps}

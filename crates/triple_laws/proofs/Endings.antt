@@ -20,7 +20,7 @@ use Rattle.model_groves.specs.Groves.{is_yes}
 use Rattle.model_machine.specs.Machine.{RunOutcome, running, ended, fault, picked_badly}
 use Rattle.model_machine.specs.SameMoves.{SameOutcome}
 use Rattle.model_machine.specs.ClassicalTriples.{Ends}
-use Rattle.model_rules.proofs.Ends.{At}
+use Rattle.triple_laws.proofs.Ends.{At}
 
 pub stable-At : (d : DataSort) (c : Trees) (p : Formula) (e : Environment) (st : Store) (g : Trees)
     → Stable (At d c p e st g)

@@ -16,7 +16,7 @@ use Rattle.model_machine.specs.Machine.{run}
 use Rattle.model_terms.specs.Stores.{Store, lookup, ProgVar, as_var}
 use Rattle.model_commands.specs.Theories.{Procedures}
 use Rattle.model_machine.proofs.Runs.{Well, Well-map}
-use Rattle.model_rules.proofs.Ends.{At, Sound, At-map}
+use Rattle.triple_laws.proofs.Ends.{At, Sound, At-map}
 use Rattle.triple_laws.proofs.Keeping.{Well-stable, at-data, Kept, with-kept, kept-agrees}
 
 module _ (ps : Procedures) (bodies : BodiesSorted ps) (n : ℕ) where

@@ -15,7 +15,7 @@ use Rattle.model_terms.specs.Stores.{Store, lookup, ProgVar, named, as_var, valu
 use Rattle.model_commands.specs.Theories.{Procedures}
 use Rattle.model_machine.proofs.Runs.{Well}
 use Rattle.model_machine.proofs.Unmodified.{unmodified}
-use Rattle.model_rules.proofs.Ends.{At}
+use Rattle.triple_laws.proofs.Ends.{At}
 use Rattle.triple_laws.proofs.Endings.{stable-At, stable-Ends}
 
 -- that runs end well is stable

@@ -20,7 +20,7 @@ use Rattle.model_machine.specs.Machine.{run}
 use Rattle.model_terms.specs.Stores.{Store, lookup, ProgVar, as_var}
 use Rattle.model_commands.specs.Theories.{Procedures}
 use Rattle.model_machine.proofs.Runs.{Well, Well-map}
-use Rattle.model_rules.proofs.Ends.{At, Sound}
+use Rattle.triple_laws.proofs.Ends.{At, Sound}
 use Rattle.entailment_laws.proofs.Quantified.{prog≢logic, setting-proper}
 use Rattle.triple_laws.proofs.Keeping.{Well-stable, Kept, with-kept, kept-agrees}
 use Rattle.triple_laws.proofs.Passing.{meaning-agrees}

@@ -18,7 +18,7 @@ use Rattle.model_commands.specs.Scopes.{IsScoped}
 use Rattle.model_commands.specs.Sorting.{CallFits, Sorted}
 use Rattle.model_commands.proofs.Sorting.{sorted-command}
 use Rattle.model_commands.specs.Theories.{Procedures, Procedure, procedure_named, triple}
-use Rattle.model_rules.proofs.Ends.{Sound, to_sound, from_sound}
+use Rattle.triple_laws.proofs.Ends.{Sound, to_sound, from_sound}
 use Rattle.entailment_laws.specs.Judgements.{Proved}
 use Rattle.triple_laws.specs.BySteps.{UpTo, step_fits, in_steps, HoldBelow}
 use Rattle.triple_laws.proofs.Fitting.{step-sorted, call-apart}

@@ -1,7 +1,7 @@
 use Rattle.std.proofs.Common.{◌≡◌, ◌+◌, ◌<◌, drop, map, length}
 use Rattle.theory_syntax.specs.Theories.{procedure_of}
 use Rattle.model_files.specs.FileLimits.{step_count}
-use Rattle.model_rules.specs.Checked.{unbuilt_from}
+use Rattle.rule_table.specs.Checked.{unbuilt_from}
 use Rattle.hoare_kernel.proofs.checked.first_unbuilt.Given as goal
 
 abbrev pub invariant-loop-each : goal.invariant-loop-each

@@ -1,6 +1,6 @@
 use Rattle.std.proofs.Common.{◌≡◌, ◌+◌, drop, map}
 use Rattle.theory_syntax.specs.Judgements.{step_of}
-use Rattle.model_rules.specs.Checked.{unbuilt_step}
+use Rattle.rule_table.specs.Checked.{unbuilt_step}
 use Rattle.hoare_kernel.proofs.checked.unbuilt_step.Given as goal
 
 abbrev pub invariant-loop-step : goal.invariant-loop-step

@@ -1,16 +1,20 @@
-use Rattle.std.proofs.Common.{◌≡◌, ◌+◌, ◌<◌, drop, map}
-use Rattle.theory_syntax.specs.Theories.{procedure_of}
+use Rattle.std.proofs.Common.{◌≡◌, ◌<◌, drop, take, map}
+use Rattle.model_commands.specs.Theories.{nameless_procedure, procedures_of}
 use Rattle.model_files.specs.FileLimits.{step_count}
 use Rattle.model_files.specs.Sizes.{ProceduresAreSmall}
-use Rattle.hoare_kernel.specs.Tests.{procedures_answer}
+use Rattle.rule_table.specs.Accepted.{Each, IsProved}
+use Rattle.theory_syntax.specs.Theories.{procedure_of, theory_of}
+use Rattle.hoare_kernel.specs.Walks.{AreNumbered, EachChecked, EachSorted}
 use Rattle.hoare_kernel.proofs.theories.check_procedures.Given as goal
 
 abbrev pub invariant-loop-procedure : goal.invariant-loop-procedure
 invariant-loop-procedure l = record {
-  same : procedures_answer 1 (map procedure_of l.procedures)
-      ≡ procedures_answer (l.number + 1)
-      (map procedure_of (drop l.procedure-index l.procedures));
-  small : ProceduresAreSmall (map procedure_of (drop l.procedure-index l.procedures));
+  proved : Each (IsProved (procedures_of (theory_of l.theory)))
+      (map nameless_procedure (map procedure_of (take l.procedure-index l.theory.procedures)));
+  small : ProceduresAreSmall (map procedure_of (drop l.procedure-index l.theory.procedures));
+  numbered : AreNumbered (drop l.procedure-index l.theory.procedures);
+  sorted : EachSorted (drop l.procedure-index l.theory.procedures);
+  checked : EachChecked (drop l.procedure-index l.theory.procedures);
   at : l.number ≡ l.procedure-index;
-  few : step_count (map procedure_of (drop l.procedure-index l.procedures)) < 4294967295;
+  few : step_count (map procedure_of (drop l.procedure-index l.theory.procedures)) < 4294967295;
 }

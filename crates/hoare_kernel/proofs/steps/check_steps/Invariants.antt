@@ -1,0 +1,9 @@
+use Rattle.std.proofs.Common.{[], take}
+use Rattle.model_commands.specs.Theories.{Procedures}
+use Rattle.rule_table.specs.Accepted.{AllInstances}
+use Rattle.cited_steps.specs.Earlier.{steps_in}
+use Rattle.hoare_kernel.proofs.steps.check_steps.Given as goal
+
+abbrev pub invariant-loop-place : goal.invariant-loop-place
+invariant-loop-place l =
+    (ps : Procedures) → AllInstances ps [] (steps_in (take l.place l.steps))

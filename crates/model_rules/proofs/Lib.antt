@@ -1,4 +1,0 @@
-pub mod Ends
-pub mod Rules
-pub mod Sound
-pub mod Gaps

@@ -1,4 +1,0 @@
-pub mod Rows
-pub mod Accepted
-pub mod Gaps
-pub mod Checked
