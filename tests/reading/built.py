@@ -1,13 +1,13 @@
 """How much of `check` the program has: each stage checks the rules of those before it as well.
 
-At `plain` it knows three rules; at `entailment` those of entailments too. Until it knows all, a
+At `plain` it knew three rules; at `entailment` it knows those of entailments too. Until it knows all, a
 step by another rule is `unbuilt`, and a refused proof is `not accepted`, without place and verdict.
 """
 from reading.patterns import OF_ENTAILMENTS
 
 STAGES = ("plain", "entailment", "triples")
 # The stage that the program has reached.
-STAGE = "plain"
+STAGE = "entailment"
 NOT_ACCEPTED = b"not accepted\n"
 
 
