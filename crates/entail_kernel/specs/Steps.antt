@@ -1,31 +1,23 @@
 -- Steps that judge entailments by rules of entailment, and the verdicts on them.
-use Rattle.std.specs.Prelude.{◌≡◌, List, true, bytes_eq, None}
+use Rattle.std.specs.Prelude.{◌≡◌, List, true, bytes_eq}
 use Rattle.std.specs.List.{list_any}
 use Rattle.model_commands.specs.Theories.{Judgement, Reason, auto, by_rule, Step}
-use Rattle.model_formulas.specs.WellSorted.{first_fault}
 use Rattle.model_files.specs.RuleNames.{entailment_rule_names}
 use Rattle.rule_table.specs.Accepted.{written_at}
 use Rattle.rule_table.specs.Table.{entailments}
 use Rattle.rule_table.specs.Verdicts.{Verdict, IsVerdict, readings_in}
-use Rattle.dom_terms.specs.Sorts.{sort_of}
-use Rattle.formula_syntax.specs.Formulas.{formula_of}
-use Rattle.formula_syntax.specs.declared.entailments.Entailment.{Entailment}
 use Rattle.theory_syntax.specs.declared.judgements.Judgement as rust_judgement
 use Rattle.theory_syntax.specs.declared.judgements.Judgement.TheVariants as j
 use Rattle.theory_syntax.specs.declared.steps.Reason as rust_reason
 use Rattle.theory_syntax.specs.declared.steps.Reason.TheVariants as r
 use Rattle.theory_syntax.specs.declared.steps.Step as rust_step
-use Rattle.entail_rules.specs.Premises.{IsSmallEntailment}
+use Rattle.entail_rules.specs.Premises.{IsSmallEntailment, IsWellSorted}
 
 -- the reason names a rule of entailment
 abbrev pub NamesEntailment : rust_reason.Reason → Type 0
 NamesEntailment r.Auto = ⊥
 NamesEntailment (r.Rule name premises arguments) =
     list_any (bytes_eq name) entailment_rule_names ≡ true
-
--- the right side of an entailment is well sorted
-abbrev pub IsWellSorted : Entailment → Type 0
-IsWellSorted e = first_fault (formula_of e.right) (sort_of e.sort) ≡ None
 
 -- the judgement is an entailment, small, and its right side well sorted
 abbrev pub IsEntailment : rust_judgement.Judgement → Type 0

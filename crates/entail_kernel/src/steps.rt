@@ -1,19 +1,16 @@
 // Steps by rules of entailment.
-ghost use Rattle.std.specs.Prelude.{◌≡◌, IfOk, None, map};
-ghost use Rattle.model_formulas.specs.WellSorted.{first_fault};
+ghost use Rattle.std.specs.Prelude.{◌≡◌, IfOk, map};
 ghost use Rattle.model_commands.specs.Theories.{nameless_judgement};
 ghost use Rattle.rule_table.specs.Accepted as accepted;
 ghost use Rattle.rule_table.specs.Table.{entailments};
 ghost use Rattle.rule_table.specs.Verdicts.{IsVerdict, readings_in};
-ghost use Rattle.dom_terms.specs.Sorts.{sort_of};
 ghost use Rattle.dom_terms.specs.Terms.{term_of};
-ghost use Rattle.formula_syntax.specs.Formulas.{formula_of};
 ghost use Rattle.theory_syntax.specs.Judgements.{judgement_of, reason_of};
 ghost use Rattle.row_patterns.specs.Verdicts.{verdict_in};
 ghost use Rattle.row_matching.specs.Choices.{judged};
 ghost use Rattle.rule_rows.specs.Names.{name_of};
 ghost use Rattle.cited_steps.specs.Earlier.{AreCitable, steps_in};
-ghost use Rattle.entail_rules.specs.Premises.{Cites, IsSmallEntailment};
+ghost use Rattle.entail_rules.specs.Premises.{Cites, IsSmallEntailment, IsWellSorted};
 ghost use Rattle.entail_kernel.specs.Citing.{CitesOne};
 ghost use Rattle.entail_kernel.specs.Steps.{EntailmentVerdict, IsEntailmentStep};
 
@@ -64,7 +61,7 @@ pub fn entailment_by(
 ) -> Result<Verdict, OutOfMemory>
     requires earlier { AreCitable earlier.now }
     requires small { IsSmallEntailment conclusion.now }
-    requires sorted { first_fault (formula_of conclusion.now.right) (sort_of conclusion.now.sort) ≡ None }
+    requires sorted { IsWellSorted conclusion.now }
     ensures { IfOk result (λ v. IsVerdict (readings_in entailments (name_of rule))
         (accepted.written_at (steps_in earlier.now) numbers.now (map term_of arguments.now)
         (judged conclusion.now)) (verdict_in v)) }

@@ -85,7 +85,8 @@ module _ (x : LogicVar) where
   free-term (variable (prog n s)) m = absurd m
   free-term (variable (logic n s)) m = ⊎_elim (λ e. ap as_logic e) (λ h. absurd h) m
   free-term (variable (bound i s)) m = absurd m
-  free-term (sum a b) m = ⊎_elim (λ h. inl (free-term a h)) (λ h. inr (free-term b h)) (in-both x _ _ m)
+  free-term (sum a b) m =
+      ⊎_elim (λ h. inl (free-term a h)) (λ h. inr (free-term b h)) (in-both x _ _ m)
   free-term (difference a b) m =
       ⊎_elim (λ h. inl (free-term a h)) (λ h. inr (free-term b h)) (in-both x _ _ m)
   free-term (appended a b) m =

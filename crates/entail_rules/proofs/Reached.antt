@@ -70,7 +70,8 @@ longer-is-new : (n : ℕ) (s : sorts.Sort) (xs : List Var) → AreBelow n xs
     → Among (logic (name_of_length n) s) xs → ⊥
 longer-is-new n s [] b m = m
 longer-is-new n s (y ∷ ys) b m = ⊎_elim
-    (λ e. let l : length (name_of_length n) ≡ length (var_name y) = ap (λ z. length (var_name z)) e in
+    (λ e. let l : length (name_of_length n) ≡ length (var_name y) =
+    ap (λ z. length (var_name z)) e in
     let k : length (name_of_length n) ≡ n = name-length n in absurd (omega (arith, l, k, b.0)))
     (λ h. longer-is-new n s ys b.1 h) m
 

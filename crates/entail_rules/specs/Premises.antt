@@ -2,6 +2,8 @@
 use Rattle.std.specs.Prelude.{◌≡◌, ◌<◌, Bool, true, false, List, [], ◌∷◌, Option, Some, None, map}
 use Rattle.model_commands.specs.Theories.{Judgement, entails}
 use Rattle.model_formulas.specs.Parts.{parts}
+use Rattle.model_formulas.specs.WellSorted.{first_fault}
+use Rattle.dom_terms.specs.Sorts.{sort_of}
 use Rattle.dom_terms.specs.Terms.{term_of}
 use Rattle.dom_terms.specs.declared.terms.Term.{Term}
 use Rattle.formula_syntax.specs.Formulas.{formula_of}
@@ -34,6 +36,10 @@ written_with arguments premises conclusion = record {
 abbrev pub IsSmallEntailment : Entailment → Type 0
 IsSmallEntailment e =
     (parts (formula_of e.left) < 4294967295) × (parts (formula_of e.right) < 4294967295)
+
+-- the right side of an entailment is well sorted
+abbrev pub IsWellSorted : Entailment → Type 0
+IsWellSorted e = first_fault (formula_of e.right) (sort_of e.sort) ≡ None
 
 -- what becomes of a verdict where the premises are none that the rule has
 abbrev pub unfollowed : Verdict → Verdict

@@ -20,6 +20,7 @@ use Rattle.row_matching.specs.declared.source.Source.{Source}
 use Rattle.row_matching.specs.Choices.{written_of}
 use Rattle.entail_rules.specs.declared.variables.Tried.{Tried}
 use Rattle.entail_rules.specs.declared.variables.Tried.TheVariants as t
+use Rattle.entail_rules.specs.declared.variables.Variables.{Variables}
 
 -- the name of a variable; a bound one has none
 abbrev pub var_name : Var → List ℕ
@@ -46,12 +47,15 @@ Among x (y ∷ ys) = (x ≡ y) ⊎ Among x ys
 abbrev pub AreCovered : Written → List Var → Type 0
 AreCovered w xs = (x : LogicVar) → In x (written_in w) → Among (as_logic x) xs
 
+-- the variables that are written
+abbrev pub vars_in : Variables → List Var
+vars_in variables = map any_var_of variables.written.items
+
 -- what is tried is enough for the line
 abbrev pub Enough : LinePattern → Written → Tried → Type 0
 Enough p w t.Any = is_plain_line p ≡ true
 Enough p w (t.These variables) =
-    AreCovered w (map any_var_of variables.now.written.items)
-    × AreBelow variables.now.new_length (map any_var_of variables.now.written.items)
+    AreCovered w (vars_in variables.now) × AreBelow variables.now.new_length (vars_in variables.now)
 
 -- for each of the lines
 abbrev pub EnoughEach : List LinePattern → Written → Tried → Type 0
@@ -106,5 +110,6 @@ abbrev pub FollowsAs : Written → List Row → Option Condition → Type 0
 FollowsAs w rows None = SomeLine (rows_of (patterns_in rows)) (Follows w) → ⊥
 FollowsAs w [] (Some condition) = ⊥
 FollowsAs w (row ∷ rows) (Some condition) =
-    ((condition ≡ row.condition) × ((letters : Letters) × Follows w (line_of letters (line_in row))))
+    ((condition ≡ row.condition)
+    × ((letters : Letters) × Follows w (line_of letters (line_in row))))
     ⊎ FollowsAs w rows (Some condition)

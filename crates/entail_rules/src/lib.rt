@@ -1,5 +1,5 @@
-//! The verdict on a step by a rule of entailment: one matcher for the rows of all rules but the four
-//! that compute. Promises the verdict that the table of rules gives.
+//! The verdict on a step by a rule of entailment: one matcher for the rows of all rules but the
+//! four that compute. Promises the verdict that the table of rules gives.
 //! Stands on the rows as constants, on how far each goes along with a step, and on the four rules.
 #![tactic(auto)]
 

@@ -1,9 +1,6 @@
 // The verdict on a step by any rule of entailment.
 ghost use Rattle.std.specs.Prelude.{◌≡◌, IfOk, List, [], Option, Some, None, map, true};
 ghost use Rattle.model_commands.specs.Theories.{Judgement};
-ghost use Rattle.dom_terms.specs.Sorts.{sort_of};
-ghost use Rattle.formula_syntax.specs.Formulas.{formula_of};
-ghost use Rattle.model_formulas.specs.WellSorted.{first_fault};
 ghost use Rattle.rule_table.specs.Table.{entailments};
 ghost use Rattle.rule_table.specs.Verdicts.{IsVerdict, readings_in};
 ghost use Rattle.rule_patterns.specs.Patterns as patterns;
@@ -13,7 +10,7 @@ ghost use Rattle.row_patterns.specs.Verdicts.{verdict_in};
 ghost use Rattle.row_patterns.specs.Views.{patterns_in};
 ghost use Rattle.rule_rows.specs.Names.{name_of, computed_name};
 ghost use Rattle.row_matching.specs.Choices.{judged};
-ghost use Rattle.entail_rules.specs.Premises.{Cites, IsSmallEntailment, unfollowed, written_with};
+ghost use Rattle.entail_rules.specs.Premises.{Cites, IsSmallEntailment, IsWellSorted, unfollowed, written_with};
 ghost use Rattle.entail_rules.specs.Steps.{nothing_cited};
 
 use crate::steps::Step;
@@ -81,7 +78,7 @@ fn computed(
     conclusion: &Entailment,
 ) -> Result<Verdict, OutOfMemory>
     requires small { IsSmallEntailment conclusion.now }
-    requires sorted { first_fault (formula_of conclusion.now.right) (sort_of conclusion.now.sort) ≡ None }
+    requires sorted { IsWellSorted conclusion.now }
     ensures { IfOk result (λ v. IsVerdict (readings_in entailments (computed_name rule))
         (written_with arguments.now (Some []) conclusion.now) (verdict_in v)) }
 {
@@ -109,7 +106,7 @@ fn by_computing(
     conclusion: &Entailment,
 ) -> Result<Verdict, OutOfMemory>
     requires small { IsSmallEntailment conclusion.now }
-    requires sorted { first_fault (formula_of conclusion.now.right) (sort_of conclusion.now.sort) ≡ None }
+    requires sorted { IsWellSorted conclusion.now }
     ensures { IfOk result (λ v. (premises : Option (List Judgement)) → Cites cited.entry premises
         → IsVerdict (readings_in entailments (computed_name rule))
         (written_with arguments.now premises conclusion.now) (verdict_in v)) }
@@ -133,7 +130,7 @@ pub fn verdict_on(
     conclusion: &Entailment,
 ) -> Result<Verdict, OutOfMemory>
     requires small { IsSmallEntailment conclusion.now }
-    requires sorted { first_fault (formula_of conclusion.now.right) (sort_of conclusion.now.sort) ≡ None }
+    requires sorted { IsWellSorted conclusion.now }
     ensures { IfOk result (λ v. (premises : Option (List Judgement)) → Cites cited.entry premises
         → IsVerdict (readings_in entailments (name_of rule))
         (written_with arguments.now premises conclusion.now) (verdict_in v)) }
@@ -167,7 +164,7 @@ pub fn matches(
     conclusion: &Entailment,
 ) -> Result<Verdict, OutOfMemory>
     requires small { IsSmallEntailment conclusion.now }
-    requires sorted { first_fault (formula_of conclusion.now.right) (sort_of conclusion.now.sort) ≡ None }
+    requires sorted { IsWellSorted conclusion.now }
     ensures { IfOk result (λ v. IsVerdict (readings_in entailments (name_of rule))
         (written_with arguments.now (Some (map judged premises.now)) conclusion.now)
         (verdict_in v)) }

@@ -1,5 +1,5 @@
 // Whether some line of a row goes so far along with a step: the variables for $x are tried.
-ghost use Rattle.std.specs.Prelude.{◌≡◌, ◌↔◌, IsTrue, map, true};
+ghost use Rattle.std.specs.Prelude.{◌≡◌, ◌↔◌, IsTrue, true};
 ghost use Rattle.formula_syntax.specs.Formulas.{any_var_of};
 ghost use Rattle.rule_table.specs.Letters.{Letters};
 ghost use Rattle.rule_table.specs.Verdicts.{SomeLine};
@@ -11,7 +11,7 @@ ghost use Rattle.row_patterns.specs.Views.{line_in, patterns_in};
 ghost use Rattle.row_matching.specs.Choices.{written_of};
 ghost use Rattle.row_judging.specs.Lines.{stage_in};
 ghost use Rattle.entail_rules.specs.Steps.{step_written};
-ghost use Rattle.entail_rules.specs.Tried.{AreBelow, AreCovered, Enough, EnoughEach, HasEach, ReachesAs, SomeLetters, SomeNew, SomeWritten, FollowsAs};
+ghost use Rattle.entail_rules.specs.Tried.{AreBelow, AreCovered, Enough, EnoughEach, HasEach, ReachesAs, SomeLetters, SomeNew, SomeWritten, FollowsAs, vars_in};
 
 use crate::steps::Step;
 use crate::variables::{SORTS, Tried, Variables};
@@ -76,8 +76,8 @@ fn some_written<'r, 'a>(stage: Stage, variables: &'a [AnyVar], source: &Source<'
 fn some_tried<'r, 'a>(stage: Stage, variables: &'a Variables, source: &Source<'r, 'a>) -> bool
     requires single { IsTrue (single_row source.now.row.now) }
     requires fits { fits (line_in source.now.row.now) ≡ true }
-    requires covered { AreCovered (written_of source.now) (map any_var_of variables.now.written.items) }
-    requires below { AreBelow variables.now.new_length (map any_var_of variables.now.written.items) }
+    requires covered { AreCovered (written_of source.now) (vars_in variables.now) }
+    requires below { AreBelow variables.now.new_length (vars_in variables.now) }
     ensures { IsTrue result ↔ SomeLetters (stage_in stage) source.now }
 {
     if some_new(stage, variables.new_length, sorts(), &*source) {

@@ -66,8 +66,8 @@ module _ (ps : model.Procedures) where
   step-there f earlier [] at bad fault h n = absurd (n h.1)
   step-there f earlier (x ∷ steps) at bad fault h n = ⊎_elim
       (λ a. record { place = 0; step = x; counted = omega (arith, a.0); there = refl })
-      (λ later. further (step-there f (earlier ++ model.nameless_step (step_of x) ∷ []) steps (at + 1)
-      bad fault later.1 n)) h
+      (λ later. further (step-there f (earlier ++ model.nameless_step (step_of x) ∷ []) steps
+      (at + 1) bad fault later.1 n)) h
     where
       further : StepThere steps (at + 1) bad → StepThere (x ∷ steps) at bad
       further a = record {

@@ -1,4 +1,4 @@
--- The cited triples of a block's commands, as the program walks along them and as the table has them.
+-- The cited triples of a block's commands: the walk of the program along them, and the table's.
 use Rattle.std.proofs.Common.{◌≡◌, ℕ, Bool, true, false, ◌&&◌, cond, List, [], ◌∷◌, map, Option, Some, None, refl, sym, ap, ap₂, ◌∙◌, subst}
 use Rattle.std.specs.Option.{option_map}
 use Rattle.std.proofs.lemmas.Bool.{and_parts, and_from}
@@ -45,7 +45,8 @@ front_parts (Some k) (Some ks) j js e =
     let rest : ks ≡ js = cc in
     (ap Some first, ap Some rest)
 
-pub front_is_some : (o : Option Judgement) (r : Option (List Judgement)) → in_front o r ≡ Some [] → ⊥
+pub front_is_some : (o : Option Judgement) (r : Option (List Judgement))
+    → in_front o r ≡ Some [] → ⊥
 front_is_some None r e = cc
 front_is_some (Some k) None e = cc
 front_is_some (Some k) (Some ks) e = cc

@@ -1,6 +1,7 @@
 //! Which theories are accepted: each step an instance of the rule that it names, each proof ending
 //! in its procedure's own triple; whether another's first bad place is a gap; and the first step
-//! that names a rule which isn't checked yet. Promises to answer exactly that, by the table of rules.
+//! that names a rule which isn't checked yet.
+//! Promises to answer exactly that, by the table of rules.
 //! Stands on the kernel of entailments and, for three rules of triples, on walks of its own.
 #![tactic(auto)]
 

@@ -1,5 +1,6 @@
 // Which steps are instances of the rule that they name.
-ghost use Rattle.std.specs.Prelude.{◌≡◌, ◌<◌, ◌+◌, ◌↔◌, IfErr, IfOk, IsTrue, OnOk, length, map, true, []};
+ghost use Rattle.std.specs.Prelude.{◌≡◌, ◌<◌, ◌+◌, ◌↔◌, length, map, true, []};
+ghost use Rattle.std.specs.Prelude.{IfErr, IfOk, IsTrue, OnOk};
 ghost use Rattle.model_commands.specs.Theories.{Procedures, by_rule, nameless_judgement};
 ghost use Rattle.model_files.specs.FileFaults.{judgement_sorted};
 ghost use Rattle.model_files.specs.Sizes.{JudgementIsSmall};

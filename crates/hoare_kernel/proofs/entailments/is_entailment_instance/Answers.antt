@@ -31,7 +31,8 @@ entailment_by-requires-clause-sorted c =
     let p = formula_of e.left in
     let q = formula_of e.right in
     let s = sort_of e.sort in
-    is_nothing (first_fault q s) (and_parts (is_judged_at s p) (is_judged_at s q) c.requires.sorted).1
+    is_nothing (first_fault q s)
+    (and_parts (is_judged_at s p) (is_judged_at s q) c.requires.sorted).1
 
 pub returns : goal.returns
 returns c = λ ps checked.
