@@ -10,6 +10,8 @@ mod contexts;
 #[cfg(test)]
 mod copies;
 #[cfg(test)]
+mod entailments;
+#[cfg(test)]
 mod formulas;
 #[cfg(test)]
 mod groves;
