@@ -1,18 +1,17 @@
 -- Verdicts on the theory of a file, from what the kernel answers.
-use Rattle.std.proofs.Common.{◌≡◌, ◌∙◌, ℕ, suc, ◌+◌, Option, Some, None, option_map, sym, ap, subst, slice_get, length, List, map, [], arith}
+use Rattle.std.proofs.Common.{◌≡◌, ◌∙◌, ℕ, zero, suc, ◌+◌, Option, Some, None, option_map, sym, ap, subst, slice_get, length, List, map, [], arith}
 use Rattle.std.proofs.lemmas.List.{length-map}
 use Rattle.std.proofs.lemmas.Option.{slice_get-map}
 use Rattle.model_commands.specs.Theories.{nameless_procedure, procedures_of}
 use Rattle.model_files.specs.FileLimits.{step_count}
 use Rattle.rule_table.specs.Checked.{first_unbuilt}
 use Rattle.model_answers.specs.Output.{line, accepted_text, accepted_line, gap_line}
-use Rattle.rule_table.specs.Accepted.{Fault, no_proof, BadPlace, IsFirstBad}
+use Rattle.rule_table.specs.Accepted.{gap, no_proof, BadPlace, IsFirstBad}
 use Rattle.theory_syntax.specs.declared.steps.Step.{Step}
 use Rattle.theory_syntax.specs.declared.theories.Procedure.{Procedure}
 use Rattle.theory_syntax.specs.declared.theories.Theory.{Theory}
 use Rattle.theory_syntax.specs.Judgements.{step_of}
 use Rattle.theory_syntax.specs.Theories.{procedure_of, theory_of}
-use Rattle.cited_steps.specs.Earlier.{steps_in}
 use Rattle.hoare_kernel.specs.Refusals.{IsGapAt}
 use Rattle.hoare_kernel.proofs.BadPlaces.{ProcedureThere, procedure-there, StepThere, step-there}
 use Rattle.domcheck_core.specs.Answers.{numbered, Verdict, has_gap}
@@ -30,12 +29,13 @@ absent at found a e d f = cc
 at-place : {A : Type 0} (items : List A) (n k : ℕ) (a : A) → n ≡ 1 + k
     → slice_get items k ≡ Some a → numbered n items ≡ Some a
 at-place items n k a e there =
-    subst (λ (m : ℕ). numbered m items ≡ Some a) (omega (arith, e)) there
+    let turned : suc k ≡ n = omega (arith, e) in
+    subst (λ (m : ℕ). numbered m items ≡ Some a) turned there
 
 -- the same of what is seen
 seen : {A B : Type 0} (f : A → B) (items : List A) (n : ℕ) (a : A) → numbered n items ≡ Some a
     → numbered n (map f items) ≡ Some (f a)
-seen f items 0 a e = absurd cc
+seen f items zero a e = absurd cc
 seen f items (suc k) a e = slice_get-map f items k ∙ ap (option_map f) e
 
 -- where a theory has a first bad place, it has its procedure
@@ -66,6 +66,13 @@ has-step theory bad f h n e =
       step = b.step;
       there = at-place a.procedure.proof bad.step b.place b.step b.counted b.there;
     }
+
+-- a gap there, as a bad place; it is no end
+abbrev pub gap-place : ℕ → ℕ → BadPlace
+gap-place procedure step = record { procedure = procedure; step = step; fault = gap }
+
+pub gap-no-end : gap ≡ no_proof → ⊥
+gap-no-end e = cc
 
 -- the gap, as it is read
 pub gap-verdict : (theory : Theory) (procedure place : ℕ) (f : Procedure) (x : Step)

@@ -1,0 +1,21 @@
+use Rattle.theory_syntax.specs.Theories.{theory_of}
+use Rattle.domcheck_core.specs.Answers.{Verdict, says_yes, says_no}
+use Rattle.domcheck_core.proofs.Judged.{said, same_line}
+use Rattle.domcheck_core.proofs.Verdicts.{accepted_counts}
+use Rattle.domcheck_core.proofs.checks.judge.Goals as goal
+
+pub returns-in-Ok : goal.returns-in-Ok
+returns-in-Ok c =
+    said (λ r. r.status) (λ r. r.output) (Verdict (theory_of c.args.theory.now)) _ _
+    c.accepted.result (says_yes c.requires.built c.in-Ok.ensures.accepted)
+    c.accepted.ensures.status
+    (same_line (λ r. r.output) _ _ c.accepted.result (accepted_counts c.args.theory.now
+    c.in-Ok.counts.procedures c.in-Ok.counts.steps c.in-Ok.ensures.counts.0
+    c.in-Ok.ensures.counts.1) c.accepted.ensures.output)
+
+pub returns-in-Err-NotAccepted : goal.returns-in-Err-NotAccepted
+returns-in-Err-NotAccepted c =
+    let why = rw c.in-Err-NotAccepted.field-0-is at c.in-Err-NotAccepted.ensures.refused in
+    said (λ r. r.status) (λ r. r.output) (Verdict (theory_of c.args.theory.now)) _ _
+    c.reported.result (says_no c.requires.built why.0 why.1)
+    c.reported.ensures.status c.reported.ensures.output
