@@ -1,0 +1,15 @@
+pub mod Sameness
+pub mod Stages
+pub mod Cited
+pub mod SimpleVerdicts
+pub mod AssignVerdicts
+pub mod SequenceVerdicts
+pub mod Mentions
+pub mod WrittenProgVars
+pub mod FrameVerdicts
+pub mod BlockVerdicts
+pub mod Passing
+pub mod CallVerdicts
+pub mod OnWritten
+pub mod Covering
+pub mod InstanceVerdicts

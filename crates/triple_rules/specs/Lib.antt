@@ -1,0 +1,12 @@
+pub mod Written
+pub mod Changed
+pub mod Tests
+pub mod Tested
+pub mod SequenceTests
+pub mod Occurring
+pub mod FrameTests
+pub mod BlockTests
+pub mod CallTests
+pub mod Procedures
+pub mod Covered
+pub mod InstanceTests

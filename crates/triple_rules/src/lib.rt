@@ -1,0 +1,23 @@
+//! Rules for triples, each with the exact verdict on what is written at a step.
+//! Promises that the verdict is the one that the table of rules gives.
+//! Stands on the table of rules, on the types of triples and judgements, and on cited steps.
+#![tactic(auto)]
+
+mod assignments;
+mod blocks;
+mod calls;
+mod conditions;
+mod framing;
+mod locals;
+mod occurrences;
+mod rules;
+mod same;
+mod sequences;
+mod simple;
+mod written;
+
+pub use rules::{
+    absurd, assign, call, consequence, disjunction, frame, if_else, local, seq, skip,
+    the_rows_are_those_of_the_table, while_do,
+};
+pub use written::Written;
