@@ -14,7 +14,7 @@ use Rattle.model_formulas.specs.Substitution.{formula_with, replacing, replacing
 use Rattle.rule_table.specs.Letters.{LogicVar, as_logic}
 use Rattle.triple_rules.specs.Covered.{term_covers, covers}
 
-right-or : (a b : Bool) → b ≡ true → (a || b) ≡ true
+pub right-or : (a b : Bool) → b ≡ true → (a || b) ≡ true
 right-or true b e = refl
 right-or false b e = e
 
@@ -150,7 +150,8 @@ module _ (x : LogicVar) (e : Term) (plain : raised e ≡ e) where
   unput_formula (at_most a b) = at_most (unput a) (unput b)
   unput_formula (empty k) = empty k
   unput_formula (bare_hole k) = bare_hole k
-  unput_formula (node_formula n i p l) = node_formula (unput n) (unput i) (unput_formula p) (unput l)
+  unput_formula (node_formula n i p l) =
+      node_formula (unput n) (unput i) (unput_formula p) (unput l)
   unput_formula (one_tree p) = one_tree (unput_formula p)
   unput_formula (one_root p) = one_root (unput_formula p)
   unput_formula (concatenation side p q) = concatenation side (unput_formula p) (unput_formula q)

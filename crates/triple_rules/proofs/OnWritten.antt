@@ -8,7 +8,7 @@ use Rattle.theory_syntax.specs.Commands.{command_of}
 use Rattle.model_terms.specs.Stores.{ProgVar}
 use Rattle.cited_steps.specs.Earlier.{steps_in}
 use Rattle.rule_table.specs.Accepted.{cited}
-use Rattle.rule_table.specs.Rules.{skip_rule, assign_rule, seq_rule, if_rule, while_rule, local_rule, call_rule, frame_rule, consequence_rule, disjunction_rule, absurd_rule}
+use Rattle.rule_table.specs.Rules.{skip_rule, assign_rule, seq_rule, if_rule, while_rule, local_rule, call_rule, frame_rule, consequence_rule, disjunction_rule, absurd_rule, instance_rule}
 use Rattle.rule_table.specs.Verdicts.{Verdict, instance_verdict, IsVerdict}
 use Rattle.triple_rules.specs.declared.written.Written.{Written}
 use Rattle.triple_rules.specs.Changed.{AreChanged}
@@ -16,15 +16,17 @@ use Rattle.triple_rules.specs.Written.{written_in}
 use Rattle.triple_rules.specs.Tested.{tested}
 use Rattle.triple_rules.specs.Tests.{no_items, staged, weaken_by, skip_test, assign_test, disjunction_test, absurd_test}
 use Rattle.triple_rules.specs.SequenceTests.{reached, ends, block_in, seq_test}
-use Rattle.triple_rules.specs.Occurring.{mentions}
+use Rattle.triple_rules.specs.Occurring.{mentions, term_mentions}
 use Rattle.triple_rules.specs.FrameTests.{context_in, frame_test}
+use Rattle.triple_rules.specs.InstanceTests.{gives_by, instance_test}
 use Rattle.triple_rules.specs.BlockTests.{while_test, if_test, local_test}
 use Rattle.triple_rules.proofs.Cited.{exact-as, weaken-by}
 use Rattle.triple_rules.proofs.SimpleVerdicts.{skip-exact, absurd-exact, consequence-exact, disjunction-exact}
 use Rattle.triple_rules.proofs.AssignVerdicts.{assign-exact}
-use Rattle.triple_rules.proofs.Mentions.{unchanged-is, is-unchanged}
+use Rattle.triple_rules.proofs.Mentions.{unchanged-is, is-unchanged, unchanged-term-is, is-unchanged-term}
 use Rattle.triple_rules.proofs.WrittenProgVars.{context-nameless}
 use Rattle.triple_rules.proofs.FrameVerdicts.{frame-exact}
+use Rattle.triple_rules.proofs.InstanceVerdicts.{instance-exact, gives-as}
 use Rattle.triple_rules.proofs.SequenceVerdicts.{seq-exact, by-numbers}
 use Rattle.triple_rules.proofs.BlockVerdicts.{while-exact, if-exact, local-exact}
 use Rattle.model_commands.specs.Theories.{Procedures}
@@ -147,3 +149,25 @@ module _ (w : Written) (v : Verdict) where
       (cited (steps_in w.earlier.now) w.citations.now) (nameless (formula_of w.triple.now.pre))
       (nameless (formula_of w.triple.now.post)) (data_sort_of w.triple.now.sort) procedures
       (command_of w.triple.now.command))
+
+  pub instance-on : (changed : List ProgVar)
+      → AreChanged changed (command_of w.triple.now.command)
+      → v ≡ instance_test (gives_by (steps_in w.earlier.now) w.citations.now
+      (nameless (formula_of w.triple.now.pre)) (command_of w.triple.now.command)
+      (nameless (formula_of w.triple.now.post)) (data_sort_of w.triple.now.sort))
+      (λ t. not (term_mentions changed t)) (map term_of w.arguments.now)
+      (nameless (formula_of w.triple.now.pre)) (nameless (formula_of w.triple.now.post))
+      → IsVerdict (instance_rule ∷ []) (written_in w) v
+  instance-on changed are e =
+      let p = nameless (formula_of w.triple.now.pre) in
+      let c = command_of w.triple.now.command in
+      let q = nameless (formula_of w.triple.now.post) in
+      let k = data_sort_of w.triple.now.sort in
+      subst (λ z. IsVerdict (instance_rule ∷ []) (written_in w) z)
+      (sym (e ∙ ap (λ g. instance_test g (λ t. not (term_mentions changed t))
+      (map term_of w.arguments.now) p q)
+      (gives-as p c q k (steps_in w.earlier.now) w.citations.now)))
+      (instance-exact (cited (steps_in w.earlier.now) w.citations.now) p c q k
+      (λ t. not (term_mentions changed t))
+      (λ t. (unchanged-term-is changed c are t, is-unchanged-term changed c are t))
+      w.arguments.now)

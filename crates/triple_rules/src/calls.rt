@@ -11,7 +11,6 @@ ghost use Rattle.row_patterns.specs.Verdicts.{verdict_in};
 ghost use Rattle.dom_terms.specs.Sorts.{data_sort_of};
 ghost use Rattle.dom_terms.specs.Terms.{prog_var_of, term_of};
 ghost use Rattle.formula_syntax.specs.Formulas.{formula_of, pair_of};
-ghost use Rattle.formula_syntax.specs.Substitution.{replacing_each};
 ghost use Rattle.theory_syntax.specs.Judgements.{triple_of};
 ghost use Rattle.theory_syntax.specs.Theories.{procedure_of};
 ghost use Rattle.triple_rules.specs.CallTests as test;
@@ -19,13 +18,13 @@ ghost use Rattle.triple_rules.specs.Procedures.{procedures_in};
 ghost use Rattle.triple_rules.specs.Tested.{tested};
 ghost use Rattle.triple_rules.specs.Written.{IsReady};
 
-use crate::same::is_nothing;
+use crate::same::{is_nothing, is_put};
 use crate::simple::{cites_nothing, staged};
 use crate::written::Written;
 use dom_terms::{
     Copied, List, OutOfMemory, ProgVar, Term, Text, Verdict, same_data_sort, same_text,
 };
-use formula_syntax::{AnyVar, Formula, Pair, is_substitution};
+use formula_syntax::{AnyVar, Formula, Pair};
 use std::alloc::Global;
 use theory_syntax::{Command, Procedure, Triple};
 
@@ -79,21 +78,6 @@ fn as_terms(alloc: Global, variables: &[ProgVar]) -> Result<List<Term>, OutOfMem
         terms.push(Term::Prog(variable.copy(alloc)?))?;
     }
     Ok(terms)
-}
-
-// Whether the second formula is the first with the terms of the pairs for their variables.
-#[tactic(auto, using(crate::proofs::Sameness::put_rules))]
-fn is_put(alloc: Global, from: &Formula, pairs: &[Pair], to: &Formula) -> bool
-    requires from { IsSmall (formula_of from.now) }
-    requires to { IsSmall (formula_of to.now) }
-    ensures { result ≡ same_formula
-        (formula_with (replacing_each (map pair_of pairs.now)) (nameless (formula_of from.now)))
-        (nameless (formula_of to.now)) }
-{
-    match is_substitution(alloc, from, pairs, to) {
-        Ok(put) => put,
-        Err(_) => unreachable!(),
-    }
 }
 
 // Whether the formula is the requires of the procedure, with the arguments.

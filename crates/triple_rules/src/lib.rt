@@ -7,7 +7,9 @@ mod assignments;
 mod blocks;
 mod calls;
 mod conditions;
+mod coverage;
 mod framing;
+mod instancing;
 mod locals;
 mod occurrences;
 mod rules;
@@ -17,7 +19,7 @@ mod simple;
 mod written;
 
 pub use rules::{
-    absurd, assign, call, consequence, disjunction, frame, if_else, local, seq, skip,
+    absurd, assign, call, consequence, disjunction, frame, if_else, instance, local, seq, skip,
     the_rows_are_those_of_the_table, while_do,
 };
 pub use written::Written;

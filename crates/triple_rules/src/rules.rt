@@ -14,7 +14,7 @@ ghost use Rattle.triple_rules.specs.Procedures.{procedures_in};
 ghost use Rattle.triple_rules.specs.Written.{IsReady, written_in};
 
 use crate::written::Written;
-use crate::{assignments, blocks, calls, framing, locals, sequences, simple};
+use crate::{assignments, blocks, calls, framing, instancing, locals, sequences, simple};
 use dom_terms::{OutOfMemory, ProgVar, Verdict};
 use std::alloc::Global;
 use theory_syntax::Procedure;
@@ -44,6 +44,8 @@ pub fn the_rows_are_those_of_the_table()
         → readings_in (table procedures) (codes "disjunction") ≡ rules.disjunction_rule ∷ [] }
     ensures absurd { (procedures : Procedures)
         → readings_in (table procedures) (codes "absurd") ≡ rules.absurd_rule ∷ [] }
+    ensures instance { (procedures : Procedures)
+        → readings_in (table procedures) (codes "instance") ≡ rules.instance_rule ∷ [] }
 {}
 
 /// The verdict of skip.
@@ -144,4 +146,20 @@ pub fn call(
         (written_in written.now) (verdict_in v)) }
 {
     calls::call(alloc, written, procedures)
+}
+
+/// The verdict of instance, from the program variables that the command changes. OutOfMemory comes
+/// only where memory is refused.
+pub fn instance(
+    alloc: Global,
+    written: &Written,
+    changed: &[ProgVar],
+) -> Result<Verdict, OutOfMemory>
+    requires written { IsReady written.now }
+    requires changed { AreChanged (map prog_var_of changed.now)
+        (command_of written.now.triple.now.command) }
+    ensures { IfOk result (λ v. IsVerdict (rules.instance_rule ∷ []) (written_in written.now)
+        (verdict_in v)) }
+{
+    instancing::instance(alloc, written, changed)
 }

@@ -1,20 +1,22 @@
 // When formulas and judgements are the same.
-ghost use Rattle.std.specs.Prelude.{◌≡◌};
+ghost use Rattle.std.specs.Prelude.{◌≡◌, map};
 ghost use Rattle.model_shapes.specs.Sorts.{shape};
 ghost use Rattle.model_formulas.specs.Nameless.{nameless};
 ghost use Rattle.model_formulas.specs.SameFormulas as formulas;
+ghost use Rattle.model_formulas.specs.Substitution.{formula_with};
 ghost use Rattle.model_commands.specs.Commands as model;
 ghost use Rattle.model_commands.specs.Theories.{entails, triple, nameless_judgement};
 ghost use Rattle.model_files.specs.Sizes.{IsSmall, JudgementIsSmall};
 ghost use Rattle.dom_terms.specs.Sorts.{data_sort_of};
-ghost use Rattle.formula_syntax.specs.Formulas.{formula_of};
+ghost use Rattle.formula_syntax.specs.Formulas.{formula_of, pair_of};
+ghost use Rattle.formula_syntax.specs.Substitution.{replacing_each};
 ghost use Rattle.theory_syntax.specs.Commands.{block_of, command_of};
 ghost use Rattle.theory_syntax.specs.Judgements.{judgement_of};
 ghost use Rattle.theory_syntax.specs.SameCommands as commands;
 ghost use Rattle.triple_rules.specs.Tests as test;
 
 use dom_terms::{DataSort, Sort, same_data_sort, same_sort};
-use formula_syntax::{Formula, same_formula};
+use formula_syntax::{Formula, Pair, is_substitution, same_formula};
 use std::alloc::Global;
 use theory_syntax::{Block, Command, Judgement, same_command};
 
@@ -28,6 +30,21 @@ pub(crate) fn same(alloc: Global, left: &Formula, right: &Formula) -> bool
 {
     match same_formula(alloc, left, right) {
         Ok(same) => same,
+        Err(_) => unreachable!(),
+    }
+}
+
+/// Whether the second formula is the first with the terms of the pairs for their variables.
+#[tactic(auto, using(crate::proofs::Sameness::put_rules))]
+pub(crate) fn is_put(alloc: Global, from: &Formula, pairs: &[Pair], to: &Formula) -> bool
+    requires from { IsSmall (formula_of from.now) }
+    requires to { IsSmall (formula_of to.now) }
+    ensures { result ≡ formulas.same_formula
+        (formula_with (replacing_each (map pair_of pairs.now)) (nameless (formula_of from.now)))
+        (nameless (formula_of to.now)) }
+{
+    match is_substitution(alloc, from, pairs, to) {
+        Ok(put) => put,
         Err(_) => unreachable!(),
     }
 }

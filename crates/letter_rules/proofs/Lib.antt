@@ -1,0 +1,3 @@
+pub mod BinderLaws
+pub mod EliminateVerdicts
+pub mod OnWritten

@@ -1,0 +1,12 @@
+pub mod Exact
+pub mod Rows
+pub mod Assigned
+pub mod BelowOne
+pub mod Listed
+pub mod Fits
+pub mod Seen
+pub mod Judged
+pub mod Steps
+pub mod Called
+pub mod AllRows
+pub mod NewNames

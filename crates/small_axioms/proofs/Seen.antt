@@ -1,0 +1,53 @@
+-- What each command of the document stands for.
+use Rattle.std.proofs.Common.{◌≡◌, sym, ap, ◌∙◌}
+use Rattle.model_commands.specs.Commands as model
+use Rattle.dom_terms.specs.Terms.{prog_var_of, term_of}
+use Rattle.dom_terms.specs.declared.terms.ProgVar.{ProgVar}
+use Rattle.dom_terms.specs.declared.terms.Term.{Term}
+use Rattle.theory_syntax.specs.declared.commands.Command.{Command}
+use Rattle.theory_syntax.specs.declared.commands.Command.TheOpen.{Command-F}
+use Rattle.theory_syntax.specs.declared.commands.Command.TheFolds.{fold-roll-Command}
+use Rattle.theory_syntax.specs.declared.commands.Command.TheVariants.{Create, Name, Parent, Children, Item, Append, Remove, rolls-Create, rolls-Name, rolls-Parent, rolls-Children, rolls-Item, rolls-Append, rolls-Remove}
+use Rattle.theory_syntax.specs.Commands.{command_of, command_step}
+
+pub create-seen : (command : Command) (x : ProgVar) (e : Term) → command ≡ Create x e
+    → command_of command ≡ model.create_node (prog_var_of x) (term_of e)
+create-seen command x e is =
+    ap command_of (is ∙ sym (rolls-Create x e))
+    ∙ fold-roll-Command model.Command command_step (Command-F.Create x e)
+
+pub name-seen : (command : Command) (x : ProgVar) (e : Term) → command ≡ Name x e
+    → command_of command ≡ model.node_name (prog_var_of x) (term_of e)
+name-seen command x e is =
+    ap command_of (is ∙ sym (rolls-Name x e))
+    ∙ fold-roll-Command model.Command command_step (Command-F.Name x e)
+
+pub parent-seen : (command : Command) (x : ProgVar) (e : Term) → command ≡ Parent x e
+    → command_of command ≡ model.parent_node (prog_var_of x) (term_of e)
+parent-seen command x e is =
+    ap command_of (is ∙ sym (rolls-Parent x e))
+    ∙ fold-roll-Command model.Command command_step (Command-F.Parent x e)
+
+pub children-seen : (command : Command) (x : ProgVar) (e : Term) → command ≡ Children x e
+    → command_of command ≡ model.child_nodes (prog_var_of x) (term_of e)
+children-seen command x e is =
+    ap command_of (is ∙ sym (rolls-Children x e))
+    ∙ fold-roll-Command model.Command command_step (Command-F.Children x e)
+
+pub item-seen : (command : Command) (x : ProgVar) (e f : Term) → command ≡ Item x e f
+    → command_of command ≡ model.list_item (prog_var_of x) (term_of e) (term_of f)
+item-seen command x e f is =
+    ap command_of (is ∙ sym (rolls-Item x e f))
+    ∙ fold-roll-Command model.Command command_step (Command-F.Item x e f)
+
+pub append-seen : (command : Command) (e f : Term) → command ≡ Append e f
+    → command_of command ≡ model.append_child (term_of e) (term_of f)
+append-seen command e f is =
+    ap command_of (is ∙ sym (rolls-Append e f))
+    ∙ fold-roll-Command model.Command command_step (Command-F.Append e f)
+
+pub remove-seen : (command : Command) (e f : Term) → command ≡ Remove e f
+    → command_of command ≡ model.remove_child (term_of e) (term_of f)
+remove-seen command e f is =
+    ap command_of (is ∙ sym (rolls-Remove e f))
+    ∙ fold-roll-Command model.Command command_step (Command-F.Remove e f)
