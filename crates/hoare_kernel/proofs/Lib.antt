@@ -1,8 +1,5 @@
 pub mod BadPlaces
-pub mod BlockChains
-pub mod Decisions
-pub mod EntailmentRows
-pub mod InstanceLaws
-pub mod Instances
+pub mod Called
+pub mod Rows
 pub mod Walks
 pub mod WellFormed

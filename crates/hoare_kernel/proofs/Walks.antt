@@ -1,12 +1,14 @@
 -- The first bad place of a proof and of a theory, as a walk comes upon it.
-use Rattle.std.proofs.Common.{◌≡◌, ◌<◌, ◌∙◌, refl, sym, ap, subst, ℕ, zero, suc, ◌+◌, List, [], ◌∷◌, ◌++◌, map, length, take, drop, get_or, inl, inr, ⊎_elim, arith, Bool, true, Some, IsTrue, Result, Ok, Err, IfErr, IsErrAnd}
-use Rattle.std.specs.Prelude.{◌↔◌}
+use Rattle.std.proofs.Common.{◌≡◌, ◌<◌, ◌∙◌, refl, sym, ap, subst, ℕ, zero, suc, ◌+◌, List, [], ◌∷◌, ◌++◌, map, length, take, drop, get_or, inl, inr, arith, Bool, true, Some, IsTrue, Result, Ok, Err, IfErr, IsErrAnd}
+use Rattle.std.specs.Prelude.{◌↔◌, ◌≢◌}
 use Rattle.std.proofs.lemmas.List.{append_assoc, append-nil, map_more, drop_more, take-append-drop, map-append, length-map, length-take-le}
 use Rattle.model_commands.specs.Theories.{Reason, auto, by_rule, Judgement, Step, Procedure, Procedures, own_triple, procedures_of, nameless_step, nameless_judgement, nameless_procedure}
 use Rattle.model_files.specs.Sizes.{JudgementIsSmall, StepsAreSmall}
 use Rattle.model_files.specs.FileFaults.{judgement_sorted}
-use Rattle.rule_table.specs.Checked.{is_checked}
-use Rattle.rule_table.specs.Accepted.{InstanceBy, AllInstances, last_judgement, EndsWell, IsProved, Each, Fault, gap, no_proof, BadPlace, FirstBadStep, FirstBadOf}
+use Rattle.rule_table.specs.Accepted.{InstanceBy, VerdictBy, AllInstances, last_judgement, EndsWell, IsProved, Each, Fault, fails, gap, no_proof, BadPlace, IsBadBy, FirstBadStep, FirstBadOf}
+use Rattle.rule_table.specs.Verdicts as table
+use Rattle.dom_terms.specs.declared.verdicts.Verdict.{Verdict}
+use Rattle.row_patterns.specs.Verdicts.{verdict_in}
 use Rattle.theory_syntax.specs.Judgements.{step_of}
 use Rattle.theory_syntax.specs.Theories.{procedure_of, theory_of}
 use Rattle.theory_syntax.specs.declared.steps.Step as rust_step
@@ -16,14 +18,15 @@ use Rattle.cited_steps.specs.Earlier.{steps_in}
 use Rattle.hoare_kernel.specs.declared.refusals.Refusal.{Refusal}
 use Rattle.hoare_kernel.specs.declared.refusals.Refusal.TheVariants as r
 use Rattle.hoare_kernel.specs.Refusals.{Refuses}
-use Rattle.hoare_kernel.specs.Walks.{AllChecked, AllSorted, Told, StepRefused, StepsRefused, ProcedureRefused, ProceduresRefused}
+use Rattle.hoare_kernel.specs.Walks.{AllSorted, Told, IsThere, IsAmong, IsInside, IsOneOf, StepRefused, StepsRefused, ProcedureRefused, ProceduresRefused}
 
 -- what is told of a place, from what is told of another
-pub told : (G H : ℕ → ℕ → Type 0) (A B : Type 0) → ((p s : ℕ) → G p s → H p s) → (A → B)
-    → (e : Refusal) → Told G A e → Told H B e
-told G H A B f g r.NotAccepted h = g h
-told G H A B f g (r.Gap p s) h = f p s h
-told G H A B f g r.OutOfMemory h = tt
+pub told : (G H : ℕ → ℕ → Fault → Type 0) → ((p s : ℕ) (x : Fault) → G p s x → H p s x)
+    → (e : Refusal) → Told G e → Told H e
+told G H f (r.Fails p s v) h = f p s (fails (verdict_in v)) h
+told G H f (r.NoProof p) h = (h.0, f p h.0 no_proof h.1)
+told G H f (r.Gap p s) h = f p s gap h
+told G H f r.OutOfMemory h = tt
 
 -- what a `?` hands out
 pub handed_out : {A : Type 0} (P : Refusal → Type 0) (answer : Result A Refusal) (e : Refusal)
@@ -31,13 +34,28 @@ pub handed_out : {A : Type 0} (P : Refusal → Type 0) (answer : Result A Refusa
 handed_out P (Ok x) e h p = absurd h
 handed_out P (Err y) e h p = subst P (sym h) p
 
--- a gap is no instance
-pub no_gap : (ps : Procedures) (reason : Reason) (earlier : List Step) (j : Judgement)
-    → InstanceBy ps reason earlier j → reason ≡ auto → ⊥
-no_gap ps auto earlier j i e = i
-no_gap ps (by_rule name ns arguments) earlier j i e = cc
-
 module _ (ps : Procedures) where
+  -- THE VERDICT ON A STEP
+  module _ (reason : Reason) (earlier : List Step) (judgement : Judgement) (verdict : Verdict)
+      (h : VerdictBy ps reason earlier judgement (verdict_in verdict)) where
+    -- an instance
+    pub instance_by : verdict_in verdict ≡ table.instance_verdict
+        → InstanceBy ps reason earlier judgement
+    instance_by e = named reason h
+      where
+        named : (reason : Reason) → VerdictBy ps reason earlier judgement (verdict_in verdict)
+            → InstanceBy ps reason earlier judgement
+        named auto h = h
+        named (by_rule name ns arguments) h =
+            subst (VerdictBy ps (by_rule name ns arguments) earlier judgement) e h
+
+    -- and none
+    pub refused_by : (number place : ℕ) (e : Refusal) → e ≡ r.Fails number place verdict
+        → verdict_in verdict ≢ table.instance_verdict
+        → StepRefused ps number place earlier reason judgement e
+    refused_by number place e q n =
+        subst (StepRefused ps number place earlier reason judgement) (sym q) (refl, refl, (h, n))
+
   -- STEPS
   -- one instance more
   pub one_more : (earlier front : List Step) (x : Step) → AllInstances ps earlier front
@@ -86,30 +104,6 @@ module _ (ps : Procedures) where
           ∙ map-append nameless_step (map step_of (take k steps))
           (step_of (get_or steps k d) ∷ [])
 
-  -- no gap is the first bad place behind instances
-  none_behind : (f : Procedure) (earlier front rest : List Step) (place bad : ℕ)
-      → AllInstances ps earlier front
-      → FirstBadStep ps f earlier (front ++ rest) place bad gap
-      → FirstBadStep ps f (earlier ++ front) rest (place + length front) bad gap
-  none_behind f earlier [] rest place bad a b =
-      subst (λ (n : ℕ). FirstBadStep ps f (earlier ++ []) rest n bad gap) (omega arith)
-      (subst (λ z. FirstBadStep ps f z rest place bad gap) (sym (append-nil earlier)) b)
-  none_behind f earlier (y ∷ front) rest place bad a b = ⊎_elim
-      (λ here. absurd (no_gap ps y.reason earlier y.judgement a.0 here.1))
-      (λ later. subst (λ (n : ℕ). FirstBadStep ps f (earlier ++ y ∷ front) rest n bad gap)
-      (omega arith)
-      (subst (λ z. FirstBadStep ps f z rest (place + 1 + length front) bad gap)
-      (append_assoc earlier (y ∷ []) front)
-      (none_behind f (earlier ++ y ∷ []) front rest (place + 1) bad a.1 later.1))) b
-
-  -- the instances in front and behind
-  all_behind : (earlier front rest : List Step) → AllInstances ps earlier (front ++ rest)
-      → AllInstances ps (earlier ++ front) rest
-  all_behind earlier [] rest a = subst (λ z. AllInstances ps z rest) (sym (append-nil earlier)) a
-  all_behind earlier (y ∷ front) rest a =
-      subst (λ z. AllInstances ps z rest) (append_assoc earlier (y ∷ []) front)
-      (all_behind (earlier ++ y ∷ []) front rest a.1)
-
   -- the first bad step
   pub refused : (steps : List rust_step.Step) (d : rust_step.Step) (k number place : ℕ)
       (e : Refusal) → k < length steps → place ≡ k + 1
@@ -117,9 +111,9 @@ module _ (ps : Procedures) where
       → StepRefused ps number place (steps_in (take k steps)) (step_of (get_or steps k d)).reason
       (nameless_judgement (step_of (get_or steps k d)).judgement) e
       → StepsRefused ps number (steps_in steps) e
-  refused steps d k number place e lt at a = told _ _ _ _
-      (λ p s h. (h.0, λ f. there f s h.1 h.2))
-      (λ h. (λ all. h.0 (not_all all), λ f s b. not_gap h f s b)) e
+  refused steps d k number place e lt at a =
+      told (IsThere ps number place (steps_in (take k steps)) x.reason x.judgement)
+      (IsAmong ps number (steps_in steps)) (λ p s fault h. (h.0, λ f. there f s fault h.1 h.2)) e
     where
       x : Step
       x = nameless_step (step_of (get_or steps k d))
@@ -142,25 +136,13 @@ module _ (ps : Procedures) where
           length-map (map step_of (take k steps)) nameless_step
           ∙ length-map (take k steps) step_of ∙ length-take-le k steps (omega (arith, lt))
 
-      there : (f : Procedure) (s : ℕ) → s ≡ place → x.reason ≡ auto
-          → FirstBadStep ps f [] (steps_in steps) 1 s gap
-      there f s q b =
-          subst (λ z. FirstBadStep ps f [] z 1 s gap) split
-          (behind f [] (steps_in (take k steps)) (x ∷ rest) 1 s gap a
+      there : (f : Procedure) (s : ℕ) (fault : Fault) → s ≡ place
+          → IsBadBy ps x.reason (steps_in (take k steps)) x.judgement fault
+          → FirstBadStep ps f [] (steps_in steps) 1 s fault
+      there f s fault q b =
+          subst (λ z. FirstBadStep ps f [] z 1 s fault) split
+          (behind f [] (steps_in (take k steps)) (x ∷ rest) 1 s fault a
           (inl (omega (arith, q, at, many), b)))
-
-      not_all : AllInstances ps [] (steps_in steps)
-          → InstanceBy ps x.reason (steps_in (take k steps)) x.judgement
-      not_all all =
-          (all_behind [] (steps_in (take k steps)) (x ∷ rest)
-          (subst (AllInstances ps []) (sym split) all)).0
-
-      not_gap : (InstanceBy ps x.reason (steps_in (take k steps)) x.judgement → ⊥)
-          × (x.reason ≡ auto → ⊥)
-          → (f : Procedure) (s : ℕ) → FirstBadStep ps f [] (steps_in steps) 1 s gap → ⊥
-      not_gap h f s b = ⊎_elim (λ here. h.1 here.1) (λ later. h.0 later.0)
-          (none_behind f [] (steps_in (take k steps)) (x ∷ rest) 1 s a
-          (subst (λ z. FirstBadStep ps f [] z 1 s gap) (sym split) b))
 
   -- the same of a step and the steps before it as the program has them
   module _ (steps before : List rust_step.Step) (d x : rust_step.Step) (k : ℕ)
@@ -186,22 +168,21 @@ module _ (ps : Procedures) where
 
   -- the end of a proof, where each step is an instance
   pub no_end : (f : Procedure) (number : ℕ) → AllInstances ps [] f.proof → (EndsWell f → ⊥)
-      → ProcedureRefused ps number f r.NotAccepted
+      → ProcedureRefused ps number f (r.NoProof number)
   no_end f number a n = (
-    λ (h : IsProved ps f). n h.ends,
-    λ s b. end_is_no_gap
-        (none_behind f [] f.proof [] 1 s a
-        (subst (λ z. FirstBadStep ps f [] z 1 s gap) (sym (append-nil f.proof)) b)),
+    1 + length f.proof,
+    (
+      refl,
+      subst (λ z. FirstBadStep ps f [] z 1 (1 + length f.proof) no_proof) (append-nil f.proof)
+          (behind f [] f.proof [] 1 (1 + length f.proof) no_proof a (refl, refl, n)),
+    ),
   )
-    where
-      end_is_no_gap : {s m : ℕ} → FirstBadStep ps f f.proof [] m s gap → ⊥
-      end_is_no_gap h = let e : gap ≡ no_proof = h.1 in cc
 
   -- a bad step
   pub of_steps : (f : Procedure) (number : ℕ) (e : Refusal) → StepsRefused ps number f.proof e
       → ProcedureRefused ps number f e
-  of_steps f number = told _ _ _ _ (λ p s h. (h.0, h.1 f))
-      (λ h. (λ (q : IsProved ps f). h.0 q.steps, λ s b. h.1 f s b))
+  of_steps f number =
+      told (IsAmong ps number f.proof) (IsInside ps number f) (λ p s fault h. (h.0, h.1 f))
 
   -- PROCEDURES
   pub each_more : (fs : Procedures) (f : Procedure) → Each (IsProved ps) fs → IsProved ps f
@@ -237,41 +218,14 @@ module _ (ps : Procedures) where
           ∙ map-append nameless_procedure (map procedure_of (take k fs))
           (procedure_of (get_or fs k d) ∷ [])
 
-  -- the proofs in front and behind
-  each_behind : (front rest : Procedures) → Each (IsProved ps) (front ++ rest)
-      → Each (IsProved ps) rest
-  each_behind [] rest a = a
-  each_behind (f ∷ front) rest a = each_behind front rest a.1
-
-  none_behind_proved : (front rest : Procedures) (number p s : ℕ) → Each (IsProved ps) front
-      → FirstBadOf ps (front ++ rest) number (record { procedure = p; step = s; fault = gap })
-      → FirstBadOf ps rest (number + length front)
-      (record { procedure = p; step = s; fault = gap })
-  none_behind_proved [] rest number p s a b =
-      subst (λ (n : ℕ). FirstBadOf ps rest n (record { procedure = p; step = s; fault = gap }))
-      (omega arith) b
-  none_behind_proved (f ∷ front) rest number p s a b = ⊎_elim
-      (λ here. absurd (proved_has_none f a.0 here.1))
-      (λ later. subst (λ (n : ℕ). FirstBadOf ps rest n
-      (record { procedure = p; step = s; fault = gap })) (omega arith)
-      (none_behind_proved front rest (number + 1) p s a.1 later.1)) b
-    where
-      proved_has_none : (f : Procedure) → IsProved ps f
-          → FirstBadStep ps f [] f.proof 1 s gap → ⊥
-      proved_has_none f h c = end_is_no_gap (none_behind f [] f.proof [] 1 s h.steps
-          (subst (λ z. FirstBadStep ps f [] z 1 s gap) (sym (append-nil f.proof)) c))
-        where
-          end_is_no_gap : {m : ℕ} → FirstBadStep ps f f.proof [] m s gap → ⊥
-          end_is_no_gap h = let e : gap ≡ no_proof = h.1 in cc
-
   pub refused_procedure : (fs : List rust_procedure.Procedure) (d : rust_procedure.Procedure)
       (k number : ℕ) (e : Refusal) → k < length fs → number ≡ k + 1
       → Each (IsProved ps) (map nameless_procedure (map procedure_of (take k fs)))
       → ProcedureRefused ps number (nameless_procedure (procedure_of (get_or fs k d))) e
       → ProceduresRefused ps (map nameless_procedure (map procedure_of fs)) 1 e
-  refused_procedure fs d k number e lt at a = told _ _ _ _
-      (λ p s h. there p s h.0 h.1)
-      (λ h. (λ all. h.0 (not_all all), λ p s b. not_gap h p s b)) e
+  refused_procedure fs d k number e lt at a =
+      told (IsInside ps number f) (IsOneOf ps (map nameless_procedure (map procedure_of fs)) 1)
+      (λ p s fault h. there p s fault h.0 h.1) e
     where
       f : Procedure
       f = nameless_procedure (procedure_of (get_or fs k d))
@@ -299,31 +253,21 @@ module _ (ps : Procedures) where
           length-map (map procedure_of (take k fs)) nameless_procedure
           ∙ length-map (take k fs) procedure_of ∙ length-take-le k fs (omega (arith, lt))
 
-      there : (p s : ℕ) → p ≡ number → FirstBadStep ps f [] f.proof 1 s gap
+      there : (p s : ℕ) (x : Fault) → p ≡ number → FirstBadStep ps f [] f.proof 1 s x
           → FirstBadOf ps (map nameless_procedure (map procedure_of fs)) 1
-          (record { procedure = p; step = s; fault = gap })
-      there p s q h =
-          subst (λ z. FirstBadOf ps z 1 (record { procedure = p; step = s; fault = gap })) split
+          (record { procedure = p; step = s; fault = x })
+      there p s x q h =
+          subst (λ z. FirstBadOf ps z 1 (record { procedure = p; step = s; fault = x })) split
           (behind_proved before (f ∷ rest) 1
-          (record { procedure = p; step = s; fault = gap }) a
+          (record { procedure = p; step = s; fault = x }) a
           (inl (omega (arith, q, at, many), h)))
-
-      not_all : Each (IsProved ps) (map nameless_procedure (map procedure_of fs)) → IsProved ps f
-      not_all all = (each_behind before (f ∷ rest) (subst (Each (IsProved ps)) (sym split) all)).0
-
-      not_gap : (IsProved ps f → ⊥) × ((s : ℕ) → FirstBadStep ps f [] f.proof 1 s gap → ⊥)
-          → (p s : ℕ) → FirstBadOf ps (map nameless_procedure (map procedure_of fs)) 1
-          (record { procedure = p; step = s; fault = gap }) → ⊥
-      not_gap h p s b = ⊎_elim (λ here. h.1 s here.1) (λ later. h.0 later.0)
-          (none_behind_proved before (f ∷ rest) 1 p s a
-          (subst (λ z. FirstBadOf ps z 1 (record { procedure = p; step = s; fault = gap }))
-          (sym split) b))
 
 -- of a theory
 pub refuses : (theory : Theory) (e : Refusal)
     → ProceduresRefused (procedures_of (theory_of theory)) (procedures_of (theory_of theory)) 1 e
     → Refuses theory e
-refuses theory r.NotAccepted h = h
+refuses theory (r.Fails p s v) h = h
+refuses theory (r.NoProof p) h = h
 refuses theory (r.Gap p s) h = h
 refuses theory r.OutOfMemory h = tt
 
@@ -346,14 +290,7 @@ small_at [] d k lt h = absurd (omega arith)
 small_at (s ∷ steps) d zero lt h = h.0
 small_at (s ∷ steps) d (suc k) lt h = small_at steps d k (omega arith) h.1
 
--- each rule that is named is checked
-pub checked_at : (steps : List rust_step.Step) (d : rust_step.Step) (k : ℕ) → k < length steps
-    → AllChecked steps → is_checked (step_of (get_or steps k d)).reason ≡ true
-checked_at [] d k lt h = absurd (omega arith)
-checked_at (s ∷ steps) d zero lt h = h.0
-checked_at (s ∷ steps) d (suc k) lt h = checked_at steps d k (omega arith) h.1
-
--- and each judgement is well sorted
+-- each judgement is well sorted
 pub sorted_at : (steps : List rust_step.Step) (d : rust_step.Step) (k : ℕ) → k < length steps
     → AllSorted steps → judgement_sorted (step_of (get_or steps k d)).judgement ≡ true
 sorted_at [] d k lt h = absurd (omega arith)

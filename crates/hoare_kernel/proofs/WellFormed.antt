@@ -1,6 +1,5 @@
--- The steps of a well-formed theory that names only checked rules: each is numbered by its place,
--- well sorted, and by such a rule.
-use Rattle.std.proofs.Common.{◌≡◌, ℕ, ◌+◌, ◌==◌, ◌&&◌, cond, Bool, List, [], ◌∷◌, ◌++◌, map, refl, true, false, Option, Some, None}
+-- The steps of a well-formed theory: each is numbered by its place, and well sorted.
+use Rattle.std.proofs.Common.{◌≡◌, ℕ, ◌+◌, ◌==◌, ◌&&◌, List, [], ◌∷◌, ◌++◌, map, refl, true, None}
 use Rattle.std.specs.List.{list_all}
 use Rattle.model_shapes.proofs.Truth.{both_true, and_from}
 use Rattle.model_formulas.specs.Formulas.{Named}
@@ -13,11 +12,9 @@ use Rattle.theory_syntax.specs.declared.theories.Procedure.{Procedure}
 use Rattle.theory_syntax.specs.declared.theories.Theory.{Theory}
 use Rattle.theory_syntax.specs.Judgements.{step_of}
 use Rattle.theory_syntax.specs.Theories.{procedure_of, theory_of}
-use Rattle.rule_table.specs.Checked.{is_checked, unbuilt_step, found_or, unbuilt_from, first_unbuilt}
 use Rattle.cited_steps.specs.Earlier.{are_numbered}
-use Rattle.hoare_kernel.specs.Walks.{AllSorted, EachSorted, AllChecked, EachChecked, AreNumbered}
+use Rattle.hoare_kernel.specs.Walks.{AllSorted, EachSorted, AreNumbered}
 
--- NUMBERED AND WELL SORTED
 module _ (theory : model.Theory) where
   proof-fine : (number : ℕ) (f : model.ProcedureOf Named) (at : ℕ) (steps : List Step)
       → first_fault_at (steps_from theory number f at (map step_of steps)) ≡ None
@@ -59,34 +56,3 @@ theory-fine theory e =
     procedures-fine (theory_of theory) [] 1 theory.procedures
     (first-none 0 0 (declarations (theory_of theory))
     (procedures_from (theory_of theory) [] 1 (map procedure_of theory.procedures)) e).1
-
--- CHECKED RULES
-steps-checked : (at : ℕ) (steps : List Step) → unbuilt_step at (map step_of steps) ≡ None
-    → AllChecked steps
-steps-checked at [] e = tt
-steps-checked at (s ∷ steps) e =
-    by_test (is_checked (step_of s).reason) refl e (steps-checked (at + 1) steps)
-  where
-    by_test : (b : Bool) → is_checked (step_of s).reason ≡ b
-        → cond b (unbuilt_step (at + 1) (map step_of steps)) (Some at) ≡ None
-        → (unbuilt_step (at + 1) (map step_of steps) ≡ None → AllChecked steps)
-        → AllChecked (s ∷ steps)
-    by_test true t e f = (t, f e)
-    by_test false t e f = absurd cc
-
-none-found : (at : ℕ) (o : Option ℕ) (later : Option (ℕ × ℕ)) → found_or at o later ≡ None
-    → (o ≡ None) × (later ≡ None)
-none-found at None later e = (refl, e)
-none-found at (Some step) later e = absurd cc
-
-procedures-checked : (at : ℕ) (fs : List Procedure) → unbuilt_from at (map procedure_of fs) ≡ None
-    → EachChecked fs
-procedures-checked at [] e = tt
-procedures-checked at (f ∷ fs) e =
-    let h = none-found at (unbuilt_step 1 (map step_of f.proof))
-    (unbuilt_from (at + 1) (map procedure_of fs)) e in
-    (steps-checked 1 f.proof h.0, procedures-checked (at + 1) fs h.1)
-
-pub theory-checked : (theory : Theory) → first_unbuilt (theory_of theory) ≡ None
-    → EachChecked theory.procedures
-theory-checked theory e = procedures-checked 1 theory.procedures e

@@ -1,3 +1,4 @@
+pub mod Called
+pub mod Names
 pub mod Refusals
-pub mod Tests
 pub mod Walks

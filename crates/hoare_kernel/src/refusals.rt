@@ -2,7 +2,7 @@
 ghost use Rattle.std.specs.Prelude.{◌≡◌};
 ghost use Rattle.hoare_kernel.specs.declared.refusals.Refusal.TheVariants as r;
 
-use dom_terms::OutOfMemory;
+use dom_terms::{OutOfMemory, Verdict};
 
 /// How many procedures and proof steps an accepted theory has.
 #[derive(Clone, Copy, Debug, PartialEq, Eq)]
@@ -13,14 +13,25 @@ pub struct Accepted {
     pub steps: u32,
 }
 
-/// Why a theory isn't accepted, or isn't known to be.
+/// Why a theory isn't accepted, or isn't known to be: its first bad place, a step of the proof of
+/// a procedure or the end of the proof, each counted from 1.
 #[derive(Clone, Copy, Debug, PartialEq, Eq)]
 pub enum Refusal {
-    /// The first bad place is no gap.
-    NotAccepted,
-    /// The first bad place is a gap, at this step of the proof of this procedure, each counted
-    /// from 1.
-    Gap { procedure: u32, step: u32 },
+    /// A step is no instance of its rule: it has this other verdict.
+    Fails {
+        procedure: u32,
+        step: u32,
+        verdict: Verdict,
+    },
+    /// Each step is an instance, and the last isn't the procedure's own triple.
+    NoProof {
+        procedure: u32,
+    },
+    /// A step is a gap.
+    Gap {
+        procedure: u32,
+        step: u32,
+    },
     /// Memory was refused.
     OutOfMemory,
 }

@@ -1,95 +1,94 @@
-// Which steps are instances of the rule that they name.
-ghost use Rattle.std.specs.Prelude.{◌≡◌, ◌<◌, ◌+◌, ◌↔◌, length, map, true, []};
-ghost use Rattle.std.specs.Prelude.{IfErr, IfOk, IsTrue, OnOk};
-ghost use Rattle.model_commands.specs.Theories.{Procedures, by_rule, nameless_judgement};
+// Which steps are instances of the rule that they name, and why the first other one is bad.
+ghost use Rattle.std.specs.Prelude.{◌≡◌, ◌≢◌, ◌<◌, ◌+◌, length, true, []};
+ghost use Rattle.std.specs.Prelude.{IfErr, OnOk};
+ghost use Rattle.model_commands.specs.Theories.{nameless_judgement, procedures_of};
 ghost use Rattle.model_files.specs.FileFaults.{judgement_sorted};
-ghost use Rattle.model_files.specs.Sizes.{JudgementIsSmall};
-ghost use Rattle.rule_table.specs.Checked.{is_checked};
+ghost use Rattle.model_files.specs.Sizes.{JudgementIsSmall, TheoryIsSmall};
 ghost use Rattle.rule_table.specs.Accepted.{InstanceBy, AllInstances};
-ghost use Rattle.dom_terms.specs.Terms.{term_of};
+ghost use Rattle.rule_table.specs.Verdicts.{instance_verdict};
+ghost use Rattle.row_patterns.specs.Verdicts.{verdict_in};
 ghost use Rattle.theory_syntax.specs.Judgements.{judgement_of, reason_of};
+ghost use Rattle.theory_syntax.specs.Theories.{theory_of};
 ghost use Rattle.cited_steps.specs.Earlier.{AreCitable, steps_in};
-ghost use Rattle.hoare_kernel.specs.Walks.{AllChecked, AllSorted, StepRefused, StepsRefused};
+ghost use Rattle.hoare_kernel.specs.declared.refusals.Refusal.TheVariants as r;
+ghost use Rattle.hoare_kernel.specs.Walks.{AllSorted, StepRefused, StepsRefused};
 
-use crate::entailments::is_entailment_instance;
 use crate::refusals::Refusal;
-use crate::triples::is_triple_instance;
-use dom_terms::{Numbers, OutOfMemory, Terms, Text};
+use crate::verdicts::check_step;
+use dom_terms::Verdict;
 use std::alloc::Global;
-use theory_syntax::{Judgement, Reason, Step};
+use theory_syntax::{Reason, Step, Theory};
 
-// Whether the judgement is an instance of the rule of this name over the steps before it.
-fn is_instance(
-    alloc: Global,
-    earlier: &[Step],
-    name: &Text,
-    citations: &Numbers,
-    arguments: &Terms,
-    judgement: &Judgement,
-) -> Result<bool, OutOfMemory>
-    requires earlier { AreCitable earlier.now }
-    requires small { JudgementIsSmall (judgement_of judgement.now) }
-    requires sorted { judgement_sorted (judgement_of judgement.now) ≡ true }
-    ensures { IfOk result (λ b. (ps : Procedures)
-        → is_checked (by_rule name.now citations.now (map term_of arguments.now)) ≡ true
-        → IsTrue b ↔ InstanceBy ps (by_rule name.now citations.now (map term_of arguments.now))
-        (steps_in earlier.now) (nameless_judgement (judgement_of judgement.now))) }
+// What the verdict on the step, of the procedure of this number, tells.
+fn judged(procedure: u32, step: u32, verdict: Verdict) -> Result<(), Refusal>
+    ensures fine { OnOk result (verdict_in verdict ≡ instance_verdict) }
+    ensures bad { IfErr result (λ e. (e ≡ r.Fails procedure step verdict)
+        × (verdict_in verdict ≢ instance_verdict)) }
 {
-    match judgement {
-        Judgement::Entails(entailment) => {
-            is_entailment_instance(alloc, earlier, name, citations, arguments, entailment)
-        }
-        Judgement::Triple(triple) => {
-            is_triple_instance(alloc, earlier, name, citations, arguments, triple)
+    match verdict {
+        Verdict::Instance => Ok(()),
+        Verdict::Shape | Verdict::Premises | Verdict::Side(_) => {
+            Err(Refusal::Fails {
+                procedure,
+                step,
+                verdict,
+            })
         }
     }
 }
 
-// Whether the step, of the procedure of this number, is an instance, and no gap.
-fn stands(alloc: Global, procedure: u32, earlier: &[Step], step: &Step) -> Result<(), Refusal>
+// Whether the step, of the procedure of this number, is an instance.
+fn stands(
+    alloc: Global,
+    theory: &Theory,
+    procedure: u32,
+    earlier: &[Step],
+    step: &Step,
+) -> Result<(), Refusal>
+    requires theory { TheoryIsSmall (theory_of theory.now) }
     requires earlier { AreCitable earlier.now }
     requires few { length earlier.now < 4294967295 }
     requires small { JudgementIsSmall (judgement_of step.now.judgement) }
     requires sorted { judgement_sorted (judgement_of step.now.judgement) ≡ true }
-    requires checked { is_checked (reason_of step.now.reason) ≡ true }
-    ensures fine { OnOk result ((ps : Procedures) → InstanceBy ps (reason_of step.now.reason)
-        (steps_in earlier.now) (nameless_judgement (judgement_of step.now.judgement))) }
-    ensures bad { IfErr result (λ e. (ps : Procedures) → StepRefused ps procedure
+    ensures fine { OnOk result (InstanceBy (procedures_of (theory_of theory.now))
+        (reason_of step.now.reason) (steps_in earlier.now)
+        (nameless_judgement (judgement_of step.now.judgement))) }
+    ensures bad { IfErr result (StepRefused (procedures_of (theory_of theory.now)) procedure
         (length earlier.now + 1) (steps_in earlier.now) (reason_of step.now.reason)
-        (nameless_judgement (judgement_of step.now.judgement)) e) }
+        (nameless_judgement (judgement_of step.now.judgement))) }
 {
+    let place = earlier.len() as u32 + 1;
     match &step.reason {
-        Reason::Auto => {
-            let step = earlier.len() as u32 + 1;
-            Err(Refusal::Gap { procedure, step })
-        }
-        Reason::Rule {
-            name,
-            premises,
-            arguments,
-        } => {
-            if is_instance(alloc, earlier, name, premises, arguments, &step.judgement)? {
-                Ok(())
-            } else {
-                Err(Refusal::NotAccepted)
-            }
+        Reason::Auto => Err(Refusal::Gap {
+            procedure,
+            step: place,
+        }),
+        Reason::Rule { .. } => {
+            let verdict = check_step(alloc, theory, earlier, step)?;
+            judged(procedure, place, verdict)
         }
     }
 }
 
 /// Whether each step, of the proof of the procedure of this number, is an instance of the rule that
-/// it names over the steps before it. The error says whether the first that isn't is a gap.
-pub(crate) fn check_steps(alloc: Global, procedure: u32, steps: &[Step]) -> Result<(), Refusal>
+/// it names over the steps before it. The error tells the first that isn't, and why.
+pub(crate) fn check_steps(
+    alloc: Global,
+    theory: &Theory,
+    procedure: u32,
+    steps: &[Step],
+) -> Result<(), Refusal>
+    requires theory { TheoryIsSmall (theory_of theory.now) }
     requires citable { AreCitable steps.now }
     requires few { length steps.now < 4294967295 }
     requires sorted { AllSorted steps.now }
-    requires checked { AllChecked steps.now }
-    ensures fine { OnOk result ((ps : Procedures) → AllInstances ps [] (steps_in steps.now)) }
+    ensures fine { OnOk result
+        (AllInstances (procedures_of (theory_of theory.now)) [] (steps_in steps.now)) }
     ensures bad { IfErr result
-        (λ e. (ps : Procedures) → StepsRefused ps procedure (steps_in steps.now) e) }
+        (StepsRefused (procedures_of (theory_of theory.now)) procedure (steps_in steps.now)) }
 {
     for (place, step) in steps.iter().enumerate() {
-        stands(alloc, procedure, &steps[..place], step)?;
+        stands(alloc, theory, procedure, &steps[..place], step)?;
     }
     Ok(())
 }

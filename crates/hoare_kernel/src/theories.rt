@@ -1,15 +1,13 @@
-// Which procedures are proved, and so which theories are accepted.
-ghost use Rattle.std.specs.Prelude.{◌≡◌, ◌<◌, IfErr, IfOk, None, OnOk, length, map};
-ghost use Rattle.model_commands.specs.Theories.{Procedures, nameless_procedure, procedures_of};
+// Which procedures are proved, and so which theories are accepted; why another one is refused.
+ghost use Rattle.std.specs.Prelude.{◌≡◌, ◌<◌, IfErr, IfOk, OnOk, length, map};
+ghost use Rattle.model_commands.specs.Theories.{nameless_procedure, procedures_of};
 ghost use Rattle.model_files.specs.FileFaults.{IsWellFormedTheory};
 ghost use Rattle.model_files.specs.FileLimits.{step_count};
 ghost use Rattle.model_files.specs.Sizes.{ProcedureIsSmall, TheoryIsSmall};
-ghost use Rattle.rule_table.specs.Checked.{first_unbuilt};
 ghost use Rattle.rule_table.specs.Accepted.{IsAccepted, IsProved};
 ghost use Rattle.theory_syntax.specs.Theories.{procedure_of, theory_of};
 ghost use Rattle.hoare_kernel.specs.Refusals.{Refuses};
-ghost use Rattle.hoare_kernel.specs.Walks.{AllChecked, AllSorted, AreNumbered};
-ghost use Rattle.hoare_kernel.specs.Walks.{EachChecked, EachSorted};
+ghost use Rattle.hoare_kernel.specs.Walks.{AllSorted, AreNumbered, EachSorted};
 ghost use Rattle.hoare_kernel.specs.Walks.{ProcedureRefused, ProceduresRefused, ProofIsNumbered};
 
 use crate::ends::ends_well;
@@ -19,22 +17,27 @@ use std::alloc::Global;
 use theory_syntax::{Procedure, Theory};
 
 // Whether the procedure, the one with this number, is proved.
-fn check_procedure(alloc: Global, procedure: &Procedure, number: u32) -> Result<(), Refusal>
+fn check_procedure(
+    alloc: Global,
+    theory: &Theory,
+    procedure: &Procedure,
+    number: u32,
+) -> Result<(), Refusal>
+    requires theory { TheoryIsSmall (theory_of theory.now) }
     requires small { ProcedureIsSmall (procedure_of procedure.now) }
     requires numbered { ProofIsNumbered procedure.now }
     requires few { length procedure.now.proof < 4294967295 }
     requires sorted { AllSorted procedure.now.proof }
-    requires checked { AllChecked procedure.now.proof }
-    ensures fine { OnOk result ((ps : Procedures)
-        → IsProved ps (nameless_procedure (procedure_of procedure.now))) }
-    ensures bad { IfErr result (λ e. (ps : Procedures)
-        → ProcedureRefused ps number (nameless_procedure (procedure_of procedure.now)) e) }
+    ensures fine { OnOk result (IsProved (procedures_of (theory_of theory.now))
+        (nameless_procedure (procedure_of procedure.now))) }
+    ensures bad { IfErr result (ProcedureRefused (procedures_of (theory_of theory.now)) number
+        (nameless_procedure (procedure_of procedure.now))) }
 {
-    check_steps(alloc, number, procedure.proof.as_slice())?;
+    check_steps(alloc, theory, number, procedure.proof.as_slice())?;
     if ends_well(alloc, procedure)? {
         Ok(())
     } else {
-        Err(Refusal::NotAccepted)
+        Err(Refusal::NoProof { procedure: number })
     }
 }
 
@@ -43,7 +46,6 @@ fn check_procedures(alloc: Global, theory: &Theory) -> Result<(), Refusal>
     requires small { TheoryIsSmall (theory_of theory.now) }
     requires numbered { AreNumbered theory.now.procedures }
     requires sorted { EachSorted theory.now.procedures }
-    requires checked { EachChecked theory.now.procedures }
     ensures fine { OnOk result (IsAccepted (theory_of theory.now)) }
     ensures bad { IfErr result (ProceduresRefused (procedures_of (theory_of theory.now))
         (procedures_of (theory_of theory.now)) 1) }
@@ -51,7 +53,7 @@ fn check_procedures(alloc: Global, theory: &Theory) -> Result<(), Refusal>
     let mut number = 0;
     for procedure in theory.procedures.as_slice() {
         number += 1;
-        check_procedure(alloc, procedure, number)?;
+        check_procedure(alloc, theory, procedure, number)?;
     }
     Ok(())
 }
@@ -70,13 +72,11 @@ fn count_steps(procedures: &[Procedure]) -> u32
 
 /// Whether the theory is accepted: each step is an instance of the rule that it names over the
 /// steps before it, and each proof ends in its procedure's own triple. Formulas are compared up to
-/// the names of bound variables. The theory is well formed, and names only rules that are checked
-/// today. The error says whether the first bad place is a gap. OutOfMemory comes only where memory
-/// is refused.
+/// the names of bound variables. The theory is well formed. The error tells the first bad place and
+/// why it is bad. OutOfMemory comes only where memory is refused.
 pub fn check_theory(alloc: Global, theory: &Theory) -> Result<Accepted, Refusal>
     requires small { TheoryIsSmall (theory_of theory.now) }
     requires formed { IsWellFormedTheory (theory_of theory.now) }
-    requires built { first_unbuilt (theory_of theory.now) ≡ None }
     ensures accepted { OnOk result (IsAccepted (theory_of theory.now)) }
     ensures counts { IfOk result (λ counts.
         (counts.procedures ≡ length theory.now.procedures)

@@ -1,136 +1,101 @@
-// Which triples are instances of the rules skip, assign and seq.
-ghost use Rattle.std.specs.Prelude.{◌≡◌, IfOk, map};
-ghost use Rattle.model_commands.specs.Theories.{by_rule};
-ghost use Rattle.dom_terms.specs.Sorts.{data_sort_of};
-ghost use Rattle.dom_terms.specs.Terms.{term_of};
-ghost use Rattle.formula_syntax.specs.Formulas.{formula_of};
-ghost use Rattle.theory_syntax.specs.Commands.{command_of};
-ghost use Rattle.theory_syntax.specs.Judgements.{step_of, triple_of};
-ghost use Rattle.cited_steps.specs.Earlier.{AreCitable};
-ghost use Rattle.model_files.specs.Sizes.{JudgementIsSmall};
-ghost use Rattle.hoare_kernel.specs.Tests as test;
+// The verdicts on triples, by the names of rules.
+ghost use Rattle.std.specs.Prelude.{[], ◌∷◌, IfOk, map};
+ghost use Rattle.model_files.specs.Sizes.{ProceduresAreSmall};
+ghost use Rattle.rule_table.specs.Rules as rules;
+ghost use Rattle.rule_table.specs.Table.{table, triples};
+ghost use Rattle.rule_table.specs.Verdicts.{IsVerdict, readings_in};
+ghost use Rattle.row_patterns.specs.Verdicts.{verdict_in};
+ghost use Rattle.theory_syntax.specs.Theories.{procedure_of};
+ghost use Rattle.triple_rules.specs.Procedures.{procedures_in};
+ghost use Rattle.triple_rules.specs.Written.{IsReady, written_in};
+ghost use Rattle.hoare_kernel.specs.Names.{name_of};
 
-use crate::chains::is_chain;
-use crate::same::{is_replaced, same};
-use dom_terms::{Numbers, OutOfMemory, Terms, Text, evaluates};
+use crate::axioms::axiom_by;
+use crate::letters;
+use crate::names::{TripleRule, triple_rule_of};
+use dom_syntax::modified;
+use dom_terms::{OutOfMemory, Verdict};
+use rule_rows::rule_of;
 use std::alloc::Global;
-use theory_syntax::{Command, Step, Triple};
+use theory_syntax::Procedure;
+use triple_rules::Written;
 
-fn is_nothing<T>(items: &[T]) -> bool
-    ensures { result ≡ test.no_items items.now }
+// The verdict of frame.
+fn frame(alloc: Global, written: &Written) -> Result<Verdict, OutOfMemory>
+    requires { IsReady written.now }
+    ensures { IfOk result (λ v. IsVerdict (rules.frame_rule ∷ []) (written_in written.now)
+        (verdict_in v)) }
 {
-    items.is_empty()
+    let changed = modified(alloc, &written.triple.command)?;
+    Ok(triple_rules::frame(alloc, written, changed.as_slice()))
 }
 
-fn is_skip(command: &Command) -> bool
-    ensures { result ≡ test.is_skip (command_of command.now) }
-{
-    match command {
-        Command::Skip => true,
-        _ => false,
-    }
-}
-
-// The rule skip.
-fn is_skip_triple(alloc: Global, triple: &Triple) -> Result<bool, OutOfMemory>
-    requires { JudgementIsSmall (triple_of triple.now) }
-    ensures { IfOk result (λ b. b ≡ test.skip_test (command_of triple.now.command)
-        (formula_of triple.now.pre) (formula_of triple.now.post)) }
-{
-    if is_skip(&triple.command) {
-        same(alloc, &triple.pre, &triple.post)
-    } else {
-        Ok(false)
-    }
-}
-
-// The rule assign.
-fn is_assign_triple(alloc: Global, triple: &Triple) -> Result<bool, OutOfMemory>
-    requires { JudgementIsSmall (triple_of triple.now) }
-    ensures { IfOk result (λ b. b ≡ test.assign_test (formula_of triple.now.pre)
-        (command_of triple.now.command) (formula_of triple.now.post)) }
-{
-    match &triple.command {
-        Command::Assign(variable, term) => {
-            if evaluates(term, variable.sort) {
-                is_replaced(alloc, &triple.post, variable, term, &triple.pre)
-            } else {
-                Ok(false)
-            }
-        }
-        _ => Ok(false),
-    }
-}
-
-// The rule seq.
-fn is_seq_triple(
+// The verdict of the rule.
+fn verdict_of(
     alloc: Global,
-    earlier: &[Step],
-    citations: &[u32],
-    triple: &Triple,
-) -> Result<bool, OutOfMemory>
-    requires earlier { AreCitable earlier.now }
-    requires triple { JudgementIsSmall (triple_of triple.now) }
-    ensures { IfOk result (λ b. b ≡ test.seq_test (map step_of earlier.now) citations.now
-        (formula_of triple.now.pre) (command_of triple.now.command) (formula_of triple.now.post)
-        (data_sort_of triple.now.sort)) }
+    rule: TripleRule,
+    written: &Written,
+    procedures: &[Procedure],
+) -> Result<Verdict, OutOfMemory>
+    requires written { IsReady written.now }
+    requires procedures { ProceduresAreSmall (map procedure_of procedures.now) }
+    ensures { IfOk result (λ v. IsVerdict
+        (readings_in (triples (procedures_in procedures.now)) (name_of rule))
+        (written_in written.now) (verdict_in v)) }
 {
-    match &triple.command {
-        Command::Block(block) => {
-            if is_nothing(block.as_slice()) {
-                Ok(false)
-            } else {
-                is_chain(alloc, earlier, citations, triple, block.as_slice())
-            }
-        }
-        _ => Ok(false),
+    match rule {
+        TripleRule::Skip => Ok(triple_rules::skip(alloc, written)),
+        TripleRule::Assign => Ok(triple_rules::assign(written)),
+        TripleRule::Seq => Ok(triple_rules::seq(alloc, written)),
+        TripleRule::If => Ok(triple_rules::if_else(alloc, written)),
+        TripleRule::While => Ok(triple_rules::while_do(alloc, written)),
+        TripleRule::Local => Ok(triple_rules::local(alloc, written)),
+        TripleRule::Call => triple_rules::call(alloc, written, procedures),
+        TripleRule::Frame => frame(alloc, written),
+        TripleRule::Consequence => Ok(triple_rules::consequence(alloc, written)),
+        TripleRule::Eliminate => letters::eliminate(alloc, written),
+        TripleRule::Disjunction => Ok(triple_rules::disjunction(alloc, written)),
+        TripleRule::Absurd => Ok(triple_rules::absurd(written)),
+        TripleRule::Instance => letters::instance(alloc, written),
     }
 }
 
-// Whether the triple is an instance of the rule of this name, which takes no arguments.
-fn is_triple_by(
+// The verdict of the rule for triples, or of the axiom, of that name.
+fn verdict_named(
     alloc: Global,
-    earlier: &[Step],
-    name: &Text,
-    citations: &Numbers,
-    triple: &Triple,
-) -> Result<bool, OutOfMemory>
-    requires earlier { AreCitable earlier.now }
-    requires triple { JudgementIsSmall (triple_of triple.now) }
-    ensures { IfOk result (λ b. b ≡ test.triple_test (map step_of earlier.now) name.now
-        citations.now (formula_of triple.now.pre) (command_of triple.now.command)
-        (formula_of triple.now.post) (data_sort_of triple.now.sort)) }
+    name: &str,
+    written: &Written,
+    procedures: &[Procedure],
+) -> Result<Verdict, OutOfMemory>
+    requires written { IsReady written.now }
+    requires procedures { ProceduresAreSmall (map procedure_of procedures.now) }
+    ensures { IfOk result (λ v. IsVerdict
+        (readings_in (triples (procedures_in procedures.now)) name.now)
+        (written_in written.now) (verdict_in v)) }
 {
-    if name.as_str() == "seq" {
-        is_seq_triple(alloc, earlier, citations.as_slice(), triple)
-    } else if !is_nothing(citations.as_slice()) {
-        Ok(false)
-    } else if name.as_str() == "skip" {
-        is_skip_triple(alloc, triple)
-    } else if name.as_str() == "assign" {
-        is_assign_triple(alloc, triple)
-    } else {
-        Ok(false)
+    match triple_rule_of(name) {
+        Some(rule) => verdict_of(alloc, rule, written, procedures),
+        None => Ok(axiom_by(name, written)),
     }
 }
 
-/// Whether the triple is an instance of the rule of this name, one of skip, assign and seq.
-pub(crate) fn is_triple_instance(
+/// The verdict on a triple by the rule of that name, in a theory with these procedures. By a rule
+/// of entailment, as by a name of no rule, it is that the conclusion doesn't fit.
+pub fn triple_by(
     alloc: Global,
-    earlier: &[Step],
-    name: &Text,
-    citations: &Numbers,
-    arguments: &Terms,
-    triple: &Triple,
-) -> Result<bool, OutOfMemory>
-    requires earlier { AreCitable earlier.now }
-    requires triple { JudgementIsSmall (triple_of triple.now) }
-    ensures { IfOk result (λ b. b ≡ test.rule_test (map step_of earlier.now)
-        (by_rule name.now citations.now (map term_of arguments.now)) (triple_of triple.now)) }
+    name: &str,
+    written: &Written,
+    procedures: &[Procedure],
+) -> Result<Verdict, OutOfMemory>
+    requires written { IsReady written.now }
+    requires procedures { ProceduresAreSmall (map procedure_of procedures.now) }
+    ensures { IfOk result (λ v. IsVerdict
+        (readings_in (table (procedures_in procedures.now)) name.now)
+        (written_in written.now) (verdict_in v)) }
 {
-    if is_nothing(arguments.as_slice()) {
-        is_triple_by(alloc, earlier, name, citations, triple)
+    if rule_of(name).is_some() {
+        Ok(Verdict::Shape)
     } else {
-        Ok(false)
+        verdict_named(alloc, name, written, procedures)
     }
 }

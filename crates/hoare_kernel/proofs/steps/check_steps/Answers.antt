@@ -1,16 +1,16 @@
 -- A step that is an instance, and the first that is none.
 use Rattle.std.proofs.Common.{◌≡◌, ◌+◌, sym, refl, ap, subst, arith, true, take, length}
 use Rattle.std.proofs.lemmas.List.{length-take-le}
-use Rattle.model_commands.specs.Theories.{Procedures}
+use Rattle.model_commands.specs.Theories.{procedures_of}
 use Rattle.model_files.specs.FileFaults.{judgement_sorted}
 use Rattle.model_files.specs.Sizes.{JudgementIsSmall}
-use Rattle.rule_table.specs.Checked.{is_checked}
 use Rattle.theory_syntax.specs.declared.steps.Step.{Step}
-use Rattle.theory_syntax.specs.Judgements.{judgement_of, reason_of}
+use Rattle.theory_syntax.specs.Judgements.{judgement_of}
+use Rattle.theory_syntax.specs.Theories.{theory_of}
 use Rattle.cited_steps.specs.Earlier.{steps_in}
 use Rattle.cited_steps.proofs.Numbers.{citable_before}
 use Rattle.hoare_kernel.specs.Walks.{StepsRefused}
-use Rattle.hoare_kernel.proofs.Walks.{handed_out, passed_step, refused_step, small_at, sorted_at, checked_at}
+use Rattle.hoare_kernel.proofs.Walks.{handed_out, passed_step, refused_step, small_at, sorted_at}
 use Rattle.hoare_kernel.proofs.steps.check_steps.Goals as goal
 
 pub stands-requires-clause-earlier : goal.stands-requires-clause-earlier
@@ -30,28 +30,23 @@ stands-requires-clause-sorted c =
     (sorted_at c.args.steps.now c.index-steps-place.result c.loop-place.place
     (omega (arith, c.loop-place-test.true)) c.requires.sorted)
 
-pub stands-requires-clause-checked : goal.stands-requires-clause-checked
-stands-requires-clause-checked c =
-    subst (λ (z : Step). is_checked (reason_of z.reason) ≡ true) (sym c.index-steps-place.is)
-    (checked_at c.args.steps.now c.index-steps-place.result c.loop-place.place
-    (omega (arith, c.loop-place-test.true)) c.requires.checked)
-
 pub returns-in_err-stands-clause-bad : goal.returns-in_err-stands-clause-bad
 returns-in_err-stands-clause-bad c =
-    handed_out (λ e. (ps : Procedures)
-    → StepsRefused ps c.args.procedure (steps_in c.args.steps.now) e) c.from_residual.result
-    c.in_err-stands.field-0.0 c.from_residual.ensures.1
-    (λ ps. refused_step ps c.args.steps.now (take c.loop-place.place c.args.steps.now)
+    let ps = procedures_of (theory_of c.args.theory.now) in
+    handed_out (StepsRefused ps c.args.procedure (steps_in c.args.steps.now))
+    c.from_residual.result c.in_err-stands.field-0.0 c.from_residual.ensures.1
+    (refused_step ps c.args.steps.now (take c.loop-place.place c.args.steps.now)
     c.index-steps-place.result c.index-steps-place.result c.loop-place.place
     (omega (arith, c.loop-place-test.true)) refl c.index-steps-place.is
-    (c.loop-place.invariant ps) c.args.procedure
+    c.loop-place.invariant c.args.procedure
     (length (take c.loop-place.place c.args.steps.now) + 1) c.in_err-stands.field-0.0
     (ap (λ n. n + 1) (length-take-le c.loop-place.place c.args.steps.now
-    (omega (arith, c.loop-place-test.true)))) (c.in_err-stands.ensures.bad ps))
+    (omega (arith, c.loop-place-test.true)))) c.in_err-stands.ensures.bad)
 
 pub loop-place-preserved : goal.loop-place-preserved
-loop-place-preserved c = λ ps.
-    passed_step ps c.args.steps.now (take c.loop-place.place c.args.steps.now)
+loop-place-preserved c =
+    passed_step (procedures_of (theory_of c.args.theory.now)) c.args.steps.now
+    (take c.loop-place.place c.args.steps.now)
     c.index-steps-place.result c.index-steps-place.result c.loop-place.place
     (omega (arith, c.loop-place-test.true)) refl c.index-steps-place.is
-    (c.loop-place.invariant ps) (c.in_ok-stands.ensures.fine ps)
+    c.loop-place.invariant c.in_ok-stands.ensures.fine

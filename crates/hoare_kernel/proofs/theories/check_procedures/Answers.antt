@@ -26,4 +26,4 @@ returns-in_err-check_procedure-clause-bad c =
     (subst (λ (z : Procedure). ProcedureRefused ps number (nameless_procedure (procedure_of z)) e)
     (c.procedure-item.is
     ∙ ap (λ (z : List Procedure). get_or z k item) c.as_slice-procedure-items.ensures)
-    (c.in_err-check_procedure.ensures.bad ps)))
+    c.in_err-check_procedure.ensures.bad))

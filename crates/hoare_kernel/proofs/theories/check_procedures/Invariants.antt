@@ -4,7 +4,7 @@ use Rattle.model_files.specs.FileLimits.{step_count}
 use Rattle.model_files.specs.Sizes.{ProceduresAreSmall}
 use Rattle.rule_table.specs.Accepted.{Each, IsProved}
 use Rattle.theory_syntax.specs.Theories.{procedure_of, theory_of}
-use Rattle.hoare_kernel.specs.Walks.{AreNumbered, EachChecked, EachSorted}
+use Rattle.hoare_kernel.specs.Walks.{AreNumbered, EachSorted}
 use Rattle.hoare_kernel.proofs.theories.check_procedures.Given as goal
 
 abbrev pub invariant-loop-procedure : goal.invariant-loop-procedure
@@ -14,7 +14,6 @@ invariant-loop-procedure l = record {
   small : ProceduresAreSmall (map procedure_of (drop l.procedure-index l.theory.procedures));
   numbered : AreNumbered (drop l.procedure-index l.theory.procedures);
   sorted : EachSorted (drop l.procedure-index l.theory.procedures);
-  checked : EachChecked (drop l.procedure-index l.theory.procedures);
   at : l.number ≡ l.procedure-index;
   few : step_count (map procedure_of (drop l.procedure-index l.theory.procedures)) < 4294967295;
 }

@@ -1,4 +1,4 @@
-use Rattle.hoare_kernel.proofs.WellFormed.{theory-fine, theory-checked}
+use Rattle.hoare_kernel.proofs.WellFormed.{theory-fine}
 use Rattle.hoare_kernel.proofs.theories.check_theory.Goals as goal
 
 pub check_procedures-requires-clause-numbered : goal.check_procedures-requires-clause-numbered
@@ -7,6 +7,3 @@ check_procedures-requires-clause-numbered c =
 
 pub check_procedures-requires-clause-sorted : goal.check_procedures-requires-clause-sorted
 check_procedures-requires-clause-sorted c = (theory-fine c.args.theory.now c.requires.formed).1
-
-pub check_procedures-requires-clause-checked : goal.check_procedures-requires-clause-checked
-check_procedures-requires-clause-checked c = theory-checked c.args.theory.now c.requires.built
