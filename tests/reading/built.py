@@ -7,7 +7,7 @@ from reading.patterns import OF_ENTAILMENTS
 
 STAGES = ("plain", "entailment", "triples")
 # The stage that the program has reached.
-STAGE = "entailment"
+STAGE = "triples"
 NOT_ACCEPTED = b"not accepted\n"
 
 

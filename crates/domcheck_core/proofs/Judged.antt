@@ -9,7 +9,7 @@ use Rattle.model_answers.specs.Words.{Request, check, run}
 use Rattle.model_text.specs.Lexemes.{Lexeme}
 use Rattle.model_limits.specs.Limits.{LimitKind, file_limit}
 use Rattle.model_answers.specs.Texts.{IsFile}
-use Rattle.domcheck_core.specs.Answers.{Books, Answer, limit_answer, Unread, over_limit, Verdict, is_unbuilt, says_yes, has_gap, says_no, CheckAnswer, no_file, judged, DocumentAnswer, IsCalled, NotCalled, RunAnswer, not_run, not_called, is_called, IsAnswer, checked, ran, IsToldBook, IsTold}
+use Rattle.domcheck_core.specs.Answers.{Books, Answer, limit_answer, Unread, over_limit, Verdict, says_yes, has_gap, step_fails, has_no_proof, CheckAnswer, no_file, judged, DocumentAnswer, IsCalled, NotCalled, RunAnswer, not_run, not_called, is_called, IsAnswer, checked, ran, IsToldBook, IsTold}
 use Rattle.domcheck_core.specs.Books.{IsReply}
 use Rattle.domcheck_core.specs.Clauses.{OfFile, IsProved, ExactlyWhere, BadWordsExactly, IsAnswered, Wrote}
 use Rattle.outside_io.specs.Pieces.{Took}
@@ -30,11 +30,11 @@ too_large Spells most bad_line bytes s output long e =
 -- a yes is a proof
 sound_verdict : (bytes : List ℕ) (theory : Theory) (s : Status) (output : List ℕ)
     → IsFile bytes theory → Verdict theory s output → s ≡ status.Done → IsProved bytes
-sound_verdict bytes t s output file (is_unbuilt f n e) q = absurd cc
-sound_verdict bytes t s output file (says_yes e x) q =
+sound_verdict bytes t s output file (says_yes x) q =
     (t, file, accepted_theories_hold t file.well_formed x)
-sound_verdict bytes t s output file (has_gap n m f x e a h d) q = absurd cc
-sound_verdict bytes t s output file (says_no e x n) q = absurd cc
+sound_verdict bytes t s output file (has_gap n m f x a h d) q = absurd cc
+sound_verdict bytes t s output file (step_fails n m f x name ns ts v a h d r) q = absurd cc
+sound_verdict bytes t s output file (has_no_proof n m f a h) q = absurd cc
 
 -- the status is no yes
 abbrev IsNoYes : Status → Type 0

@@ -1,12 +1,14 @@
 -- A request has at most one answer.
 use Rattle.std.proofs.Common.{◌≡◌, ℕ, zero, suc, ◌<◌, List, Option, Some, None, option_map, refl, sym, ap, ◌∙◌, subst, arith}
 use Rattle.model_shapes.specs.Values.{Value}
+use Rattle.model_terms.specs.Terms.{Term}
 use Rattle.model_limits.specs.Limits.{LimitKind}
 use Rattle.model_limits.specs.FirstOf.{or_else}
 use Rattle.model_formulas.specs.Formulas.{Named}
-use Rattle.model_commands.specs.Theories.{ProcedureOf, StepOf, Theory}
+use Rattle.model_commands.specs.Theories.{ProcedureOf, StepOf, Theory, Reason, by_rule}
 use Rattle.model_files.specs.FileFaults.{FileFault, first_file_fault}
-use Rattle.rule_table.specs.Accepted.{BadPlace}
+use Rattle.rule_table.specs.Verdicts as verdicts
+use Rattle.rule_table.specs.Accepted.{Fault, gap, fails, no_proof, BadPlace}
 use Rattle.rule_table.proofs.Places.{accepted-none, one-first-bad}
 use Rattle.model_text.specs.Lexemes.{Lexeme}
 use Rattle.model_text.specs.Nesting.{lexemes_of}
@@ -16,10 +18,10 @@ use Rattle.model_grammar.specs.Theories.{SpellsTheory}
 use Rattle.model_answers.specs.Words.{Request}
 use Rattle.model_answers.specs.Arguments.{called}
 use Rattle.model_answers.specs.Texts.{text_limit, theory_limit, IsFile}
-use Rattle.model_answers.specs.Output.{bad_text_line, bad_document_text_line, unbuilt_line, gap_line}
+use Rattle.model_answers.specs.Output.{bad_text_line, bad_document_text_line, fail_line, no_proof_line, gap_line}
 use Rattle.proof_text.proofs.Exact.{one_theory}
 use Rattle.logic_text.proofs.Exact.{at_most_one}
-use Rattle.domcheck_core.specs.Answers.{Books, Answer, limit_answer, fault_answer, Unread, over_limit, spells_nothing, theory_refusal, NoFile, unread, refused, numbered, Verdict, is_unbuilt, says_yes, has_gap, says_no, CheckAnswer, no_file, judged, grove_answer, DocumentAnswer, no_document, is_document, IsCalled, NotCalled, RunAnswer, not_run, not_called, is_called, IsAnswer, bad_words, checked, ran, IsToldBook, IsTold}
+use Rattle.domcheck_core.specs.Answers.{Books, Answer, limit_answer, fault_answer, Unread, over_limit, spells_nothing, theory_refusal, NoFile, unread, refused, numbered, Verdict, IsBadAt, says_yes, has_gap, step_fails, has_no_proof, CheckAnswer, no_file, judged, grove_answer, DocumentAnswer, no_document, is_document, IsCalled, NotCalled, RunAnswer, not_run, not_called, is_called, IsAnswer, bad_words, checked, ran, IsToldBook, IsTold}
 use Rattle.domcheck_core.specs.declared.status.Status.{Status}
 
 -- values in options
@@ -117,45 +119,105 @@ one_no_file bytes s t o p (refused u e spelled f) (refused v d spells g) =
     (ap theory_refusal (one_theory (lexemes_of bytes) u v spelled spells) ∙ g)
 
 -- CHECK
+-- one has the number
+one_numbered : {A : Type 0} (n m : ℕ) (items others : List A) (a b : A) → n ≡ m → items ≡ others
+    → numbered n items ≡ Some a → numbered m others ≡ Some b → a ≡ b
+one_numbered n m items others a b p q d e =
+    let same : numbered n items ≡ numbered m others = λ i. numbered (p i) (q i) in
+    some_same a b (sym d ∙ same ∙ e)
+
+-- a step names one rule
+one_name : (x y : Reason) (name other citations others : List ℕ) (arguments more : List Term)
+    → x ≡ y → x ≡ by_rule name citations arguments → y ≡ by_rule other others more → name ≡ other
+one_name x y name other citations others arguments more e a b = cc
+
+one_failure : (v w : verdicts.Verdict) → fails v ≡ fails w → v ≡ w
+one_failure v w e = cc
+
+-- gaps, failing steps and ends differ
+no_gap_fails : (v : verdicts.Verdict) → gap ≡ fails v → ⊥
+no_gap_fails v e = cc
+
+no_gap_ends : gap ≡ no_proof → ⊥
+no_gap_ends e = cc
+
+no_fault_ends : (v : verdicts.Verdict) → fails v ≡ no_proof → ⊥
+no_fault_ends v e = cc
+
+module _ (theory : Theory) where
+  one_fault : (n l m k : ℕ) (a b : Fault) → IsBadAt theory n l a → IsBadAt theory m k b → a ≡ b
+  one_fault n l m k a b x y = ap (λ (z : BadPlace). z.fault) (one-first-bad theory _ _ x y)
+
+  -- the procedure and the step of the first bad place
+  one_procedure : (n l m k : ℕ) (a b : Fault) (f g : ProcedureOf Named) → IsBadAt theory n l a
+      → IsBadAt theory m k b → numbered n theory.procedures ≡ Some f
+      → numbered m theory.procedures ≡ Some g → f ≡ g
+  one_procedure n l m k a b f g x y =
+      let same : n ≡ m = ap (λ (z : BadPlace). z.procedure) (one-first-bad theory _ _ x y) in
+      one_numbered n m theory.procedures theory.procedures f g same refl
+
+  one_step : (n l m k : ℕ) (a b : Fault) (f g : ProcedureOf Named) (x y : StepOf Named)
+      → IsBadAt theory n l a → IsBadAt theory m k b → f ≡ g → numbered l f.proof ≡ Some x
+      → numbered k g.proof ≡ Some y → x ≡ y
+  one_step n l m k a b f g x y h j e =
+      let same : l ≡ k = ap (λ (z : BadPlace). z.step) (one-first-bad theory _ _ h j) in
+      one_numbered l k f.proof g.proof x y same (ap (λ (z : ProcedureOf Named). z.proof) e)
+
 gap_lines : (f g : ProcedureOf Named) (x y : StepOf Named) → f ≡ g → x ≡ y
     → gap_line x.number f.name x.line ≡ gap_line y.number g.name y.line
-gap_lines f g x y e d = subst (λ (z : ProcedureOf Named). gap_line x.number f.name x.line
-    ≡ gap_line y.number z.name y.line) e
-    (ap (λ (z : StepOf Named). gap_line z.number f.name z.line) d)
+gap_lines f g x y e d = λ i. gap_line (d i).number (e i).name (d i).line
+
+fail_lines : (f g : ProcedureOf Named) (x y : StepOf Named) (name other : List ℕ)
+    (v w : verdicts.Verdict) → f ≡ g → x ≡ y → name ≡ other → v ≡ w
+    → fail_line x.number f.name x.line name v ≡ fail_line y.number g.name y.line other w
+fail_lines f g x y name other v w e d n h =
+    λ i. fail_line (d i).number (e i).name (d i).line (n i) (h i)
 
 one_verdict : (theory : Theory) (s t : Status) (o p : List ℕ) → Verdict theory s o
     → Verdict theory t p → Equal s o t p
-one_verdict theory s t o p (is_unbuilt f n e) (is_unbuilt g m h) =
-    let same : (f, n) ≡ (g, m) = some_same (f, n) (g, m) (sym e ∙ h) in
-    (refl, ap (λ (z : ℕ × ℕ). unbuilt_line z.0 z.1) same)
-one_verdict theory s t o p (is_unbuilt f n e) (says_yes h y) = absurd (some_none _ (sym e ∙ h))
-one_verdict theory s t o p (is_unbuilt f n e) (has_gap q m g x h a b d) =
-    absurd (some_none _ (sym e ∙ h))
-one_verdict theory s t o p (is_unbuilt f n e) (says_no h y z) = absurd (some_none _ (sym e ∙ h))
-one_verdict theory s t o p (says_yes e x) (is_unbuilt g m h) = absurd (some_none _ (sym h ∙ e))
-one_verdict theory s t o p (says_yes e x) (says_yes h y) = (refl, refl)
-one_verdict theory s t o p (says_yes e x) (has_gap q m g y h a b d) =
-    absurd (accepted-none theory _ x a)
-one_verdict theory s t o p (says_yes e x) (says_no h y z) = absurd (y x)
-one_verdict theory s t o p (has_gap n l f x e a b d) (is_unbuilt g m h) =
-    absurd (some_none _ (sym h ∙ e))
-one_verdict theory s t o p (has_gap n l f x e a b d) (says_yes h y) =
+one_verdict theory s t o p (says_yes x) (says_yes y) = (refl, refl)
+one_verdict theory s t o p (says_yes x) (has_gap m k g y c u v) =
+    absurd (accepted-none theory _ x c)
+one_verdict theory s t o p (says_yes x) (step_fails m k g y name ns ts w c u v r) =
+    absurd (accepted-none theory _ x c)
+one_verdict theory s t o p (says_yes x) (has_no_proof m k g c u) =
+    absurd (accepted-none theory _ x c)
+one_verdict theory s t o p (has_gap n l f x a b d) (says_yes y) =
     absurd (accepted-none theory _ y a)
-one_verdict theory s t o p (has_gap n l f x e a b d) (has_gap m k g y h c u v) =
-    let same = one-first-bad theory _ _ a c in
-    let procedures : n ≡ m = ap (λ (z : BadPlace). z.procedure) same in
-    let places : l ≡ k = ap (λ (z : BadPlace). z.step) same in
-    let one : f ≡ g = some_same f g
-    (sym b ∙ ap (λ (z : ℕ). numbered z theory.procedures) procedures ∙ u) in
-    let step : x ≡ y = some_same x y
-    (sym d ∙ ap (λ (z : ℕ). numbered z f.proof) places
-    ∙ ap (λ (z : ProcedureOf Named). numbered k z.proof) one ∙ v) in
-    (refl, gap_lines f g x y one step)
-one_verdict theory s t o p (has_gap n l f x e a b d) (says_no h y z) = absurd (z n l a)
-one_verdict theory s t o p (says_no e x n) (is_unbuilt g m h) = absurd (some_none _ (sym h ∙ e))
-one_verdict theory s t o p (says_no e x n) (says_yes h y) = absurd (x y)
-one_verdict theory s t o p (says_no e x n) (has_gap q m g y h a b d) = absurd (n q m a)
-one_verdict theory s t o p (says_no e x n) (says_no h y z) = (refl, refl)
+one_verdict theory s t o p (has_gap n l f x a b d) (has_gap m k g y c u v) =
+    let one : f ≡ g = one_procedure theory n l m k gap gap f g a c b u in
+    (refl, gap_lines f g x y one (one_step theory n l m k gap gap f g x y a c one d v))
+one_verdict theory s t o p (has_gap n l f x a b d) (step_fails m k g y name ns ts w c u v r) =
+    absurd (no_gap_fails w (one_fault theory n l m k gap (fails w) a c))
+one_verdict theory s t o p (has_gap n l f x a b d) (has_no_proof m k g c u) =
+    absurd (no_gap_ends (one_fault theory n l m k gap no_proof a c))
+one_verdict theory s t o p (step_fails n l f x name ns ts z a b d q) (says_yes y) =
+    absurd (accepted-none theory _ y a)
+one_verdict theory s t o p (step_fails n l f x name ns ts z a b d q) (has_gap m k g y c u v) =
+    absurd (no_gap_fails z (one_fault theory m k n l gap (fails z) c a))
+one_verdict theory s t o p (step_fails n l f x name ns ts z a b d q)
+    (step_fails m k g y other ms us w c u v r) =
+    let one : f ≡ g = one_procedure theory n l m k (fails z) (fails w) f g a c b u in
+    let step : x ≡ y = one_step theory n l m k (fails z) (fails w) f g x y a c one d v in
+    let named : name ≡ other = one_name x.reason y.reason name other ns ms ts us
+    (ap (λ (z : StepOf Named). z.reason) step) q r in (
+      refl,
+      fail_lines f g x y name other z w one step named
+          (one_failure z w (one_fault theory n l m k (fails z) (fails w) a c)),
+    )
+one_verdict theory s t o p (step_fails n l f x name ns ts z a b d q) (has_no_proof m k g c u) =
+    absurd (no_fault_ends z (one_fault theory n l m k (fails z) no_proof a c))
+one_verdict theory s t o p (has_no_proof n l f a b) (says_yes y) =
+    absurd (accepted-none theory _ y a)
+one_verdict theory s t o p (has_no_proof n l f a b) (has_gap m k g y c u v) =
+    absurd (no_gap_ends (one_fault theory m k n l gap no_proof c a))
+one_verdict theory s t o p (has_no_proof n l f a b) (step_fails m k g y name ns ts w c u v r) =
+    absurd (no_fault_ends w (one_fault theory m k n l (fails w) no_proof c a))
+one_verdict theory s t o p (has_no_proof n l f a b) (has_no_proof m k g c u) = (
+  refl,
+  ap (λ (z : ProcedureOf Named). no_proof_line z.name)
+      (one_procedure theory n l m k no_proof no_proof f g a c b u),
+)
 
 pub one_check : (bytes : List ℕ) (s t : Status) (o p : List ℕ)
     → CheckAnswer bytes s o → CheckAnswer bytes t p → Equal s o t p

@@ -18,7 +18,7 @@ use Rattle.model_answers.specs.Output.{range_line, repeat_line}
 use Rattle.model_text.specs.Lexemes.{Lexeme}
 use Rattle.model_files.specs.FileFaults.{FileFault, first_file_fault}
 use Rattle.model_answers.specs.Texts.{text_limit, theory_limit}
-use Rattle.domcheck_core.specs.Answers.{Books, IsAnswer, bad_words, Answer, limit_answer, fault_answer, Unread, over_limit, spells_nothing, NoFile, unread, refused, Verdict, is_unbuilt, says_yes, has_gap, says_no, CheckAnswer, no_file, judged, outcome_answer, outcome_on, range_refusal, repeat_refusal, size_refusal, refusal, grove_answer, DocumentAnswer, no_document, is_document, RunAnswer, not_run, not_called, is_called}
+use Rattle.domcheck_core.specs.Answers.{Books, IsAnswer, bad_words, Answer, limit_answer, fault_answer, Unread, over_limit, spells_nothing, NoFile, unread, refused, Verdict, says_yes, has_gap, step_fails, has_no_proof, CheckAnswer, no_file, judged, outcome_answer, outcome_on, range_refusal, repeat_refusal, size_refusal, refusal, grove_answer, DocumentAnswer, no_document, is_document, RunAnswer, not_run, not_called, is_called}
 use Rattle.domcheck_core.specs.Clauses.{statuses, ReadRose}
 use Rattle.domcheck_core.specs.Books.{IsReply}
 use Rattle.domcheck_core.specs.Numbers.{number_of}
@@ -149,10 +149,10 @@ speaks_no_file bytes s o a = all_no_file Speaks (λ kind. refl) refl bytes s o r
 
 speaks_verdict : (theory : Theory) (s : Status) (o : List ℕ) → Verdict theory s o
     → speaks s ≡ true
-speaks_verdict theory s o (is_unbuilt f n e) = refl
-speaks_verdict theory s o (says_yes e x) = refl
-speaks_verdict theory s o (has_gap n m f x e a h d) = refl
-speaks_verdict theory s o (says_no e x n) = refl
+speaks_verdict theory s o (says_yes x) = refl
+speaks_verdict theory s o (has_gap n m f x a h d) = refl
+speaks_verdict theory s o (step_fails n m f x name ns ts v a h d r) = refl
+speaks_verdict theory s o (has_no_proof n m f a h) = refl
 
 speaks_check : (bytes : List ℕ) (s : Status) (o : List ℕ) → CheckAnswer bytes s o
     → speaks s ≡ true
@@ -192,10 +192,10 @@ module _ (file : List ℕ) where
 
   possible_verdict : (theory : Theory) (s : Status) (o : List ℕ) → Verdict theory s o
       → PossibleCheck s
-  possible_verdict theory s o (is_unbuilt f n e) = (3, lit< tt, refl)
-  possible_verdict theory s o (says_yes e x) = (0, lit< tt, refl)
-  possible_verdict theory s o (has_gap n m f x e a h d) = (5, lit< tt, refl)
-  possible_verdict theory s o (says_no e x n) = (1, lit< tt, refl)
+  possible_verdict theory s o (says_yes x) = (0, lit< tt, refl)
+  possible_verdict theory s o (has_gap n m f x a h d) = (5, lit< tt, refl)
+  possible_verdict theory s o (step_fails n m f x name ns ts v a h d r) = (1, lit< tt, refl)
+  possible_verdict theory s o (has_no_proof n m f a h) = (1, lit< tt, refl)
 
   possible_check : (bytes : List ℕ) (s : Status) (o : List ℕ) → CheckAnswer bytes s o
       → PossibleCheck s

@@ -1,29 +1,27 @@
 -- Verdicts on the theory of a file, from what the kernel answers.
-use Rattle.std.proofs.Common.{◌≡◌, ◌∙◌, ℕ, zero, suc, ◌+◌, Option, Some, None, option_map, sym, ap, subst, slice_get, length, List, map, [], arith}
+use Rattle.std.proofs.Common.{◌≡◌, ◌∙◌, ℕ, zero, suc, ◌+◌, Option, Some, option_map, sym, ap, subst, slice_get, length, List, map, [], ◌∷◌, ◌++◌, ⊎_elim, arith}
 use Rattle.std.proofs.lemmas.List.{length-map}
 use Rattle.std.proofs.lemmas.Option.{slice_get-map}
-use Rattle.model_commands.specs.Theories.{nameless_procedure, procedures_of}
+use Rattle.model_commands.specs.Theories as model
+use Rattle.model_commands.specs.Theories.{auto, by_rule, nameless_procedure, nameless_step, procedures_of}
 use Rattle.model_files.specs.FileLimits.{step_count}
-use Rattle.rule_table.specs.Checked.{first_unbuilt}
-use Rattle.model_answers.specs.Output.{line, accepted_text, accepted_line, gap_line}
-use Rattle.rule_table.specs.Accepted.{gap, no_proof, BadPlace, IsFirstBad}
+use Rattle.model_answers.specs.Output.{line, accepted_text, accepted_line, fail_line, no_proof_line, gap_line}
+use Rattle.rule_table.specs.Verdicts as verdicts
+use Rattle.rule_table.specs.Accepted.{Fault, gap, fails, no_proof, VerdictBy, BadPlace, FirstBadStep, IsFirstBad}
 use Rattle.theory_syntax.specs.declared.steps.Step.{Step}
 use Rattle.theory_syntax.specs.declared.theories.Procedure.{Procedure}
 use Rattle.theory_syntax.specs.declared.theories.Theory.{Theory}
-use Rattle.theory_syntax.specs.Judgements.{step_of}
+use Rattle.theory_syntax.specs.declared.steps.Reason.TheVariants as r
+use Rattle.theory_syntax.specs.Judgements.{reason_of, step_of}
 use Rattle.theory_syntax.specs.Theories.{procedure_of, theory_of}
-use Rattle.hoare_kernel.specs.Refusals.{IsGapAt}
+use Rattle.cited_steps.specs.Earlier.{steps_in}
 use Rattle.hoare_kernel.proofs.BadPlaces.{ProcedureThere, procedure-there, StepThere, step-there}
-use Rattle.domcheck_core.specs.Answers.{numbered, Verdict, has_gap}
-use Rattle.domcheck_core.specs.Stands.{HasProcedure, HasStep}
+use Rattle.domcheck_core.specs.Answers.{numbered, IsBadAt, Verdict, has_gap, step_fails, has_no_proof}
+use Rattle.domcheck_core.specs.Stands.{HasProcedure, HasStep, NamesRule}
 use Rattle.domcheck_core.specs.declared.status.Status.TheVariants as status
 
 some_same : {A : Type 0} (a b : A) → Some a ≡ Some b → a ≡ b
 some_same a b e = cc
-
-pub absent : {A : Type 0} (at found : Option A) (a : A) → at ≡ None → at ≡ found → found ≡ Some a
-    → ⊥
-absent at found a e d f = cc
 
 -- the one with the number, by its place
 at-place : {A : Type 0} (items : List A) (n k : ℕ) (a : A) → n ≡ 1 + k
@@ -67,21 +65,92 @@ has-step theory bad f h n e =
       there = at-place a.procedure.proof bad.step b.place b.step b.counted b.there;
     }
 
--- a gap there, as a bad place; it is no end
-abbrev pub gap-place : ℕ → ℕ → BadPlace
-gap-place procedure step = record { procedure = procedure; step = step; fault = gap }
+-- a bad place; gaps and steps that fail are no ends
+abbrev pub bad-place : ℕ → ℕ → Fault → BadPlace
+bad-place procedure step fault = record { procedure = procedure; step = step; fault = fault }
 
 pub gap-no-end : gap ≡ no_proof → ⊥
 gap-no-end e = cc
 
+pub failure-no-end : (v : verdicts.Verdict) → fails v ≡ no_proof → ⊥
+failure-no-end v e = cc
+
+-- there is no verdict on a gap
+no-verdict : (ps : model.Procedures) (reason : model.Reason) (earlier : List model.Step)
+    (j : model.Judgement) (v : verdicts.Verdict) → VerdictBy ps reason earlier j v → reason ≡ auto
+    → ⊥
+no-verdict ps auto earlier j v h e = h
+no-verdict ps (by_rule name ns arguments) earlier j v h e = cc
+
+-- so a step that fails is none
+not-left-open : (ps : model.Procedures) (f : model.Procedure) (earlier : List model.Step)
+    (steps : List Step) (at bad k : ℕ) (v : verdicts.Verdict) (x : Step)
+    → FirstBadStep ps f earlier (steps_in steps) at bad (fails v) → bad ≡ at + k
+    → slice_get steps k ≡ Some x → reason_of x.reason ≡ auto → ⊥
+not-left-open ps f earlier [] at bad k v x h n there e = failure-no-end v h.1
+not-left-open ps f earlier (y ∷ steps) at bad zero v x h n there e = ⊎_elim
+    (λ here. no-verdict ps (reason_of y.reason) earlier (nameless_step (step_of y)).judgement v here.1.0
+    (ap (λ (z : Step). reason_of z.reason) (some_same y x there) ∙ e))
+    (λ later. behind (step-there ps f (earlier ++ nameless_step (step_of y) ∷ []) steps (at + 1) bad
+    (fails v) later.1 (failure-no-end v))) h
+  where
+    behind : StepThere steps (at + 1) bad → ⊥
+    behind a = absurd (omega (arith, a.counted, n))
+not-left-open ps f earlier (y ∷ steps) at bad (suc k) v x h n there e = ⊎_elim
+    (λ here. absurd (omega (arith, here.0, n)))
+    (λ later. not-left-open ps f (earlier ++ nameless_step (step_of y) ∷ []) steps (at + 1) bad k v x
+    later.1 (omega (arith, n)) there e) h
+
+-- by its number
+not-open-at : (ps : model.Procedures) (f : model.Procedure) (steps : List Step) (bad : ℕ)
+    (v : verdicts.Verdict) (x : Step) → FirstBadStep ps f [] (steps_in steps) 1 bad (fails v)
+    → numbered bad steps ≡ Some x → reason_of x.reason ≡ auto → ⊥
+not-open-at ps f steps zero v x h e d = absurd cc
+not-open-at ps f steps (suc k) v x h e d =
+    not-left-open ps f [] steps 1 (suc k) k v x h (omega arith) e d
+
+-- so it names a rule
+pub has-rule : (theory : Theory) (procedure place : ℕ) (v : verdicts.Verdict) (f : Procedure)
+    (x : Step) → IsBadAt (theory_of theory) procedure place (fails v)
+    → numbered procedure theory.procedures ≡ Some f → numbered place f.proof ≡ Some x
+    → reason_of x.reason ≡ auto → ⊥
+has-rule theory procedure place v f x h e d q =
+    let bad = bad-place procedure place (fails v) in
+    let a : ProcedureThere theory bad = procedure-there theory bad h in
+    let same : a.procedure ≡ f = some_same a.procedure f
+    (sym (at-place theory.procedures procedure a.place a.procedure a.counted a.there) ∙ e) in
+    not-open-at (procedures_of (theory_of theory)) (nameless_procedure (procedure_of f)) f.proof place
+    v x (subst (λ (z : Procedure). FirstBadStep (procedures_of (theory_of theory))
+    (nameless_procedure (procedure_of z)) [] (steps_in z.proof) 1 place (fails v)) same a.first) d q
+
 -- the gap, as it is read
 pub gap-verdict : (theory : Theory) (procedure place : ℕ) (f : Procedure) (x : Step)
-    → first_unbuilt (theory_of theory) ≡ None → IsGapAt theory procedure place
+    → IsBadAt (theory_of theory) procedure place gap
     → numbered procedure theory.procedures ≡ Some f → numbered place f.proof ≡ Some x
     → Verdict (theory_of theory) status.GapLeft (gap_line x.number f.name x.line)
-gap-verdict theory procedure place f x built first e d =
-    has_gap procedure place (procedure_of f) (step_of x) built first
+gap-verdict theory procedure place f x first e d =
+    has_gap procedure place (procedure_of f) (step_of x) first
     (seen procedure_of theory.procedures procedure f e) (seen step_of f.proof place x d)
+
+-- the step that fails
+pub fail-verdict : (theory : Theory) (procedure place : ℕ) (f : Procedure) (x : Step)
+    (name : List ℕ) (v : verdicts.Verdict)
+    → IsBadAt (theory_of theory) procedure place (fails v)
+    → numbered procedure theory.procedures ≡ Some f → numbered place f.proof ≡ Some x
+    → NamesRule (reason_of x.reason) name
+    → Verdict (theory_of theory) status.StepFails (fail_line x.number f.name x.line name v)
+fail-verdict theory procedure place f x name v first e d named =
+    step_fails procedure place (procedure_of f) (step_of x) name named.citations named.arguments v
+    first (seen procedure_of theory.procedures procedure f e) (seen step_of f.proof place x d) named.is
+
+-- the end without the procedure's own triple
+pub end-verdict : (theory : Theory) (procedure place : ℕ) (f : Procedure)
+    → IsBadAt (theory_of theory) procedure place no_proof
+    → numbered procedure theory.procedures ≡ Some f
+    → Verdict (theory_of theory) status.StepFails (no_proof_line f.name)
+end-verdict theory procedure place f first e =
+    has_no_proof procedure place (procedure_of f) first
+    (seen procedure_of theory.procedures procedure f e)
 
 -- the line for an accepted theory, by its counts
 pub accepted_counts : (theory : Theory) (procedures steps : ℕ)

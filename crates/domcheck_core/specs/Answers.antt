@@ -3,17 +3,18 @@ use Rattle.std.specs.Prelude.{◌≡◌, ℕ, zero, suc, nat_le, List, Option, S
 use Rattle.model_shapes.specs.Trees.{Trees}
 use Rattle.model_shapes.specs.Values.{Value}
 use Rattle.model_formulas.specs.Formulas.{Named}
+use Rattle.model_terms.specs.Terms.{Term}
 use Rattle.model_terms.specs.Stores.{ProgVar}
 use Rattle.model_terms.specs.TermLimits.{or_else, unless}
-use Rattle.model_commands.specs.Theories.{ProcedureOf, StepOf, Theory, procedures_of}
+use Rattle.model_commands.specs.Theories.{ProcedureOf, StepOf, Theory, procedures_of, by_rule}
 use Rattle.model_files.specs.FileFaults.{FileFault, first_file_fault}
 use Rattle.model_machine.specs.Machine.{start}
 use Rattle.model_machine.specs.Outcomes.{Outcome, ends, spends, passes_limit, has_fault, no_pick, outcome}
 use Rattle.model_limits.specs.Limits as limits
 use Rattle.model_limits.specs.Limits.{standard_limits}
 use Rattle.model_groves.specs.Sizes.{size}
-use Rattle.rule_table.specs.Checked.{first_unbuilt}
-use Rattle.rule_table.specs.Accepted.{IsAccepted, gap, IsFirstBad}
+use Rattle.rule_table.specs.Verdicts as verdicts
+use Rattle.rule_table.specs.Accepted.{IsAccepted, Fault, gap, fails, no_proof, IsFirstBad}
 use Rattle.model_text.specs.Lexemes.{Lexeme}
 use Rattle.model_text.specs.Nesting.{lexemes_of}
 use Rattle.model_text.specs.FaultTokens.{IsFaultToken}
@@ -23,7 +24,7 @@ use Rattle.model_grammar.specs.Theories.{SpellsTheory}
 use Rattle.model_answers.specs.Words.{Request, check, run}
 use Rattle.model_answers.specs.Arguments.{called}
 use Rattle.model_answers.specs.Texts.{text_limit, theory_limit, IsFile}
-use Rattle.model_answers.specs.Output.{accepted_line, not_accepted_line, gap_line, bad_words_line, bad_text_line, bad_document_text_line, file_fault_line, unbuilt_line, range_line, repeat_line, limit_line, fault_line, spent_line, ended_lines}
+use Rattle.model_answers.specs.Output.{accepted_line, fail_line, no_proof_line, gap_line, bad_words_line, bad_text_line, bad_document_text_line, file_fault_line, range_line, repeat_line, limit_line, fault_line, spent_line, ended_lines}
 use Rattle.dom_terms.specs.declared.limits.LimitKind.{LimitKind}
 use Rattle.dom_terms.specs.declared.limits.LimitKind.TheVariants as l
 use Rattle.domcheck_core.specs.declared.status.Status.{Status}
@@ -85,24 +86,27 @@ abbrev pub numbered : {A : Type 0} → ℕ → List A → Option A
 numbered zero items = None
 numbered (suc n) items = slice_get items n
 
--- the first bad place is a gap, at this step of this procedure, each counted from 1
-abbrev pub IsGap : Theory → ℕ → ℕ → Type 0
-IsGap theory procedure step =
-    IsFirstBad theory (record { procedure = procedure; step = step; fault = gap })
+-- the first bad place is at this step of this procedure, each counted from 1, and has this fault
+abbrev pub IsBadAt : Theory → ℕ → ℕ → Fault → Type 0
+IsBadAt theory procedure step fault =
+    IsFirstBad theory (record { procedure = procedure; step = step; fault = fault })
 
 -- the answer of `check` on the theory of a file
 pub data Verdict (theory : Theory) : Status → List ℕ → Type 0 where
-  is_unbuilt : (procedure step : ℕ) → first_unbuilt theory ≡ Some (procedure, step)
-      → Verdict theory status.BadFile (unbuilt_line procedure step)
-  says_yes : first_unbuilt theory ≡ None → IsAccepted theory
-      → Verdict theory status.Done (accepted_line theory)
+  says_yes : IsAccepted theory → Verdict theory status.Done (accepted_line theory)
   has_gap : (procedure place : ℕ) (f : ProcedureOf Named) (step : StepOf Named)
-      → first_unbuilt theory ≡ None → IsGap theory procedure place
+      → IsBadAt theory procedure place gap
       → numbered procedure theory.procedures ≡ Some f → numbered place f.proof ≡ Some step
       → Verdict theory status.GapLeft (gap_line step.number f.name step.line)
-  says_no : first_unbuilt theory ≡ None → (IsAccepted theory → ⊥)
-      → ((procedure place : ℕ) → IsGap theory procedure place → ⊥)
-      → Verdict theory status.StepFails not_accepted_line
+  step_fails : (procedure place : ℕ) (f : ProcedureOf Named) (step : StepOf Named)
+      (name citations : List ℕ) (arguments : List Term) (verdict : verdicts.Verdict)
+      → IsBadAt theory procedure place (fails verdict)
+      → numbered procedure theory.procedures ≡ Some f → numbered place f.proof ≡ Some step
+      → step.reason ≡ by_rule name citations arguments
+      → Verdict theory status.StepFails (fail_line step.number f.name step.line name verdict)
+  has_no_proof : (procedure place : ℕ) (f : ProcedureOf Named)
+      → IsBadAt theory procedure place no_proof → numbered procedure theory.procedures ≡ Some f
+      → Verdict theory status.StepFails (no_proof_line f.name)
 
 -- and on bytes
 pub data CheckAnswer (bytes : List ℕ) : Status → List ℕ → Type 0 where

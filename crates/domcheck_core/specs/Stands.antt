@@ -1,5 +1,8 @@
--- Needn't be believed: a theory has the procedure of a number, and a procedure the step of one.
-use Rattle.std.specs.Prelude.{◌≡◌, ℕ, Some}
+-- Needn't be believed: a theory has the procedure of a number, a procedure the step of one, and a
+-- step the name of a rule.
+use Rattle.std.specs.Prelude.{◌≡◌, ℕ, List, Some}
+use Rattle.model_terms.specs.Terms.{Term}
+use Rattle.model_commands.specs.Theories.{Reason, by_rule}
 use Rattle.theory_syntax.specs.declared.steps.Step.{Step}
 use Rattle.theory_syntax.specs.declared.theories.Procedure.{Procedure}
 use Rattle.theory_syntax.specs.declared.theories.Theory.{Theory}
@@ -13,3 +16,9 @@ pub record HasProcedure (theory : Theory) (number : ℕ) : Type 0 where
 pub record HasStep (f : Procedure) (number : ℕ) : Type 0 where
   pub step : Step
   pub there : numbered number f.proof ≡ Some step
+
+-- the reason names this rule
+pub record NamesRule (reason : Reason) (name : List ℕ) : Type 0 where
+  pub citations : List ℕ
+  pub arguments : List Term
+  pub is : reason ≡ by_rule name citations arguments

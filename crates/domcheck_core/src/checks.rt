@@ -1,22 +1,24 @@
 // Checks of a file, over its bytes.
-ghost use Rattle.std.specs.Prelude.{◌≡◌, ℕ, List, None, Some, IfOk};
+ghost use Rattle.std.specs.Prelude.{◌≡◌, ℕ, List, Some, IfOk};
+ghost use Rattle.model_commands.specs.Theories.{auto};
 ghost use Rattle.model_files.specs.FileFaults.{IsWellFormedTheory};
 ghost use Rattle.model_files.specs.Sizes.{TheoryIsSmall};
-ghost use Rattle.rule_table.specs.Checked.{first_unbuilt};
+ghost use Rattle.rule_table.specs.Accepted as bad;
+ghost use Rattle.row_patterns.specs.Verdicts.{verdict_in};
+ghost use Rattle.theory_syntax.specs.Judgements.{reason_of};
 ghost use Rattle.theory_syntax.specs.Theories.{theory_of};
-ghost use Rattle.hoare_kernel.specs.Refusals.{IsGapAt};
-ghost use Rattle.domcheck_core.specs.Answers.{CheckAnswer, Verdict, numbered};
+ghost use Rattle.domcheck_core.specs.Answers.{CheckAnswer, IsBadAt, Verdict, numbered};
 ghost use Rattle.domcheck_core.specs.Clauses.{IsProved};
-ghost use Rattle.domcheck_core.specs.Stands.{HasProcedure, HasStep};
+ghost use Rattle.domcheck_core.specs.Stands.{HasProcedure, HasStep, NamesRule};
 
 use crate::file::read_file;
 use crate::replies::{Reply, accepted, answered, reported};
 use crate::status::Status;
-use dom_terms::{Copied, OutOfMemory};
+use dom_terms::{Copied, OutOfMemory, Text};
 use fault_report::Report;
-use hoare_kernel::{Refusal, Unbuilt, check_theory, first_unbuilt};
+use hoare_kernel::{Refusal, check_theory};
 use std::alloc::Global;
-use theory_syntax::{Procedure, Step, Theory};
+use theory_syntax::{Procedure, Reason, Step, Theory};
 
 // The procedure of the number, counted from 1.
 fn procedure_at<'a>(theory: &'a Theory, number: u32) -> &'a Procedure
@@ -40,10 +42,20 @@ fn step_at<'a>(procedure: &'a Procedure, number: u32) -> &'a Step
     step
 }
 
+// The name of the rule that the step names.
+fn rule_at<'a>(step: &'a Step) -> &'a Text
+    requires { reason_of step.now.reason ≡ auto → ⊥ }
+    ensures { NamesRule (reason_of step.now.reason) result.now }
+{
+    let Reason::Rule { name, .. } = &step.reason else {
+        unreachable!();
+    };
+    name
+}
+
 // The answer where the first bad place is a gap: that step of that procedure, each counted from 1.
 fn gap(alloc: Global, theory: &Theory, procedure: u32, step: u32) -> Result<Reply, OutOfMemory>
-    requires first { IsGapAt theory.now procedure step }
-    requires built { first_unbuilt (theory_of theory.now) ≡ None }
+    requires { IsBadAt (theory_of theory.now) procedure step bad.gap }
     ensures { IfOk result (λ r. Verdict (theory_of theory.now) r.status r.output) }
 {
     let procedure = procedure_at(theory, procedure);
@@ -56,19 +68,36 @@ fn gap(alloc: Global, theory: &Theory, procedure: u32, step: u32) -> Result<Repl
     reported(alloc, Status::GapLeft, report)
 }
 
-// The answer on a theory whose rules are all checked.
-fn judge(alloc: Global, theory: &Theory) -> Result<Reply, OutOfMemory>
-    requires small { TheoryIsSmall (theory_of theory.now) }
-    requires formed { IsWellFormedTheory (theory_of theory.now) }
-    requires built { first_unbuilt (theory_of theory.now) ≡ None }
+// The answer where it is a step with this verdict.
+fn failure(
+    alloc: Global,
+    theory: &Theory,
+    procedure: u32,
+    step: u32,
+    verdict: dom_terms::Verdict,
+) -> Result<Reply, OutOfMemory>
+    requires { IsBadAt (theory_of theory.now) procedure step (bad.fails (verdict_in verdict)) }
     ensures { IfOk result (λ r. Verdict (theory_of theory.now) r.status r.output) }
 {
-    match check_theory(alloc, theory) {
-        Ok(counts) => accepted(alloc, counts.procedures, counts.steps),
-        Err(Refusal::Gap { procedure, step }) => gap(alloc, theory, procedure, step),
-        Err(Refusal::NotAccepted) => reported(alloc, Status::StepFails, Report::NotAccepted),
-        Err(Refusal::OutOfMemory) => Err(OutOfMemory),
-    }
+    let procedure = procedure_at(theory, procedure);
+    let step = step_at(procedure, step);
+    let report = Report::StepFails {
+        step: step.number,
+        procedure: procedure.name.copy(alloc)?,
+        line: step.line,
+        rule: rule_at(step).copy(alloc)?,
+        verdict,
+    };
+    reported(alloc, Status::StepFails, report)
+}
+
+// The answer where it is the end of the proof of a procedure.
+fn no_proof(alloc: Global, theory: &Theory, procedure: u32) -> Result<Reply, OutOfMemory>
+    requires { (step : ℕ) × IsBadAt (theory_of theory.now) procedure step bad.no_proof }
+    ensures { IfOk result (λ r. Verdict (theory_of theory.now) r.status r.output) }
+{
+    let procedure = procedure_at(theory, procedure).name.copy(alloc)?;
+    reported(alloc, Status::StepFails, Report::NoProof { procedure })
 }
 
 // The answer on the theory of a file.
@@ -77,12 +106,18 @@ fn verdict(alloc: Global, theory: &Theory) -> Result<Reply, OutOfMemory>
     requires formed { IsWellFormedTheory (theory_of theory.now) }
     ensures { IfOk result (λ r. Verdict (theory_of theory.now) r.status r.output) }
 {
-    match first_unbuilt(theory) {
-        Some(Unbuilt { procedure, step }) => {
-            let report = Report::Unbuilt { procedure, step };
-            reported(alloc, Status::BadFile, report)
-        }
-        None => judge(alloc, theory),
+    match check_theory(alloc, theory) {
+        Ok(counts) => accepted(alloc, counts.procedures, counts.steps),
+        Err(
+            Refusal::Fails {
+                procedure,
+                step,
+                verdict,
+            },
+        ) => failure(alloc, theory, procedure, step, verdict),
+        Err(Refusal::NoProof { procedure }) => no_proof(alloc, theory, procedure),
+        Err(Refusal::Gap { procedure, step }) => gap(alloc, theory, procedure, step),
+        Err(Refusal::OutOfMemory) => Err(OutOfMemory),
     }
 }
 

@@ -17,7 +17,7 @@ pub enum Status {
     BadWords,
     /// The tokens of the file spell no theory, or those of the document no grove.
     BadText,
-    /// The file reads and isn't well formed, or a step names a rule that isn't checked yet.
+    /// The file reads and isn't well formed.
     BadFile,
     /// A number of the document is out of range, or one repeats.
     BadDocument,

@@ -1,12 +1,15 @@
 //! The lines that the program prints, but for that of an accepted theory.
 //! Promises that each is the text of the definitions, byte by byte.
-//! Stands on the text of groves and commands and on the faults of files and of the machine.
+//! Stands on the text of groves and commands, on the faults of files and of the machine, and on the
+//! verdicts on steps.
 #![tactic(auto)]
 
 mod endings;
 mod names;
 mod reports;
+mod texts;
 mod values;
 
 pub use endings::ended_text;
-pub use reports::{Report, status_line};
+pub use reports::Report;
+pub use texts::status_line;

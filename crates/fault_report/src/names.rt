@@ -1,12 +1,13 @@
 // The names of kinds.
-ghost use Rattle.std.specs.Prelude.{◌≡◌};
+ghost use Rattle.std.specs.Prelude.{◌≡◌, ◌++◌, codes};
 ghost use Rattle.model_answers.specs.Output as output;
 ghost use Rattle.dom_meaning.specs.Faults.{fault_kind_of, limit_kind_of};
 ghost use Rattle.dom_syntax.specs.Faults.{kind_of};
+ghost use Rattle.row_patterns.specs.Verdicts.{side_in, verdict_in};
 
 use dom_meaning::FaultKind;
 use dom_syntax::FileKind;
-use dom_terms::LimitKind;
+use dom_terms::{LimitKind, SideName, Verdict};
 
 /// The name of a fault.
 pub fn fault_name(kind: FaultKind) -> &'static str
@@ -51,5 +52,33 @@ pub fn kind_name(kind: FileKind) -> &'static str
         FileKind::Scope => "scope",
         FileKind::Rule => "rule",
         FileKind::Number => "number",
+    }
+}
+
+// The name of a side condition, behind the word `side`.
+fn side_text(name: SideName) -> &'static str
+    ensures { result.now ≡ codes "side " ++ output.side_name (side_in name) }
+{
+    match name {
+        SideName::Free => "side free",
+        SideName::Literal => "side literal",
+        SideName::Coefficient => "side coefficient",
+        SideName::Sum => "side sum",
+        SideName::Texts => "side texts",
+        SideName::Pure => "side pure",
+        SideName::Modified => "side modified",
+        SideName::Assigned => "side assigned",
+    }
+}
+
+/// A verdict.
+pub fn verdict_name(verdict: Verdict) -> &'static str
+    ensures { result.now ≡ output.verdict_text (verdict_in verdict) }
+{
+    match verdict {
+        Verdict::Instance => "instance",
+        Verdict::Shape => "shape",
+        Verdict::Premises => "premises",
+        Verdict::Side(name) => side_text(name),
     }
 }

@@ -14,6 +14,8 @@ use Rattle.model_documents.specs.Roots.{sorted_roots}
 use Rattle.model_documents.specs.Printed.{quoted, grove_text}
 use Rattle.model_files.specs.FileFaults.{FileKind, version_kind, twice_kind, unknown_kind, sort_kind, constant_kind, results_kind, scope_kind, rule_kind, number_kind, FileFault}
 use Rattle.model_files.specs.FileLimits.{step_count}
+use Rattle.rule_table.specs.Conditions.{SideName, free_side, literal_side, coefficient_side, sum_side, texts_side, pure_side, modified_side, assigned_side}
+use Rattle.rule_table.specs.Verdicts.{Verdict, instance_verdict, shape_verdict, premises_verdict, side_verdict}
 use Rattle.model_grammar.specs.Writing.{text_of, command_lexemes}
 
 -- a text with the newline that ends it
@@ -31,16 +33,44 @@ abbrev pub accepted_line : Theory → List ℕ
 accepted_line theory =
     line (accepted_text (length theory.procedures) (step_count theory.procedures))
 
-abbrev pub not_accepted_line : List ℕ
-not_accepted_line = line (codes "not accepted")
-
 abbrev pub bad_words_line : List ℕ
 bad_words_line = line (codes "bad words")
 
+-- the name of a side condition
+abbrev pub side_name : SideName → List ℕ
+side_name free_side = codes "free"
+side_name literal_side = codes "literal"
+side_name coefficient_side = codes "coefficient"
+side_name sum_side = codes "sum"
+side_name texts_side = codes "texts"
+side_name pure_side = codes "pure"
+side_name modified_side = codes "modified"
+side_name assigned_side = codes "assigned"
+
+-- a verdict
+abbrev pub verdict_text : Verdict → List ℕ
+verdict_text instance_verdict = codes "instance"
+verdict_text shape_verdict = codes "shape"
+verdict_text premises_verdict = codes "premises"
+verdict_text (side_verdict name) = codes "side " ++ side_name name
+
+-- `step K of PROC, line L: ` and what is said of the step
+abbrev pub step_line : ℕ → List ℕ → ℕ → List ℕ → List ℕ
+step_line number procedure at said = line (codes "step " ++ (decimal number
+    ++ (codes " of " ++ (procedure ++ (codes ", line " ++ (decimal at ++ (codes ": " ++ said)))))))
+
+-- `step K of PROC, line L: RULE: VERDICT`
+abbrev pub fail_line : ℕ → List ℕ → ℕ → List ℕ → Verdict → List ℕ
+fail_line number procedure at rule verdict =
+    step_line number procedure at (rule ++ (codes ": " ++ verdict_text verdict))
+
 -- `step K of PROC, line L: gap`
 abbrev pub gap_line : ℕ → List ℕ → ℕ → List ℕ
-gap_line number procedure at = line (codes "step " ++ (decimal number
-    ++ (codes " of " ++ (procedure ++ (codes ", line " ++ (decimal at ++ codes ": gap"))))))
+gap_line number procedure at = step_line number procedure at (codes "gap")
+
+-- `PROC: no proof`
+abbrev pub no_proof_line : List ℕ → List ℕ
+no_proof_line procedure = line (procedure ++ codes ": no proof")
 
 -- the fault token of a file, and of a document
 abbrev pub bad_text_line : ℕ → List ℕ
@@ -66,12 +96,9 @@ abbrev pub bad_file_line : ℕ → ℕ → List ℕ → List ℕ
 bad_file_line procedure step kind = line (codes "bad file: procedure " ++ (decimal procedure
     ++ (codes ", step " ++ (decimal step ++ (codes ": " ++ kind)))))
 
--- of the first fault of a file, and of the first step whose rule isn't checked today
+-- of the first fault of a file
 abbrev pub file_fault_line : FileFault → List ℕ
 file_fault_line fault = bad_file_line fault.procedure fault.step (kind_name fault.kind)
-
-abbrev pub unbuilt_line : ℕ → ℕ → List ℕ
-unbuilt_line procedure step = bad_file_line procedure step (codes "unbuilt")
 
 -- a number of a document that is out of range, and one that repeats
 abbrev pub range_line : Numbered → List ℕ
