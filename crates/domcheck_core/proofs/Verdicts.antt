@@ -1,5 +1,5 @@
 -- Verdicts on the theory of a file, from what the kernel answers.
-use Rattle.std.proofs.Common.{◌≡◌, ◌∙◌, ℕ, zero, suc, ◌+◌, Option, Some, option_map, sym, ap, subst, slice_get, length, List, map, [], ◌∷◌, ◌++◌, ⊎_elim, arith}
+use Rattle.std.proofs.Common.{◌≡◌, ◌∙◌, ℕ, zero, suc, ◌+◌, Some, option_map, sym, ap, subst, slice_get, length, List, map, [], ◌∷◌, ◌++◌, ⊎_elim, arith}
 use Rattle.std.proofs.lemmas.List.{length-map}
 use Rattle.std.proofs.lemmas.Option.{slice_get-map}
 use Rattle.model_commands.specs.Theories as model
@@ -11,7 +11,6 @@ use Rattle.rule_table.specs.Accepted.{Fault, gap, fails, no_proof, VerdictBy, Ba
 use Rattle.theory_syntax.specs.declared.steps.Step.{Step}
 use Rattle.theory_syntax.specs.declared.theories.Procedure.{Procedure}
 use Rattle.theory_syntax.specs.declared.theories.Theory.{Theory}
-use Rattle.theory_syntax.specs.declared.steps.Reason.TheVariants as r
 use Rattle.theory_syntax.specs.Judgements.{reason_of, step_of}
 use Rattle.theory_syntax.specs.Theories.{procedure_of, theory_of}
 use Rattle.cited_steps.specs.Earlier.{steps_in}
