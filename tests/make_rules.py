@@ -14,15 +14,15 @@ from collections import namedtuple
 
 HERE = os.path.dirname(os.path.abspath(__file__))
 
-# A row: what is shown, where it stands, the file, its answer, and the stage that it needs.
-Made = namedtuple("Made", "title place text status output needs")
+# A row: what is shown, where it stands, the file, and its answer.
+Made = namedtuple("Made", "title place text status output")
 # A step of a table: its word (given, or the verdict), rule, cited steps, arguments and judgement.
 Line = namedtuple("Line", "place word rule cited arguments judgement")
 
 STEP = re.compile(r"(given \w+|instance|shape|premises|side \w+)"
                   r"( \([\d, ]*\))?( with \([^()]*\))?: (.*)")
 # What stands in place of a judgement where a rule of the other kind is asked for.
-OTHERS = {"entailment": "pre 0g do skip post 0g at g", "triples": "0g entails 0g at g"}
+OTHERS = {"entailments": "pre 0g do skip post 0g at g", "triples": "0g entails 0g at g"}
 
 
 class Unreadable(Exception):
@@ -68,23 +68,23 @@ def answer_to(template, given, line):
     return 0, f"accepted: {procedures} procedures, {steps} steps"
 
 
-def made(template, needs, given, line, how=""):
+def made(template, given, line, how=""):
     text = file_text(template, given, line)
     title = f"{line.rule}, {line.word}{how}: {line.judgement}"
-    return Made(title, line.place, text, *answer_to(template, given, line), needs)
+    return Made(title, line.place, text, *answer_to(template, given, line))
 
 
-def others(line, needs):
+def others(line, judged):
     """Gives, for an instance, what every rule refuses, and in which way."""
     yield line._replace(word="premises", cited=[*line.cited, 1]), ", a premise more"
     if line.cited:
         yield line._replace(word="premises", cited=line.cited[:-1]), ", a premise less"
     argument = line.arguments[:-1] + ", 1)" if line.arguments else " with (1)"
     yield line._replace(word="shape", arguments=argument), ", an argument more"
-    yield line._replace(word="shape", judgement=OTHERS[needs]), ", of the other kind"
+    yield line._replace(word="shape", judgement=OTHERS[judged]), ", of the other kind"
 
 
-def rows_of_rule(template, needs, lines):
+def rows_of_rule(template, judged, lines):
     """Gives the rows of a rule; steps that are given behind a row begin anew."""
     given, is_new, is_first = [], False, True
     for line in lines:
@@ -93,26 +93,26 @@ def rows_of_rule(template, needs, lines):
             is_new = False
             continue
         is_new = True
-        yield made(template, needs, given, line)
+        yield made(template, given, line)
         if is_first and line.word == "instance":
-            yield from (made(template, needs, given, *it) for it in others(line, needs))
+            yield from (made(template, given, *it) for it in others(line, judged))
             is_first = False
 
 
 def blocks_of(path):
-    """Gives the heads of a table with the lines behind each: `needs`, `file` and `rule`."""
+    """Gives the heads of a table with the lines behind each: `judges`, `file` and `rule`."""
     with open(path, encoding="utf-8") as it:
         lines = [(number, line.rstrip("\n")) for number, line in enumerate(it, 1)]
     block = None
     for number, text in lines:
         if not text.strip() or text.startswith("#"):
             continue
-        if re.fullmatch(r"file|rule \w+|needs: \w+", text):
+        if re.fullmatch(r"file|rule \w+|judges: \w+", text):
             if block:
                 yield block
             block = (text, [])
         elif block is None:
-            raise Unreadable(f"{number}: a table begins with `needs: ..`")
+            raise Unreadable(f"{number}: a table begins with `judges: ..`")
         else:
             block[1].append((number, text))
     yield block
@@ -120,16 +120,16 @@ def blocks_of(path):
 
 def rows_of(path):
     """Gives the rows of a table."""
-    template, needs = "", ""
+    template, judged = "", ""
     for head, lines in blocks_of(path):
-        if head.startswith("needs: "):
-            needs = head[len("needs: "):]
+        if head.startswith("judges: "):
+            judged = head[len("judges: "):]
         elif head == "file":
             template = "".join(f"{text[2:]}\n" for _, text in lines)
         else:
             rule = head[len("rule "):]
             steps = [line_of(place, text, rule) for place, text in lines]
-            yield from rows_of_rule(template, needs, steps)
+            yield from rows_of_rule(template, judged, steps)
 
 
 def rows():

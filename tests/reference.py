@@ -13,9 +13,8 @@ import os
 import sys
 
 sys.dont_write_bytecode = True  # the checkout stays as it is
-from reading.built import NOT_ACCEPTED, STAGE
 from reading.documents import DocumentReader, numbers_in_document, numbers_in_text
-from reading.faults import file_faults, unbuilt_steps
+from reading.faults import file_faults
 from reading.limits import (DOCUMENT_NESTING, FILE_NESTING, LAST_I64, LAST_U32, NODES, STEPS,
                             TEXT_BYTES, VARIABLES, Refused)
 from reading.machine import Grove, Machine, outcome
@@ -96,10 +95,9 @@ def fetched(files, name):
     return content
 
 
-def checked(files, name, stage):
+def checked(files, name):
     """Returns the output of `check FILE`."""
     theory = theory_of(fetched(files, name))
-    refuse_fault(unbuilt_steps(theory, stage))
     for procedure in theory.procedures:
         check_proof(theory, procedure)
     steps = sum(len(procedure.steps) for procedure in theory.procedures)
@@ -120,29 +118,27 @@ def ran(files, name, called, document, fuel, words):
     return "\n".join([*lines, machine.grove.text(), ""])
 
 
-def output_of(words, files, stage):
+def output_of(words, files):
     """Returns the output of the words, or refuses them."""
     if len(words) == 2 and words[0] == "check":
-        return checked(files, words[1], stage)
+        return checked(files, words[1])
     if len(words) < 5 or words[0] != "run" or decimal(words[4], 0, 1000000) is None:
         raise Refused(2, "bad words")
     return ran(files, *words[1:4], int(words[4]), words[5:])
 
 
-def answer(words, files, stage=STAGE):
+def answer(words, files):
     """Returns the exit status and the printed bytes for the words, given as bytes.
 
-    `files` gives the bytes of a file by its name, or None. The stage is that of the program.
+    `files` gives the bytes of a file by its name, or None.
     """
     sys.setrecursionlimit(100000)
     try:
         try:
-            return 0, output_of([word.decode() for word in words], files, stage).encode()
+            return 0, output_of([word.decode() for word in words], files).encode()
         except UnicodeDecodeError:
             raise Refused(2, "bad words") from None
     except Refused as why:
-        if why.status == 1 and stage != "triples":
-            return 1, NOT_ACCEPTED
         return why.status, b"" if why.line is None else f"{why.line}\n".encode()
 
 

@@ -1,13 +1,11 @@
 #!/usr/bin/env python3
 """Compares the built program with the rows of this folder, byte by byte.
 
-usage: tests/run.py (--cmd PROGRAM | --reference | --list) [--only TEXT] [--stage STAGE]
+usage: tests/run.py (--cmd PROGRAM | --reference | --list) [--only TEXT]
   PROGRAM       the built program; each row's words are handed to it
   --reference   the rows are answered by reference.py beside this file, and no program is asked
   --list        the rows are listed
   TEXT          only the rows whose file or title has this text
-  STAGE         how much of `check` the program has: plain, entailment, triples; without it, what
-                reading/built.py says. Rows that need more aren't run
 
 Prints each row that fails, and last 'N passed, M failed'. The exit status is 0 where none fails, and 2
 where a file of rows can't be read. README.md beside this file says how a row is written.
@@ -24,7 +22,6 @@ import tempfile
 sys.dont_write_bytecode = True  # the checkout stays as it is
 import make_rules
 import reference
-from reading.built import NOT_ACCEPTED, STAGE, STAGES
 from reading.tokens import tokens_of
 
 HERE = os.path.dirname(os.path.abspath(__file__))
@@ -43,7 +40,6 @@ class Row:
         self.title, self.place = title, place
         self.words, self.status, self.output = None, None, []
         self.texts, self.changes, self.cuts, self.sink, self.called = {}, [], {}, None, None
-        self.needs, self.unbuilt = STAGES[0], None
 
 
 def meant(text):
@@ -96,10 +92,6 @@ def set_field(row, field, text):
         row.output.append(meant(text) + b"\n")
     elif field == "to":
         row.sink = text
-    elif field == "needs" and text in STAGES:
-        row.needs = text
-    elif name == "unbuilt" and file[len("before "):] in STAGES:
-        row.unbuilt = (file[len("before "):], f"bad file: {text}: unbuilt\n".encode())
     elif field == "called":
         row.called = meant(text)
     elif name == "text" and file:
@@ -250,35 +242,22 @@ def program_answer(program, row, given):
     return answer.returncode, answer.stdout or b"", answer.stderr
 
 
-def reference_answer(row, given, stage):
+def reference_answer(row, given):
     """Returns the same of the reference. An output that goes to no good place is told as such, and lost."""
     files = lambda name: given.get(os.path.normpath(name))
-    status, output = reference.answer(row.words, files, stage)
+    status, output = reference.answer(row.words, files)
     return (12 if row.sink and output else status), b"" if row.sink else output, b""
 
 
-def is_before(stage, other):
-    return STAGES.index(stage) < STAGES.index(other)
-
-
-def wanted_at(row, stage):
-    """Returns the wanted status and output: a refused proof has its place and verdict at the last stage."""
-    if row.unbuilt and is_before(stage, row.unbuilt[0]):
-        return 4, row.unbuilt[1]
-    if row.status == 1 and is_before(stage, STAGES[-1]):
-        return 1, NOT_ACCEPTED
-    return row.status, b"".join(row.output)
-
-
-def complaint(program, row, files, stage):
+def complaint(program, row, files):
     """Returns what is wrong with the answer of the program, or of the reference where that is None; or None."""
     try:
         given = given_files(row, files)
-        answer = program_answer(program, row, given) if program else reference_answer(row, given, stage)
+        answer = program_answer(program, row, given) if program else reference_answer(row, given)
     except (Unreadable, KeyError, OSError, subprocess.TimeoutExpired) as why:
         return f"    not run: {why}"
     status, found, errors = answer
-    wanted = wanted_at(row, stage)
+    wanted = row.status, b"".join(row.output)
     if (status, found, errors) == (*wanted, b""):
         return None
     told = [f"    wanted {wanted[0]} {wanted[1][:300]!r}", f"    got    {status} {found[:300]!r}"]
@@ -291,7 +270,6 @@ def rule_rows(found):
         row = Row(made.title, made.place)
         row.words, row.status = [b"check", b"step.dom"], made.status
         row.output, row.texts = [f"{made.output}\n".encode()], {"step.dom": made.text.encode()}
-        row.needs = made.needs
         yield row
 
 
@@ -311,7 +289,6 @@ def main():
     asked.add_argument("--reference", action="store_true")
     asked.add_argument("--list", action="store_true")
     parser.add_argument("--only", default="")
-    parser.add_argument("--stage", choices=STAGES, default=STAGE)
     options = parser.parse_args()
     program, passed, failed = options.cmd and os.path.abspath(options.cmd), 0, 0
     if program and not os.access(program, os.X_OK):
@@ -321,12 +298,12 @@ def main():
         name = os.path.relpath(path, TOP)
         for row in rows:
             words = b" ".join(row.words).decode(errors="replace")
-            if options.only not in f"{name} {row.title}" or is_before(options.stage, row.needs):
+            if options.only not in f"{name} {row.title}":
                 continue
             if options.list:
                 print(f"{name}:{row.place}: {row.title}")
                 continue
-            wrong = complaint(program, row, files, options.stage)
+            wrong = complaint(program, row, files)
             passed, failed = passed + (wrong is None), failed + (wrong is not None)
             if wrong is not None:
                 print(f"{name}:{row.place}: {row.title}\n    words  {words[:200]}\n{wrong}")

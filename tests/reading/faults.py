@@ -1,5 +1,4 @@
 """Files that read and aren't well formed: the faults with their places."""
-from reading.built import is_built
 from reading.sorts import declared_by, is_command, is_sorted, scope_of, term_sort, walk
 
 BOTH_WAYS = """star_assoc star_left_assoc star_right_assoc star_mid_assoc star_unit unit_star
@@ -120,11 +119,3 @@ def file_faults(theory):
         yield from ((at + 1, 0, kind) for kind in procedure_faults(theory, at, scope))
         for place, step in enumerate(procedure.steps, 1):
             yield from ((at + 1, place, kind) for kind in step_faults(step, place, scope))
-
-
-def unbuilt_steps(theory, stage):
-    """Gives the steps by rules that there are and that can't be checked yet."""
-    for at, procedure in enumerate(theory.procedures, 1):
-        for place, step in enumerate(procedure.steps, 1):
-            if step.rule is not None and not is_built(step.rule, stage):
-                yield at, place, "unbuilt"
