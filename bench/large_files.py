@@ -23,9 +23,7 @@ that it can see. With --write the files are written, and nothing is measured.
     levels       mono rules through 44 levels of nodes
     binders      40 quantifiers brought in with written arguments and taken out again
 
-Each file is well formed and is accepted once each rule is built. Until then `check` answers with
-status 4 that a rule isn't, after all of the reading and the judging. The last four need rules of
-entailment alone.
+Each file is accepted.
 """
 import os
 import pathlib
