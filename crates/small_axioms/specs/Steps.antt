@@ -1,4 +1,4 @@
--- Needn't be believed: a triple that is written at a step which cites nothing and has no argument.
+-- A triple that is written at a step which cites nothing and has no argument.
 use Rattle.std.specs.Prelude.{[], Some}
 use Rattle.model_commands.specs.Theories.{Judgement, nameless_judgement}
 use Rattle.rule_table.specs.Verdicts.{Written}

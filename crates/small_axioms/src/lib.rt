@@ -5,6 +5,7 @@
 
 mod axioms;
 mod forms;
+mod instances;
 mod matching;
 mod moving;
 mod names;
@@ -13,5 +14,6 @@ mod occurring;
 mod parts;
 mod verdicts;
 
+pub use instances::axiom_instance;
 pub use names::{Axiom, axiom_of, the_rows_are_those_of_the_table};
 pub use verdicts::axiom_verdict;

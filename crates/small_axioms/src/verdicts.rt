@@ -130,8 +130,8 @@ fn remove_verdict(triple: &Triple) -> Verdict
     verdict_where(fits, false)
 }
 
-// The verdict on the triple alone.
-fn alone_verdict(rule: Axiom, triple: &Triple) -> Verdict
+/// The verdict on the triple alone.
+pub(crate) fn alone_verdict(rule: Axiom, triple: &Triple) -> Verdict
     ensures { IsVerdict (readings_in table.axioms (name_of rule)) (written triple.now)
         (verdict_in result) }
 {
