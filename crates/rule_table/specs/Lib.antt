@@ -11,7 +11,6 @@ pub mod Equations
 pub mod Structure
 pub mod Monotony
 pub mod Contexts
-pub mod Checked
 pub mod Closed
 pub mod Variables
 pub mod Nodes
