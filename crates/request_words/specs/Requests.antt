@@ -12,6 +12,8 @@ abbrev pub request_of : Request → model.Request
 request_of (r.Check file) = model.check file
 request_of (r.Run file procedure document fuel arguments) =
     model.run file procedure document fuel arguments
+request_of (r.Make count) = model.make count
+request_of (r.Trial count) = model.trial count
 
 -- what was answered is the reading; bad words are those without one
 abbrev pub Reads : Result Request WordFault → Option model.Request → Type 0

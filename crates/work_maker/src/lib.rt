@@ -10,10 +10,7 @@ use dom_terms::OutOfMemory;
 use std::alloc::Global;
 use theory_syntax::Theory;
 
-/// The most procedures that may be asked for.
-pub const MOST_PROCEDURES: u32 = 200;
-
-/// The generated theory for a number of procedures from 1 to `MOST_PROCEDURES`: each of them makes
+/// The generated theory for a number of procedures from 1 to 200: each of them makes
 /// one node, and is proved to.
 pub fn make_theory(alloc: Global, n: u32) -> Result<Theory, OutOfMemory>
     requires some { 1 ≤ n }
