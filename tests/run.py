@@ -1,5 +1,5 @@
 #!/usr/bin/env python3
-"""Compares the built program with the rows of this folder, byte by byte.
+"""Compares the built program with the rows of this folder and the examples of the rules, byte by byte.
 
 usage: tests/run.py (--cmd PROGRAM | --reference | --list) [--only TEXT]
   PROGRAM       the built program; each row's words are handed to it
