@@ -1,5 +1,5 @@
 #!/usr/bin/env python3
-"""Compares the built program with the rows of this folder, byte by byte.
+"""Compares the built program with the rows of this folder and the examples of the rules, byte by byte.
 
 usage: tests/run.py (--cmd PROGRAM | --reference | --list) [--only TEXT]
   PROGRAM       the built program; each row's words are handed to it
@@ -22,6 +22,7 @@ import tempfile
 sys.dont_write_bytecode = True  # the checkout stays as it is
 import make_rules
 import reference
+import rule_examples
 from reading.tokens import tokens_of
 
 HERE = os.path.dirname(os.path.abspath(__file__))
@@ -40,6 +41,7 @@ class Row:
         self.title, self.place = title, place
         self.words, self.status, self.output = None, None, []
         self.texts, self.changes, self.cuts, self.sink, self.called = {}, [], {}, None, None
+        self.fault = None
 
 
 def meant(text):
@@ -251,6 +253,8 @@ def reference_answer(row, given):
 
 def complaint(program, row, files):
     """Returns what is wrong with the answer of the program, or of the reference where that is None; or None."""
+    if row.fault is not None or row.status is None:
+        return row.fault and f"    {row.fault}"
     try:
         given = given_files(row, files)
         answer = program_answer(program, row, given) if program else reference_answer(row, given)
@@ -265,19 +269,20 @@ def complaint(program, row, files):
 
 
 def rule_rows(found):
-    """Returns the rows of a table of rules, each of which has its file."""
+    """Returns the rows of a table of rules, or of an example, each of which has its file."""
     for made in found:
         row = Row(made.title, made.place)
+        row.fault = getattr(made, "fault", None)
         row.words, row.status = [b"check", b"step.dom"], made.status
         row.output, row.texts = [f"{made.output}\n".encode()], {"step.dom": made.text.encode()}
         yield row
 
 
 def all_rows():
-    """Gives the files of rows and the tables, each with its files and rows."""
+    """Gives the files of rows, the tables and the examples of the rules, each with its files and rows."""
     for path in sorted(glob.glob(os.path.join(HERE, "*.rows"))):
         yield path, *read(path)
-    for path, found in make_rules.rows():
+    for path, found in [*make_rules.rows(), *rule_examples.rows()]:
         yield path, {}, list(rule_rows(found))
 
 
