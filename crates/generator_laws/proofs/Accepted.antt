@@ -1,6 +1,6 @@
 -- The generated theory is accepted: each of the eight steps of a procedure is an instance of its
 -- rule, whatever the procedure's number is and whatever procedures the theory has.
-use Rattle.std.proofs.Common.{ℕ, zero, suc, ◌+◌, [], refl, inl, inr, codes, map}
+use Rattle.std.proofs.Common.{ℕ, zero, suc, ◌+◌, refl, inl, inr, codes, map}
 use Rattle.model_shapes.specs.Sorts.{value, grove, forest, node_sort, list_sort}
 use Rattle.model_shapes.specs.Values.{null}
 use Rattle.model_terms.specs.Variables.{bound}
