@@ -1,9 +1,10 @@
 // Requests.
-ghost use Rattle.std.specs.Prelude.{◌≡◌, ℕ, IfOk, map, string_bytes};
+ghost use Rattle.std.specs.Prelude.{◌≡◌, ◌≤◌, ℕ, IfOk, IfSome, map, string_bytes};
 ghost use Rattle.std.specs.Option.{option_map};
 ghost use Rattle.model_answers.specs.Words as model;
 ghost use Rattle.model_answers.specs.Words.{check_of, run_of, count_of, reading_of};
-ghost use Rattle.request_words.specs.Requests.{Reads};
+ghost use Rattle.model_generator.specs.Generated.{most_makers};
+ghost use Rattle.request_words.specs.Requests.{Reads, Counts};
 ghost use Rattle.request_words.specs.declared.requests.WordFault.TheVariants.{OutOfMemory};
 
 use crate::decimals::decimal;
@@ -77,7 +78,8 @@ fn texts(alloc: Global, words: &[String]) -> Result<Texts, OutOfMemory>
 
 // The words behind `check`.
 fn read_check(alloc: Global, words: &[String]) -> Result<Request, WordFault>
-    ensures { Reads result (check_of (map string_bytes words.now)) }
+    ensures reading { Reads result (check_of (map string_bytes words.now)) }
+    ensures counts { IfOk result Counts }
 {
     let [file] = words else {
         return Err(WordFault::BadWords);
@@ -88,7 +90,8 @@ fn read_check(alloc: Global, words: &[String]) -> Result<Request, WordFault>
 
 // The words behind `run`.
 fn read_run(alloc: Global, words: &[String]) -> Result<Request, WordFault>
-    ensures { Reads result (run_of (map string_bytes words.now)) }
+    ensures reading { Reads result (run_of (map string_bytes words.now)) }
+    ensures counts { IfOk result Counts }
 {
     let [file, procedure, document, fuel, arguments @ ..] = words else {
         return Err(WordFault::BadWords);
@@ -107,8 +110,9 @@ fn read_run(alloc: Global, words: &[String]) -> Result<Request, WordFault>
 
 // The number behind `make` or `trial`, or none.
 fn count(words: &[String]) -> Option<u32>
-    ensures { (form : ℕ → model.Request)
+    ensures reading { (form : ℕ → model.Request)
         → option_map form result ≡ count_of form (map string_bytes words.now) }
+    ensures counts { IfSome result (λ n. (1 ≤ n) × (n ≤ most_makers)) }
 {
     let [count] = words else {
         return None;
@@ -121,7 +125,8 @@ fn count(words: &[String]) -> Option<u32>
 
 // The words behind `make`.
 fn read_make(words: &[String]) -> Result<Request, WordFault>
-    ensures { Reads result (count_of model.make (map string_bytes words.now)) }
+    ensures reading { Reads result (count_of model.make (map string_bytes words.now)) }
+    ensures counts { IfOk result Counts }
 {
     let Some(count) = count(words) else {
         return Err(WordFault::BadWords);
@@ -131,7 +136,8 @@ fn read_make(words: &[String]) -> Result<Request, WordFault>
 
 // The words behind `trial`.
 fn read_trial(words: &[String]) -> Result<Request, WordFault>
-    ensures { Reads result (count_of model.trial (map string_bytes words.now)) }
+    ensures reading { Reads result (count_of model.trial (map string_bytes words.now)) }
+    ensures counts { IfOk result Counts }
 {
     let Some(count) = count(words) else {
         return Err(WordFault::BadWords);
@@ -142,7 +148,8 @@ fn read_trial(words: &[String]) -> Result<Request, WordFault>
 /// The request that the words after the program's name are. `BadWords` comes exactly where they
 /// have none of the forms.
 pub fn read_words(alloc: Global, words: &[String]) -> Result<Request, WordFault>
-    ensures { Reads result (reading_of (map string_bytes words.now)) }
+    ensures reading { Reads result (reading_of (map string_bytes words.now)) }
+    ensures counts { IfOk result Counts }
 {
     let [command, words @ ..] = words else {
         return Err(WordFault::BadWords);
