@@ -1,5 +1,6 @@
--- The names of the generated procedures are words that aren't reserved, and their texts are UTF-8.
-use Rattle.std.proofs.Common.{◌≡◌, ◌∙◌, ℕ, zero, suc, ◌+◌, ◌-◌, ◌≤◌, ◌<◌, ◌^◌, Bool, true, false, List, [], ◌∷◌, ◌++◌, length, map, slice_index, encode_utf8_all, codes, nat_lt, refl, sym, ap, subst, arith}
+-- The names of the generated procedures are words that aren't reserved, and the texts of their
+-- nodes are UTF-8; the number in each has three digits at most.
+use Rattle.std.proofs.Common.{◌≡◌, ◌∙◌, ℕ, zero, suc, ◌+◌, ◌-◌, ◌≤◌, ◌<◌, true, List, [], ◌∷◌, ◌++◌, length, map, encode_utf8_all, codes, nat_lt, refl, ap, subst, arith}
 use Rattle.std.specs.Prelude.{if◌then◌else◌}
 use Rattle.std.specs.Char.{is_ascii_digit}
 use Rattle.std.specs.Fmt.{decimal}
@@ -7,10 +8,10 @@ use Rattle.std.specs.List.{list_all}
 use Rattle.std.specs.Str.{IsAscii, IsUtf8}
 use Rattle.std.proofs.lemmas.Bool.{and_parts}
 use Rattle.std.proofs.lemmas.Bool.Decides.{nat_tests}
-use Rattle.std.proofs.lemmas.Fmt.{decimal_nonempty, IsAscii-decimal}
+use Rattle.std.proofs.lemmas.Fmt.{decimal_nonempty, length-decimal-le, IsAscii-decimal}
 use Rattle.std.proofs.lemmas.Str.{encodes-IsAscii, IsUtf8-from_ascii}
 use Rattle.model_text.specs.Tokens.{word_token, token_piece, no_piece, word_length, Piece}
-use Rattle.model_text.specs.Lexemes.{Lexeme, name_lexeme, is_reserved, word_lexeme}
+use Rattle.model_text.specs.Lexemes.{name_lexeme, word_lexeme}
 use Rattle.model_text.specs.Nesting.{lexemes_of}
 use Rattle.model_text.proofs.Computing.{lexing}
 use Rattle.model_grammar.specs.Writing.{IsName}
@@ -96,6 +97,9 @@ ascii_more c text small ascii zero = small
 ascii_more c text small ascii (suc i) = ascii i
 
 module _ (k : ℕ) (small : k ≤ most_makers) where
+  pub few_digits : length (decimal k) ≤ 3
+  few_digits = length-decimal-le 3 k (omega arith) (omega arith) (omega arith)
+
   ascii : IsAscii (decimal k)
   ascii = IsAscii-decimal k (omega arith)
 

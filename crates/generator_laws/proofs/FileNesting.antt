@@ -1,9 +1,8 @@
 -- The printed text of the generated theory passes no limit: besides its bytes, which are few
 -- enough, its brackets don't nest deep, and its literals are short.
-use Rattle.std.proofs.Common.{◌≡◌, ◌∙◌, ℕ, zero, suc, ◌+◌, ◌≤◌, ◌<◌, ◌^◌, true, List, [], ◌∷◌, ◌++◌, length, map, codes, nat_le, None, refl, sym, ap, arith}
+use Rattle.std.proofs.Common.{◌≡◌, ◌∙◌, ℕ, zero, suc, ◌+◌, ◌≤◌, true, List, [], ◌∷◌, ◌++◌, map, codes, None, refl, sym, ap, arith}
 use Rattle.std.specs.Fmt.{decimal}
 use Rattle.std.proofs.lemmas.Bool.Decides.{nat_tests}
-use Rattle.std.proofs.lemmas.Fmt.{length-decimal-le}
 use Rattle.model_limits.specs.Limits.{standard_limits, file_limit}
 use Rattle.model_limits.specs.FirstOf.{or_else, unless}
 use Rattle.model_text.specs.Lexemes.{Lexeme, terminal, step_word, name_lexeme, logic_lexeme, number_lexeme, literal_lexeme, bad_lexeme, reserved_words}
@@ -14,6 +13,7 @@ use Rattle.model_printing.proofs.Lines.{lines_read_back}
 use Rattle.model_round_trip.proofs.Printed.{theory_ready, lines_printable}
 use Rattle.model_answers.specs.Texts.{text_limit}
 use Rattle.model_generator.specs.Generated.{maker, makers, most_makers, generated_theory}
+use Rattle.generator_laws.proofs.FileNames.{few_digits}
 use Rattle.generator_laws.proofs.FileWritable.{theory_writable, theory_literals}
 use Rattle.generator_laws.proofs.FileText.{few_bytes}
 
@@ -38,11 +38,8 @@ limit_same most before (lexeme ∷ rest) =
 
 -- A PROCEDURE closes the brackets that it opens, and nests few
 module _ (k : ℕ) (small : k ≤ most_makers) where
-  few_digits : length (decimal k) ≤ 3
-  few_digits = length-decimal-le 3 k (omega arith) (omega arith) (omega arith)
-
   short_text : text_within (literal_lexeme (codes "t" ++ decimal k)) ≡ true
-  short_text = let few = few_digits in grind (arith, nat_tests)
+  short_text = let few = few_digits k small in grind (arith, nat_tests)
 
   maker_limit : (rest : List (List Lexeme))
       → token_limit standard_limits.file_nesting 0 (all_lexemes (procedure_lines (maker k) ++ rest))

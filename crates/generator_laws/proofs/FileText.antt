@@ -1,22 +1,16 @@
--- The printed text of the generated theory has few enough bytes: each procedure is printed as less
--- than 600 lexemes and line ends, and each of those as at most 13 bytes.
-use Rattle.std.proofs.Common.{◌≡◌, ◌∙◌, ℕ, zero, suc, ◌+◌, ◌*◌, ◌≤◌, ◌<◌, ◌^◌, ◌==◌, Bool, true, false, cond, ◌&&◌, List, [], ◌∷◌, ◌++◌, length, length-append, map, codes, nat_le, None, refl, sym, ap, arith}
+-- The printed text of the generated theory has few enough bytes: each procedure is printed as at
+-- most 600 lexemes and line ends, and each of those as at most 13 bytes.
+use Rattle.std.proofs.Common.{◌≡◌, ◌∙◌, ℕ, zero, suc, ◌+◌, ◌*◌, ◌≤◌, ◌==◌, Bool, true, false, cond, ◌&&◌, List, [], ◌∷◌, ◌++◌, length, length-append, codes, nat_le, refl, arith}
 use Rattle.std.specs.Fmt.{decimal}
 use Rattle.std.proofs.lemmas.Bool.{and_parts}
 use Rattle.std.proofs.lemmas.Bool.Decides.{nat_tests}
 use Rattle.std.proofs.lemmas.Fmt.{length-decimal-le}
-use Rattle.model_limits.specs.Limits.{standard_limits, file_limit}
-use Rattle.model_limits.specs.FirstOf.{or_else, unless}
+use Rattle.model_limits.specs.Limits.{standard_limits}
 use Rattle.model_text.specs.Tokens.{newline, quote, backslash, letter_n}
 use Rattle.model_text.specs.Lexemes.{Lexeme, terminal, step_word, name_lexeme, logic_lexeme, number_lexeme, literal_lexeme, bad_lexeme, reserved_words}
-use Rattle.model_text.specs.Nesting.{lexemes_of, open_behind, lexeme_limit, token_limit}
-use Rattle.model_grammar.specs.Writing.{printed, spaced, text_of, text_of_lines, all_lexemes, procedure_lines, procedures_lines, theory_lines, theory_text}
-use Rattle.model_printing.specs.Printable.{without_line}
-use Rattle.model_printing.proofs.Lines.{lines_read_back}
-use Rattle.model_round_trip.proofs.Printed.{theory_ready, lines_printable}
-use Rattle.model_answers.specs.Texts.{text_limit}
+use Rattle.model_grammar.specs.Writing.{printed, spaced, text_of, text_of_lines, procedure_lines, procedures_lines, theory_lines, theory_text}
 use Rattle.model_generator.specs.Generated.{maker, makers, most_makers, generated_theory}
-use Rattle.generator_laws.proofs.FileWritable.{theory_writable, theory_literals}
+use Rattle.generator_laws.proofs.FileNames.{few_digits}
 
 -- THE BYTES that are printed for a lexeme, at most
 abbrev bulk : Lexeme → ℕ
@@ -122,16 +116,13 @@ text_length (line ∷ rest) e =
     length-append (text_of line) (newline ∷ text_of_lines rest) in
     omega (arith, here.1)
 
--- a number of a procedure has three digits at most
+-- what is printed for a procedure is short
 module _ (k : ℕ) (small : k ≤ most_makers) where
-  few_digits : length (decimal k) ≤ 3
-  few_digits = length-decimal-le 3 k (omega arith) (omega arith) (omega arith)
-
   short_name : is_short (name_lexeme (codes "p" ++ decimal k)) ≡ true
-  short_name = let few = few_digits in grind (arith, nat_tests)
+  short_name = let few = few_digits k small in grind (arith, nat_tests)
 
   short_text : is_short (literal_lexeme (codes "t" ++ decimal k)) ≡ true
-  short_text = let few = few_digits in grind (arith, nat_tests)
+  short_text = let few = few_digits k small in grind (arith, nat_tests)
 
   maker_short : (rest : List (List Lexeme))
       → are_short (procedure_lines (maker k) ++ rest) ≡ are_short rest

@@ -2,19 +2,19 @@
 use Rattle.std.proofs.Common.{◌≡◌, ℕ, zero, suc, ◌+◌, ◌≤◌, List, [], ◌∷◌, ◌++◌, map, codes, refl, arith}
 use Rattle.std.specs.Fmt.{decimal}
 use Rattle.std.specs.Str.{IsUtf8}
-use Rattle.model_shapes.specs.Sorts.{grove, shape}
 use Rattle.model_terms.specs.Terms.{Term, variable}
 use Rattle.model_formulas.specs.Formulas.{Named}
-use Rattle.model_commands.specs.Commands.{Command, block, stop, ◌then◌}
-use Rattle.model_commands.specs.Theories.{StepOf, ProcedureOf}
+use Rattle.model_commands.specs.Theories.{StepOf}
+use Rattle.model_commands.specs.Commands.{block, stop, ◌then◌}
 use Rattle.model_text.specs.Lexemes.{Lexeme, terminal, step_word, name_lexeme, logic_lexeme, number_lexeme, literal_lexeme, bad_lexeme, reserved_words}
 use Rattle.model_text.proofs.Computing.{lexing}
 use Rattle.model_grammar.specs.Sorts.{sorted_procedure, with_sorts}
 use Rattle.model_grammar.specs.Terms.{in_formula}
 use Rattle.model_grammar.specs.Writing.{Each, IsName, IsLogicName, IsWritableTerm, IsWritable, IsWritableCommand, procedures_lines, theory_lines}
-use Rattle.model_round_trip.specs.Writable.{IsWord, IsWritableStep, IsWritableProcedure, IsWritableTheory}
+use Rattle.model_round_trip.specs.Writable.{IsWord, IsNumeral, IsWritableReason, IsWritableJudgement, IsWritableStep, IsWritableProcedure, IsWritableTheory}
 use Rattle.model_round_trip.specs.Literals.{LiteralsAreUtf8}
-use Rattle.model_generator.specs.Generated.{x, x_term, some_node, some_list, beginning, new_root, some_root, same_tag, nothing_yet, creation, body, about, hoare, step_by, proof, maker, makers, most_makers, generated_theory}
+use Rattle.rule_table.proofs.SomeLetters.{◌&◌}
+use Rattle.model_generator.specs.Generated.{x_term, some_node, some_list, beginning, new_root, some_root, nothing_yet, creation, body, proof, maker, makers, most_makers, generated_theory}
 use Rattle.generator_laws.proofs.FileNames.{name_is_name, text_is_utf8}
 
 -- THE WORDS
@@ -63,6 +63,11 @@ unfolding lexing
 local_is_word = refl
 
 -- WHAT CAN BE WRITTEN
+step_writable : {step : StepOf Named} → IsNumeral step.number → IsWritableReason step.reason
+    → IsWritableJudgement step.judgement → IsWritableStep step
+step_writable number reason judgement =
+    record { number = number; reason = reason; judgement = judgement }
+
 beginning_writable : IsWritable beginning
 beginning_writable = (tt, (x_is_name, tt))
 
@@ -90,49 +95,23 @@ module _ (k : ℕ) where
   body_writable = (x_is_name, block_writable)
 
   proof_writable : Each IsWritableStep (proof k)
-  proof_writable = (
-    record {
-      number = omega arith;
-      reason = (create_is_word, tt, tt);
-      judgement = (nothing_yet_writable, creation_writable, new_one_writable);
-    },
-    (record {
-      number = omega arith;
-      reason = (and_left_is_word, tt, tt);
-      judgement = (beginning_writable, tt, refl);
-    },
-    (record {
-      number = omega arith;
-      reason = (eq_refl_is_word, tt, tt);
-      judgement = (beginning_writable, (tt, tt), refl);
-    },
-    (record {
-      number = omega arith;
-      reason = (and_in_is_word, (omega arith, (omega arith, tt)), tt);
-      judgement = (beginning_writable, nothing_yet_writable, refl);
-    },
-    (record {
-      number = omega arith;
-      reason = (exists_in_is_word, tt, (x_is_name, tt));
-      judgement = (new_one_writable, some_root_writable, refl);
-    },
-    (record {
-      number = omega arith;
-      reason = (consequence_is_word, (omega arith, (omega arith, (omega arith, tt))), tt);
-      judgement = (beginning_writable, creation_writable, some_root_writable);
-    },
-    (record {
-      number = omega arith;
-      reason = (seq_is_word, (omega arith, tt), tt);
-      judgement = (beginning_writable, block_writable, some_root_writable);
-    },
-    (record {
-      number = omega arith;
-      reason = (local_is_word, (omega arith, tt), tt);
-      judgement = (tt, body_writable, some_root_writable);
-    },
-    tt)))))))
-  )
+  proof_writable =
+      step_writable (omega arith) (create_is_word, tt, tt)
+      (nothing_yet_writable, creation_writable, new_one_writable)
+      & step_writable (omega arith) (and_left_is_word, tt, tt) (beginning_writable, tt, refl)
+      & step_writable (omega arith) (eq_refl_is_word, tt, tt) (beginning_writable, (tt, tt), refl)
+      & step_writable (omega arith) (and_in_is_word, (omega arith, (omega arith, tt)), tt)
+      (beginning_writable, nothing_yet_writable, refl)
+      & step_writable (omega arith) (exists_in_is_word, tt, (x_is_name, tt))
+      (new_one_writable, some_root_writable, refl)
+      & step_writable (omega arith)
+      (consequence_is_word, (omega arith, (omega arith, (omega arith, tt))), tt)
+      (beginning_writable, creation_writable, some_root_writable)
+      & step_writable (omega arith) (seq_is_word, (omega arith, tt), tt)
+      (beginning_writable, block_writable, some_root_writable)
+      & step_writable (omega arith) (local_is_word, (omega arith, tt), tt)
+      (tt, body_writable, some_root_writable)
+      & tt
 
   maker_writable : k ≤ most_makers → IsWritableProcedure (maker k)
   maker_writable small = record {

@@ -1,7 +1,5 @@
 use Rattle.std.proofs.Common.{ℕ, ◌≤◌, ◌≡◌}
 use Rattle.model_commands.specs.Theories.{Theory}
-use Rattle.model_text.specs.Nesting.{lexemes_of}
-use Rattle.model_grammar.specs.Theories.{SpellsTheory}
 use Rattle.model_grammar.specs.Writing.{theory_text}
 use Rattle.model_answers.specs.Texts.{IsFile}
 use Rattle.model_round_trip.specs.ReadBack.{without_lines, ReadsAs}
