@@ -6,6 +6,8 @@
 #![tactic(auto)]
 
 #[cfg(test)]
+mod axioms;
+#[cfg(test)]
 mod contexts;
 #[cfg(test)]
 mod copies;
