@@ -22,6 +22,7 @@ that it can see. With --write the files are written, and nothing is measured.
     assoc        forests and groves whose brackets are moved over, a part at a time
     levels       mono rules through 44 levels of nodes
     binders      40 quantifiers brought in with written arguments and taken out again
+    generated    the theory that `make N` prints: 226 procedures in 0.25 MB, 3,560 in 4 MB
 
 Each file is accepted.
 """
@@ -32,6 +33,10 @@ import sys
 import tempfile
 
 TOP = pathlib.Path(__file__).resolve().parent.parent
+sys.dont_write_bytecode = True  # the checkout stays as it is
+sys.path.insert(0, str(TOP / "tests"))
+from reading.generated import HEAD as GENERATED_HEAD, procedure_text
+
 PROGRAM = TOP / "crates/domcheck_cli/out/domcheck_cli"
 MOST_BYTES = 4_194_304
 MOST_STEPS = 65_535
@@ -376,6 +381,11 @@ def names(room):
     return text + f"step {count} by skip(): pre 0g do skip post 0g at g;\nend\n"
 
 
+def generated(room):
+    """The generated theory, with more procedures than may be asked for."""
+    return filled(room, GENERATED_HEAD, procedure_text)
+
+
 SHAPES = {
     "assignments": assignments,
     "citations": citations,
@@ -389,10 +399,9 @@ SHAPES = {
     "assoc": assoc,
     "levels": levels,
     "binders": binders,
+    "generated": generated,
 }
 
-# accepted, and that a step names a rule that isn't built
-STATUSES = (0, 4)
 
 
 def run(words, file, statuses):
@@ -409,7 +418,7 @@ def run(words, file, statuses):
 def measure(program, name, file):
     """Runs the program and gzip in turn, and prints the least of each."""
     words, size = [program, "check", file], os.path.getsize(file)
-    pairs = [(run(words, file, STATUSES), run(["gzip"], file, (0,))) for _ in range(RUNS)]
+    pairs = [(run(words, file, (0,)), run(["gzip"], file, (0,))) for _ in range(RUNS)]
     (check, memory), (gzip, _) = (min(runs) for runs in zip(*pairs))
     ratio = f"{check / gzip:.1f}" if gzip else "no"
     times = f"check {check:.2f} s, gzip {gzip:.2f} s, ratio {ratio}"

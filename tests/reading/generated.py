@@ -38,9 +38,14 @@ def count_of(word):
     return decimal(word, 1, MOST)
 
 
+def procedure_text(number):
+    """Returns the text of the procedure with the number."""
+    text = PROCEDURE
+    for word, said in WORDS.items():
+        text = text.replace(word, said)
+    return text.replace("K", str(number))
+
+
 def generated(count):
     """Returns the text of the theory of so many procedures."""
-    procedure = PROCEDURE
-    for word, text in WORDS.items():
-        procedure = procedure.replace(word, text)
-    return HEAD + "".join(procedure.replace("K", str(number)) for number in range(1, count + 1))
+    return HEAD + "".join(procedure_text(number) for number in range(1, count + 1))
