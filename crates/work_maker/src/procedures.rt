@@ -29,7 +29,6 @@ fn maker(alloc: Global, k: u32) -> Result<Procedure, OutOfMemory>
 }
 
 /// So many procedures, the first of which has the number 1.
-#[tactic(auto, using(crate::proofs::Makers::one_more))]
 pub fn makers(alloc: Global, n: u32) -> Result<Procedures, OutOfMemory>
     ensures { IfOk result (λ procedures. map procedure_of procedures ≡ makers 1 n) }
 {
