@@ -1,4 +1,4 @@
-use Rattle.std.proofs.Common.{◌≡◌, ◌∙◌, ap, map}
+use Rattle.std.proofs.Common.{◌∙◌, ap, map}
 use Rattle.theory_syntax.specs.Theories.{procedure_of}
 use Rattle.work_maker.proofs.Makers.{pushed}
 use Rattle.work_maker.proofs.procedures.makers.Goals as goal
