@@ -6,9 +6,19 @@ ghost use Rattle.std.specs.Prelude.{◌≡◌, ◌≤◌, IfOk};
 ghost use Rattle.model_generator.specs.Generated.{generated_theory, most_makers};
 ghost use Rattle.theory_syntax.specs.Theories.{theory_of};
 
-use dom_terms::OutOfMemory;
+mod commands;
+mod formulas;
+mod judgements;
+mod names;
+mod procedures;
+mod steps;
+mod variables;
+
+use dom_terms::{LogicVars, OutOfMemory};
+use procedures::makers;
 use std::alloc::Global;
 use theory_syntax::Theory;
+use variables::{some_list, some_node};
 
 /// The generated theory for a number of procedures from 1 to 200: each of them makes
 /// one node, and is proved to.
@@ -17,5 +27,12 @@ pub fn make_theory(alloc: Global, n: u32) -> Result<Theory, OutOfMemory>
     requires most { n ≤ most_makers }
     ensures { IfOk result (λ theory. theory_of theory ≡ generated_theory n) }
 {
-    Err(OutOfMemory)
+    let mut logic = LogicVars::new(alloc);
+    logic.push(some_list(alloc)?)?;
+    logic.push(some_node(alloc)?)?;
+    Ok(Theory {
+        version: 1,
+        logic,
+        procedures: makers(alloc, n)?,
+    })
 }
