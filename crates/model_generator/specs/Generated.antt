@@ -28,6 +28,22 @@ some_list = logic (codes "$m") (value list_sort)
 abbrev pub beginning : Named
 beginning = conjunction (empty grove) (equality x_term (literal null))
 
+-- an entailment and a triple about groves
+abbrev pub about : Named → Named → JudgementOf Named
+about p q = entails p q (shape grove)
+
+abbrev pub hoare : Named → Command → Named → JudgementOf Named
+hoare p c q = triple p c q grove
+
+-- a step: its number, its rule, what it cites, its arguments and what it says; no line is given
+abbrev pub step_by : ℕ → Name → List ℕ → List Term → JudgementOf Named → StepOf Named
+step_by number rule citations arguments judgement = record {
+  number = number;
+  line = 0;
+  reason = by_rule rule citations arguments;
+  judgement = judgement;
+}
+
 -- The procedure for a number K.
 module _ (k : ℕ) where
   -- "tK"
@@ -56,22 +72,6 @@ module _ (k : ℕ) where
 
   abbrev pub body : Command
   body = local x (creation then stop)
-
-  -- an entailment and a triple about groves
-  abbrev pub about : Named → Named → JudgementOf Named
-  about p q = entails p q (shape grove)
-
-  abbrev pub hoare : Named → Command → Named → JudgementOf Named
-  hoare p c q = triple p c q grove
-
-  -- a step: its number, its rule, what it cites, its arguments and what it says; no line is given
-  abbrev pub step_by : ℕ → Name → List ℕ → List Term → JudgementOf Named → StepOf Named
-  step_by number rule citations arguments judgement = record {
-    number = number;
-    line = 0;
-    reason = by_rule rule citations arguments;
-    judgement = judgement;
-  }
 
   -- the proof: the axiom, its requires from the beginning, its ensures with the number hidden
   abbrev pub proof : List (StepOf Named)

@@ -39,10 +39,10 @@ fn step_by(
     judgement: Judgement,
 ) -> Result<Step, OutOfMemory>
     ensures { IfOk result (λ step. step_of step ≡ record {
-        number = number;
-        line = 0;
-        reason = by_rule rule.now citations.now (map term_of arguments);
-        judgement = judgement_of judgement;
+      number = number;
+      line = 0;
+      reason = by_rule rule.now citations.now (map term_of arguments);
+      judgement = judgement_of judgement;
     }) }
 {
     let reason = Reason::Rule {
@@ -61,8 +61,8 @@ fn step_by(
 // The axiom.
 fn axiom(alloc: Global, k: u32) -> Result<Step, OutOfMemory>
     ensures { IfOk result (λ step. step_of step
-        ≡ step_by k 1 (codes "create") [] []
-        (hoare k (nothing_yet k) (creation k) (new_root k x_term))) }
+        ≡ step_by 1 (codes "create") [] []
+        (hoare (nothing_yet k) (creation k) (new_root k x_term))) }
 {
     let none = Terms::new(alloc);
     let root = new_root(alloc, k, x_term(alloc)?)?;
@@ -73,7 +73,7 @@ fn axiom(alloc: Global, k: u32) -> Result<Step, OutOfMemory>
 // The grove is empty where the body begins.
 fn begins_empty(alloc: Global, k: u32) -> Result<Step, OutOfMemory>
     ensures { IfOk result (λ step. step_of step
-        ≡ step_by k 2 (codes "and_left") [] [] (about k beginning (empty grove))) }
+        ≡ step_by 2 (codes "and_left") [] [] (about beginning (empty grove))) }
 {
     let none = Terms::new(alloc);
     let says = about(beginning(alloc)?, Formula::EmptyGrove);
@@ -83,7 +83,7 @@ fn begins_empty(alloc: Global, k: u32) -> Result<Step, OutOfMemory>
 // The tag is itself.
 fn tag_is_itself(alloc: Global, k: u32) -> Result<Step, OutOfMemory>
     ensures { IfOk result (λ step. step_of step
-        ≡ step_by k 3 (codes "eq_refl") [] [] (about k beginning (same_tag k))) }
+        ≡ step_by 3 (codes "eq_refl") [] [] (about beginning (same_tag k))) }
 {
     let none = Terms::new(alloc);
     let says = about(beginning(alloc)?, same_tag(alloc, k)?);
@@ -93,7 +93,7 @@ fn tag_is_itself(alloc: Global, k: u32) -> Result<Step, OutOfMemory>
 // So what the axiom requires is there.
 fn requires_met(alloc: Global, k: u32) -> Result<Step, OutOfMemory>
     ensures { IfOk result (λ step. step_of step
-        ≡ step_by k 4 (codes "and_in") (2 ∷ 3 ∷ []) [] (about k beginning (nothing_yet k))) }
+        ≡ step_by 4 (codes "and_in") (2 ∷ 3 ∷ []) [] (about beginning (nothing_yet k))) }
 {
     let none = Terms::new(alloc);
     let says = about(beginning(alloc)?, nothing_yet(alloc, k)?);
@@ -103,8 +103,8 @@ fn requires_met(alloc: Global, k: u32) -> Result<Step, OutOfMemory>
 // The number of the new root is hidden.
 fn number_hidden(alloc: Global, k: u32) -> Result<Step, OutOfMemory>
     ensures { IfOk result (λ step. step_of step
-        ≡ step_by k 5 (codes "exists_in") [] (x_term ∷ [])
-        (about k (new_root k x_term) (some_root k))) }
+        ≡ step_by 5 (codes "exists_in") [] (x_term ∷ [])
+        (about (new_root k x_term) (some_root k))) }
 {
     let mut arguments = Terms::new(alloc);
     arguments.push(x_term(alloc)?)?;
@@ -116,8 +116,8 @@ fn number_hidden(alloc: Global, k: u32) -> Result<Step, OutOfMemory>
 // The creation, from the beginning to some root.
 fn creates(alloc: Global, k: u32) -> Result<Step, OutOfMemory>
     ensures { IfOk result (λ step. step_of step
-        ≡ step_by k 6 (codes "consequence") (4 ∷ 1 ∷ 5 ∷ []) []
-        (hoare k beginning (creation k) (some_root k))) }
+        ≡ step_by 6 (codes "consequence") (4 ∷ 1 ∷ 5 ∷ []) []
+        (hoare beginning (creation k) (some_root k))) }
 {
     let none = Terms::new(alloc);
     let says = hoare(beginning(alloc)?, creation(alloc, k)?, some_root(alloc, k)?);
@@ -127,8 +127,8 @@ fn creates(alloc: Global, k: u32) -> Result<Step, OutOfMemory>
 // The same in a block.
 fn block_creates(alloc: Global, k: u32) -> Result<Step, OutOfMemory>
     ensures { IfOk result (λ step. step_of step
-        ≡ step_by k 7 (codes "seq") (6 ∷ []) []
-        (hoare k beginning (block (creation k then stop)) (some_root k))) }
+        ≡ step_by 7 (codes "seq") (6 ∷ []) []
+        (hoare beginning (block (creation k then stop)) (some_root k))) }
 {
     let none = Terms::new(alloc);
     let block = Command::Block(creation_block(alloc, k)?);
@@ -139,8 +139,8 @@ fn block_creates(alloc: Global, k: u32) -> Result<Step, OutOfMemory>
 // The body, from nothing to some root.
 fn body_creates(alloc: Global, k: u32) -> Result<Step, OutOfMemory>
     ensures { IfOk result (λ step. step_of step
-        ≡ step_by k 8 (codes "local") (7 ∷ []) []
-        (hoare k (empty grove) (body k) (some_root k))) }
+        ≡ step_by 8 (codes "local") (7 ∷ []) []
+        (hoare (empty grove) (body k) (some_root k))) }
 {
     let none = Terms::new(alloc);
     let says = hoare(Formula::EmptyGrove, body(alloc, k)?, some_root(alloc, k)?);
