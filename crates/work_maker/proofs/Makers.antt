@@ -1,5 +1,6 @@
 -- One procedure more at the end.
-use Rattle.std.proofs.Common.{◌≡◌, refl, ap, ◌∙◌, ℕ, zero, suc, ◌+◌, [], ◌∷◌, ◌++◌, arith, List, map}
+use Rattle.std.proofs.Common.{◌≡◌, refl, ap, ◌∙◌, ℕ, zero, suc, ◌+◌, arith}
+use Rattle.std.proofs.Common.{List, [], ◌∷◌, ◌++◌, map}
 use Rattle.std.proofs.lemmas.List.{map-append}
 use Rattle.theory_syntax.specs.declared.theories.Procedure.{Procedure}
 use Rattle.theory_syntax.specs.Theories.{procedure_of}

@@ -5,7 +5,8 @@ ghost use Rattle.model_terms.specs.Terms.{variable};
 ghost use Rattle.model_formulas.specs.Formulas.{conjunction, equality, empty, node_formula};
 ghost use Rattle.dom_terms.specs.Terms.{term_of};
 ghost use Rattle.formula_syntax.specs.Formulas.{formula_of};
-ghost use Rattle.model_generator.specs.Generated.{some_list, beginning, tag, new_root, some_root, same_tag, nothing_yet};
+ghost use Rattle.model_generator.specs.Generated.{some_list, tag, new_root, some_root};
+ghost use Rattle.model_generator.specs.Generated.{same_tag, nothing_yet, beginning};
 
 use crate::names::numbered;
 use crate::variables::{some_list, some_node, x_term};

@@ -1,5 +1,5 @@
 // The procedures.
-ghost use Rattle.std.specs.Prelude.{◌≡◌, ◌<◌, IfOk, map};
+ghost use Rattle.std.specs.Prelude.{◌≡◌, IfOk, map};
 ghost use Rattle.theory_syntax.specs.Theories.{procedure_of};
 ghost use Rattle.model_generator.specs.Generated.{maker, makers};
 

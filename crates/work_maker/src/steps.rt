@@ -6,7 +6,9 @@ ghost use Rattle.model_commands.specs.Commands.{block, stop, ◌then◌};
 ghost use Rattle.model_commands.specs.Theories.{by_rule};
 ghost use Rattle.dom_terms.specs.Terms.{term_of};
 ghost use Rattle.theory_syntax.specs.Judgements.{judgement_of, step_of};
-ghost use Rattle.model_generator.specs.Generated.{x_term, beginning, new_root, some_root, same_tag, nothing_yet, creation, body};
+ghost use Rattle.model_generator.specs.Generated.{x_term, new_root, some_root};
+ghost use Rattle.model_generator.specs.Generated.{same_tag, nothing_yet, beginning};
+ghost use Rattle.model_generator.specs.Generated.{creation, body};
 ghost use Rattle.model_generator.specs.Generated.{about, hoare, step_by, proof};
 
 use crate::commands::{body, creation, creation_block};
