@@ -305,8 +305,8 @@ one_answer books r s o t p
     let same : bytes ≡ other = some_same bytes other (sym e ∙ f) in
     one_run (books document) other procedure fuel arguments s t o p
     (subst (λ (z : List ℕ). RunAnswer (books document) z procedure fuel arguments s o) same a) b
-one_answer books r s o t p (made n) (made n) = (refl, refl)
-one_answer books r s o t p (tried n) (tried n) = (refl, refl)
+one_answer books r s o t p (made n) (made m) = (refl, refl)
+one_answer books r s o t p (tried n) (tried m) = (refl, refl)
 
 -- where there is an answer, what it needs is told
 told_for_run : (books : Books) (bytes procedure document : List ℕ) (fuel : ℕ)

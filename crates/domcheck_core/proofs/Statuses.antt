@@ -173,11 +173,11 @@ speaks_words books s o bad_words = refl
 
 speaks_made : (n : ℕ) (books : Books) (s : Status) (o : List ℕ)
     → IsAnswer books (Some (make n)) s o → speaks s ≡ true
-speaks_made n books s o (made n) = refl
+speaks_made n books s o (made m) = refl
 
 speaks_tried : (n : ℕ) (books : Books) (s : Status) (o : List ℕ)
     → IsAnswer books (Some (trial n)) s o → speaks s ≡ true
-speaks_tried n books s o (tried n) = refl
+speaks_tried n books s o (tried m) = refl
 
 pub reply_speaks : (r : Option Request) (books : Books) (s : Status) (o : List ℕ)
     → IsReply r books s o → speaks s ≡ true
@@ -248,11 +248,11 @@ possible_words books s o bad_words = (0, lit< tt, refl)
 
 possible_made : (n : ℕ) (books : Books) (s : Status) (o : List ℕ)
     → IsAnswer books (Some (make n)) s o → Contains (statuses (Some (make n))) (number_of s)
-possible_made n books s o (made n) = (0, lit< tt, refl)
+possible_made n books s o (made m) = (0, lit< tt, refl)
 
 possible_tried : (n : ℕ) (books : Books) (s : Status) (o : List ℕ)
     → IsAnswer books (Some (trial n)) s o → Contains (statuses (Some (trial n))) (number_of s)
-possible_tried n books s o (tried n) = (0, lit< tt, refl)
+possible_tried n books s o (tried m) = (0, lit< tt, refl)
 
 pub possible : (r : Option Request) (books : Books) (s : Status) (o : List ℕ)
     → IsReply r books s o → Contains (statuses r) (number_of s)

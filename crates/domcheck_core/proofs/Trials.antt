@@ -44,12 +44,14 @@ generated_line n =
     (so_many_makers 1 n)
     ∙ ap (λ m. line (accepted_text n m)) (so_many_steps 1 n)
 
--- the answer
-pub generated_is_accepted : (n : ℕ) → 1 ≤ n → n ≤ most_makers
-    → CheckAnswer (theory_text (generated_theory n)) status.Done (line (accepted_text n (8 * n)))
-generated_is_accepted n some most =
+-- THE ANSWER on bytes that are that text
+pub generated_is_accepted : (n : ℕ) → 1 ≤ n → n ≤ most_makers → (bytes : List ℕ)
+    → bytes ≡ theory_text (generated_theory n)
+    → CheckAnswer bytes status.Done (line (accepted_text n (8 * n)))
+generated_is_accepted n some most bytes same =
     let file = printed-is-file n some most in
-    subst (CheckAnswer (theory_text (generated_theory n)) status.Done)
+    subst (λ (z : List ℕ). CheckAnswer z status.Done (line (accepted_text n (8 * n)))) (sym same)
+    (subst (CheckAnswer (theory_text (generated_theory n)) status.Done)
     (same_line file.0 (generated_theory n) file.2 ∙ generated_line n)
     (judged file.0 file.1 (says_yes (lines-apart (generated_theory n) file.0
-    (sym file.2) (generated-accepted n))))
+    (sym file.2) (generated-accepted n)))))
