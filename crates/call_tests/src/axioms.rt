@@ -14,8 +14,11 @@ fn a_triple_has_the_verdict_of_the_axiom_named(rt: HostRuntime) -> Result<(), Fa
     let Judgement::Triple(creation) = &first.judgement else {
         return Err(Fail::from("no triple"));
     };
-    assert!(rt; matches!(axiom_instance(alloc, "create", creation), Ok(Verdict::Instance)));
-    assert!(rt; matches!(axiom_instance(alloc, "append", creation), Ok(Verdict::Shape)));
-    assert!(rt; matches!(axiom_instance(alloc, "seq", creation), Ok(Verdict::Shape)));
+    let verdict = axiom_instance(alloc, "create", creation)?;
+    assert!(rt; matches!(verdict, Verdict::Instance));
+    let verdict = axiom_instance(alloc, "append", creation)?;
+    assert!(rt; matches!(verdict, Verdict::Shape));
+    let verdict = axiom_instance(alloc, "seq", creation)?;
+    assert!(rt; matches!(verdict, Verdict::Shape));
     Ok(())
 }
