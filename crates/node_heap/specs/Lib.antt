@@ -1,0 +1,6 @@
+pub mod Indexes
+pub mod Records
+pub mod Links
+pub mod Heap
+pub mod HeapView
+pub mod Answers
