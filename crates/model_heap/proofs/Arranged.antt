@@ -2,11 +2,12 @@
 use Rattle.std.proofs.Common.{rules, ◌≡◌, ◌≢◌, ◌⊎◌, ℕ, zero, suc, ◌+◌, ◌<◌, ◌≤◌, Bool, true, false, cond, eqb, List, [], ◌∷◌, ◌++◌, Option, Some, None, refl, sym, ap, ◌∙◌, inl, inr, arith, subst}
 use Rattle.std.specs.Option.{option_or, option_map, is_some, IsSome}
 use Rattle.std.proofs.lemmas.Bool.{cases_eq}
+use Rattle.model_groves.specs.Sizes.{size}
 use Rattle.model_shapes.specs.Trees.{Trees, none, node, hole, beside, root_uses, one_if, trees_eq}
 use Rattle.model_shapes.specs.Shapes.{holes}
 use Rattle.model_heap.specs.Lists.{count}
-use Rattle.model_heap.specs.Entries.{Entry, roots, uses, entry, Rows, rows_of, kids_of, parent_of, Kin, tree_at, without, adopt}
-use Rattle.model_heap.specs.Roots.{root_at, arranged, size}
+use Rattle.model_heap.specs.Entries.{Entry, roots, uses, entry, Rows, rows_of, kids_of, parent_of, Kin, tree_at, all_but, adopt}
+use Rattle.model_heap.specs.Roots.{root_at, arranged}
 use Rattle.model_heap.proofs.Moves.{test_yes, test_no, one_here, none_here, or_none, or_assoc, entry_absent, uses-beside, entry-beside, adopt_absent}
 
 pub root_absent : (n : ℕ) (r : Trees) → uses n r ≡ 0 → root_at n r ≡ none
@@ -168,7 +169,7 @@ holes-beside (node s i kids l rest) b = omega (arith, holes-beside rest b)
 holes-beside (hole rest) b = omega (arith, holes-beside rest b)
 
 -- the moves keep the size, and make no hole
-pub size-split : (c : ℕ) (r : Trees) → uses c r ≤ 1 → size (without c r) + size (tree_at c r) ≡ size r
+pub size-split : (c : ℕ) (r : Trees) → uses c r ≤ 1 → size (all_but c r) + size (tree_at c r) ≡ size r
 size-split c none u = refl
 size-split c (node s i kids l rest) u =
     elim (cases_eq c i) [
@@ -186,14 +187,14 @@ holes-tree c (node s i kids l rest) h =
     ]
 holes-tree c (hole rest) h = absurd (omega (arith, h))
 
-pub holes-without : (c : ℕ) (r : Trees) → holes r ≡ 0 → holes (without c r) ≡ 0
-holes-without c none h = refl
-holes-without c (node s i kids l rest) h =
+pub holes-all_but : (c : ℕ) (r : Trees) → holes r ≡ 0 → holes (all_but c r) ≡ 0
+holes-all_but c none h = refl
+holes-all_but c (node s i kids l rest) h =
     elim (cases_eq c i) [
       | inl e ↦ rw (test_yes c i e) (omega (arith, h))
-      | inr e ↦ rw (test_no c i e) (omega (arith, h, holes-without c kids (omega (arith, h)), holes-without c rest (omega (arith, h))))
+      | inr e ↦ rw (test_no c i e) (omega (arith, h, holes-all_but c kids (omega (arith, h)), holes-all_but c rest (omega (arith, h))))
     ]
-holes-without c (hole rest) h = absurd (omega (arith, h))
+holes-all_but c (hole rest) h = absurd (omega (arith, h))
 
 pub holes-adopt : (p : ℕ) (t r : Trees) → holes t ≡ 0 → holes r ≡ 0 → holes (adopt p t r) ≡ 0
 holes-adopt p t none k h = refl

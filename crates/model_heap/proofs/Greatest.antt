@@ -2,8 +2,9 @@
 use Rattle.std.proofs.Common.{rules, ◌≡◌, ◌≢◌, ◌⊎◌, ℕ, zero, suc, ◌+◌, ◌<◌, ◌≤◌, max, Bool, true, false, cond, eqb, List, [], ◌∷◌, ◌++◌, Option, Some, None, refl, sym, ap, ◌∙◌, inl, inr, arith, subst}
 use Rattle.std.specs.Option.{option_or, option_map, is_some, IsSome}
 use Rattle.std.proofs.lemmas.Bool.{cases_eq, cases_lt}
+use Rattle.model_groves.specs.Sizes.{greatest_list, greatest_node}
 use Rattle.model_shapes.specs.Trees.{Trees, none, node, hole, beside}
-use Rattle.model_heap.specs.Entries.{Entry, roots, uses, entry, rows_of, greatest_node, greatest_list}
+use Rattle.model_heap.specs.Entries.{Entry, roots, uses, entry, rows_of}
 use Rattle.model_heap.proofs.Moves.{test_yes, test_no, one_here, none_here, entry_absent, or_none}
 use Rattle.model_heap.proofs.Kinship.{present}
 

@@ -4,7 +4,7 @@ use Rattle.std.specs.Option.{option_or, option_map, is_some, IsSome}
 use Rattle.std.proofs.lemmas.Bool.{cases_eq}
 use Rattle.model_shapes.specs.Trees.{Trees, none, node, hole, beside}
 use Rattle.model_heap.specs.Lists.{count}
-use Rattle.model_heap.specs.Entries.{Entry, roots, uses, entry, tree_at, without, removed, appended, Rows, rows_of, kids_of, parent_of, Kin, depth, detached, attached}
+use Rattle.model_heap.specs.Entries.{Entry, roots, uses, entry, tree_at, all_but, removed, appended, Rows, rows_of, kids_of, parent_of, Kin, depth, detached, attached}
 use Rattle.model_heap.proofs.Moves.{test_yes, test_no, one_here, none_here, or_none, entry_absent, uses-split, uses-beside, adopted_uses, rows-removed, rows-appended, tree_absent}
 
 pub roots_use : (x : ℕ) (r : Trees) → count x (roots r) ≤ uses x r
@@ -138,12 +138,12 @@ Kin-rows_of g once =
     }
 
 pub removed_once : (c : ℕ) (g : Trees) → ((n : ℕ) → uses n g ≤ 1) → (n : ℕ) → uses n (removed c g) ≡ uses n g
-removed_once c g once n = omega (arith, uses-beside n (without c g) (tree_at c g), uses-split c g n (once c))
+removed_once c g once n = omega (arith, uses-beside n (all_but c g) (tree_at c g), uses-split c g n (once c))
 
 pub appended_once : (p c : ℕ) (g : Trees) → ((n : ℕ) → uses n g ≤ 1) → uses p g ≡ 1 → uses p (tree_at c g) ≡ 0 → (n : ℕ) → uses n (appended p c g) ≡ uses n g
 appended_once p c g once pin apart n =
-    let pw : uses p (without c g) ≡ 1 = omega (arith, uses-split c g p (once c), pin, apart) in
-    omega (arith, adopted_uses p (tree_at c g) (without c g) n pw, uses-split c g n (once c))
+    let pw : uses p (all_but c g) ≡ 1 = omega (arith, uses-split c g p (once c), pin, apart) in
+    omega (arith, adopted_uses p (tree_at c g) (all_but c g) n pw, uses-split c g n (once c))
 
 -- the parent is nearer to a root
 pub depth_root : (n : ℕ) (r : Trees) → 1 ≤ count n (roots r) → uses n r ≤ 1 → depth n r ≡ 0

@@ -5,7 +5,7 @@ use Rattle.std.proofs.lemmas.Bool.{cases_eq}
 use Rattle.std.proofs.lemmas.Bool.Decides.{nat_tests}
 use Rattle.std.proofs.lemmas.Grind.{common_steps}
 use Rattle.model_shapes.specs.Trees.{Trees, none, node, hole, beside}
-use Rattle.model_heap.specs.Entries.{Entry, roots, uses, entry, tree_at, without, adopt, removed, appended, drop_from, Rows, less_kid, below, more_kids, detached, attached, rows_of}
+use Rattle.model_heap.specs.Entries.{Entry, roots, uses, entry, tree_at, all_but, adopt, removed, appended, drop_from, Rows, less_kid, below, more_kids, detached, attached, rows_of}
 
 -- tests of numbers
 pub test_yes : (a b : ℕ) → a ≡ b → eqb a b ≡ true
@@ -87,14 +87,14 @@ drop_absent c (node s i kids l rest) h =
     ]
 drop_absent c (hole rest) h = drop_absent c rest h
 
-pub roots-without : (c : ℕ) (r : Trees) → roots (without c r) ≡ drop_from c (roots r)
-roots-without c none = refl
-roots-without c (node s i kids l rest) =
+pub roots-all_but : (c : ℕ) (r : Trees) → roots (all_but c r) ≡ drop_from c (roots r)
+roots-all_but c none = refl
+roots-all_but c (node s i kids l rest) =
     elim (cases_eq c i) [
       | inl e ↦ rw (test_yes c i e) refl
-      | inr d ↦ rw (test_no c i d, roots-without c rest) refl
+      | inr d ↦ rw (test_no c i d, roots-all_but c rest) refl
     ]
-roots-without c (hole rest) = roots-without c rest
+roots-all_but c (hole rest) = roots-all_but c rest
 
 -- what has no such child is as before
 pub less_absent : (c : ℕ) (p : Option ℕ) (r : Trees) (n : ℕ) → uses c r ≡ 0 → option_map (less_kid c) (entry p r n) ≡ entry p r n
@@ -109,9 +109,9 @@ less_absent c p (node s i kids l rest) n h =
 less_absent c p (hole rest) n h = less_absent c p rest n h
 
 -- at a number outside the tree that goes, only the children change
-pub entry-without : (c : ℕ) (p : Option ℕ) (r : Trees) (n : ℕ) → uses c r ≤ 1 → uses n (tree_at c r) ≡ 0 → entry p (without c r) n ≡ option_map (less_kid c) (entry p r n)
-entry-without c p none n u h = refl
-entry-without c p (node s i kids l rest) n u h =
+pub entry-all_but : (c : ℕ) (p : Option ℕ) (r : Trees) (n : ℕ) → uses c r ≤ 1 → uses n (tree_at c r) ≡ 0 → entry p (all_but c r) n ≡ option_map (less_kid c) (entry p r n)
+entry-all_but c p none n u h = refl
+entry-all_but c p (node s i kids l rest) n u h =
     elim (cases_eq c i) [
       | inl e ↦
           let x : uses c rest ≡ 0 = omega (arith, u, one_here c i e) in
@@ -128,14 +128,14 @@ entry-without c p (node s i kids l rest) n u h =
           let gk : uses n (tree_at c kids) ≡ 0 = omega (arith, g, uses-beside n (tree_at c kids) (tree_at c rest)) in
           let gr : uses n (tree_at c rest) ≡ 0 = omega (arith, g, uses-beside n (tree_at c kids) (tree_at c rest)) in
           elim (cases_eq n i) [
-            | inl f ↦ rw (test_no c i e, test_yes n i f, roots-without c kids) refl
-            | inr f ↦ rw (test_no c i e, test_no n i f, map_or, entry-without c (Some i) kids n uk gk, entry-without c p rest n ur gr) refl
+            | inl f ↦ rw (test_no c i e, test_yes n i f, roots-all_but c kids) refl
+            | inr f ↦ rw (test_no c i e, test_no n i f, map_or, entry-all_but c (Some i) kids n uk gk, entry-all_but c p rest n ur gr) refl
           ]
     ]
-entry-without c p (hole rest) n u h = entry-without c p rest n u h
+entry-all_but c p (hole rest) n u h = entry-all_but c p rest n u h
 
 -- the tree of a number holds what the grove holds
-pub uses-split : (c : ℕ) (r : Trees) (n : ℕ) → uses c r ≤ 1 → uses n (without c r) + uses n (tree_at c r) ≡ uses n r
+pub uses-split : (c : ℕ) (r : Trees) (n : ℕ) → uses c r ≤ 1 → uses n (all_but c r) + uses n (tree_at c r) ≡ uses n r
 uses-split c none n u = refl
 uses-split c (node s i kids l rest) n u =
     elim (cases_eq c i) [
@@ -189,14 +189,14 @@ entry-tree_below c p q (node s i kids l rest) n d u v h =
     ]
 entry-tree_below c p q (hole rest) n d u v h = entry-tree_below c p q rest n d u v h
 
-pub uses-without : (c : ℕ) (r : Trees) → uses c r ≤ 1 → uses c (without c r) ≡ 0
-uses-without c none u = refl
-uses-without c (node s i kids l rest) u =
+pub uses-all_but : (c : ℕ) (r : Trees) → uses c r ≤ 1 → uses c (all_but c r) ≡ 0
+uses-all_but c none u = refl
+uses-all_but c (node s i kids l rest) u =
     elim (cases_eq c i) [
       | inl e ↦ rw (test_yes c i e) (omega (arith, u, one_here c i e))
-      | inr e ↦ rw (test_no c i e) (omega (arith, none_here c i e, uses-without c kids (omega (arith, u)), uses-without c rest (omega (arith, u))))
+      | inr e ↦ rw (test_no c i e) (omega (arith, none_here c i e, uses-all_but c kids (omega (arith, u)), uses-all_but c rest (omega (arith, u))))
     ]
-uses-without c (hole rest) u = uses-without c rest u
+uses-all_but c (hole rest) u = uses-all_but c rest u
 
 pub roots-tree : (c : ℕ) (r : Trees) → uses c r ≡ 1 → roots (tree_at c r) ≡ c ∷ []
 roots-tree c none u = absurd (omega (arith, u))
@@ -222,14 +222,14 @@ pub rows-removed : (c : ℕ) (g : Trees) → ((n : ℕ) → uses n g ≤ 1) → 
 rows-removed c g once n =
     elim (cases_eq n c) [
       | inl e ↦
-          let w : uses n (without c g) ≡ 0 = subst (λ m. uses m (without c g) ≡ 0) (sym e) (uses-without c g (once c)) in
+          let w : uses n (all_but c g) ≡ 0 = subst (λ m. uses m (all_but c g) ≡ 0) (sym e) (uses-all_but c g (once c)) in
           let t : entry None (tree_at c g) n ≡ option_map (below None) (entry None g n) = subst (λ m. entry None (tree_at c g) m ≡ option_map (below None) (entry None g m)) (sym e) (entry-tree_root c None None g (once c)) in
-          rw (test_yes n c e, entry-beside None (without c g) (tree_at c g) n, entry_absent None (without c g) n w) t
+          rw (test_yes n c e, entry-beside None (all_but c g) (tree_at c g) n, entry_absent None (all_but c g) n w) t
       | inr e ↦ elim (cases_eq (uses n (tree_at c g)) 0) [
-        | inl z ↦ rw (test_no n c e, entry-beside None (without c g) (tree_at c g) n, entry_absent None (tree_at c g) n z, or_none) (entry-without c None g n (once c) z)
+        | inl z ↦ rw (test_no n c e, entry-beside None (all_but c g) (tree_at c g) n, entry_absent None (tree_at c g) n z, or_none) (entry-all_but c None g n (once c) z)
         | inr z ↦
-            let w : uses n (without c g) ≡ 0 = omega (arith, z, once n, uses-split c g n (once c)) in
-            rw (test_no n c e, entry-beside None (without c g) (tree_at c g) n, entry_absent None (without c g) n w) (entry-tree_below c None None g n e (once c) (once n) (omega (arith, z)))
+            let w : uses n (all_but c g) ≡ 0 = omega (arith, z, once n, uses-split c g n (once c)) in
+            rw (test_no n c e, entry-beside None (all_but c g) (tree_at c g) n, entry_absent None (all_but c g) n w) (entry-tree_below c None None g n e (once c) (once n) (omega (arith, z)))
       ]
     ]
 
@@ -326,19 +326,19 @@ adopted_uses p t (hole rest) n u = adopted_uses p t rest n u
 -- THE GROVE AFTER AN APPEND
 pub rows-appended : (p c : ℕ) (g : Trees) → ((n : ℕ) → uses n g ≤ 1) → uses c g ≡ 1 → uses p g ≡ 1 → uses p (tree_at c g) ≡ 0 → (n : ℕ) → rows_of (appended p c g) n ≡ attached p c (detached c (rows_of g)) n
 rows-appended p c g once cin pin apart n =
-    let pw : uses p (without c g) ≡ 1 = omega (arith, uses-split c g p (once c), pin, apart) in
+    let pw : uses p (all_but c g) ≡ 1 = omega (arith, uses-split c g p (once c), pin, apart) in
     let rt = roots-tree c g cin in
     elim (cases_eq n c) [
       | inl e ↦
-          let w : uses n (without c g) ≡ 0 = subst (λ m. uses m (without c g) ≡ 0) (sym e) (uses-without c g (once c)) in
+          let w : uses n (all_but c g) ≡ 0 = subst (λ m. uses m (all_but c g) ≡ 0) (sym e) (uses-all_but c g (once c)) in
           let t : entry (Some p) (tree_at c g) n ≡ option_map (below (Some p)) (entry None g n) = subst (λ m. entry (Some p) (tree_at c g) m ≡ option_map (below (Some p)) (entry None g m)) (sym e) (entry-tree_root c None (Some p) g (once c)) in
-          rw (test_yes n c e, entry-adopted p (tree_at c g) None (without c g) n pw w, t) (both (entry None g n))
+          rw (test_yes n c e, entry-adopted p (tree_at c g) None (all_but c g) n pw w, t) (both (entry None g n))
       | inr e ↦ elim (cases_eq (uses n (tree_at c g)) 0) [
-        | inl z ↦ rw (test_no n c e, entry-adopt p (tree_at c g) None (without c g) n (omega (arith, pw)) z, rt, entry-without c None g n (once c) z) refl
+        | inl z ↦ rw (test_no n c e, entry-adopt p (tree_at c g) None (all_but c g) n (omega (arith, pw)) z, rt, entry-all_but c None g n (once c) z) refl
         | inr z ↦
-            let w : uses n (without c g) ≡ 0 = omega (arith, z, once n, uses-split c g n (once c)) in
-            let d : n ≢ p = λ x. absurd (omega (arith, w, subst (λ m. uses m (without c g) ≡ 1) (sym x) pw)) in
-            rw (test_no n c e, entry-adopted p (tree_at c g) None (without c g) n pw w, test_no n p d, entry-tree_below c None (Some p) g n e (once c) (once n) (omega (arith, z))) (kept (option_map (less_kid c) (entry None g n)))
+            let w : uses n (all_but c g) ≡ 0 = omega (arith, z, once n, uses-split c g n (once c)) in
+            let d : n ≢ p = λ x. absurd (omega (arith, w, subst (λ m. uses m (all_but c g) ≡ 1) (sym x) pw)) in
+            rw (test_no n c e, entry-adopted p (tree_at c g) None (all_but c g) n pw w, test_no n p d, entry-tree_below c None (Some p) g n e (once c) (once n) (omega (arith, z))) (kept (option_map (less_kid c) (entry None g n)))
       ]
     ]
   where

@@ -83,7 +83,7 @@ before-here c [] b h k = rw (holds_absent c b k) (before_absent c b k)
 before-here c (x ∷ []) b h k = rw (test_yes c c refl) refl
 before-here c (x ∷ y ∷ ys) b h k = elim (cases_eq y c) [ inl e ↦ absurd (omega (arith, h, one_here c y (sym e))) | inr d ↦ rw (test_no y c d) (before-here c (y ∷ ys) b (omega (arith, h)) k) ]
 
--- the neighbours of another number, with and without it
+-- the neighbours of another number, with and all_but it
 pub after-with : (n c : ℕ) (a b : List ℕ) → n ≢ c → count n a ≤ 1 → after n (a ++ c ∷ b) ≡ cond (holds (last_of a) n) (Some c) (after n (a ++ b))
 after-with n c [] b d h = rw (test_no n c d) refl
 after-with n c (x ∷ []) b d h = elim (cases_eq n x) [ inl e ↦ rw (test_yes n x e, test_yes x n (sym e)) refl | inr f ↦ rw (test_no n x f, test_no x n (λ e. f (sym e)), test_no n c d) refl ]
@@ -93,13 +93,13 @@ after-with n c (x ∷ y ∷ ys) b d h =
       | inr f ↦ rw (test_no n x f) (after-with n c (y ∷ ys) b d (omega (arith, h)))
     ]
 
-pub after-without : (n c : ℕ) (a b : List ℕ) → n ≢ c → count n a ≤ 1 → after n (a ++ b) ≡ cond (holds (last_of a) n) (head_of b) (after n (a ++ c ∷ b))
-after-without n c [] b d h = rw (test_no n c d) refl
-after-without n c (x ∷ []) b d h = elim (cases_eq n x) [ inl e ↦ rw (test_yes n x e, test_yes x n (sym e)) refl | inr f ↦ rw (test_no n x f, test_no x n (λ e. f (sym e)), test_no n c d) refl ]
-after-without n c (x ∷ y ∷ ys) b d h =
+pub after-all_but : (n c : ℕ) (a b : List ℕ) → n ≢ c → count n a ≤ 1 → after n (a ++ b) ≡ cond (holds (last_of a) n) (head_of b) (after n (a ++ c ∷ b))
+after-all_but n c [] b d h = rw (test_no n c d) refl
+after-all_but n c (x ∷ []) b d h = elim (cases_eq n x) [ inl e ↦ rw (test_yes n x e, test_yes x n (sym e)) refl | inr f ↦ rw (test_no n x f, test_no x n (λ e. f (sym e)), test_no n c d) refl ]
+after-all_but n c (x ∷ y ∷ ys) b d h =
     elim (cases_eq n x) [
       | inl e ↦ rw (test_yes n x e, last_absent n (y ∷ ys) (omega (arith, h, one_here n x e))) refl
-      | inr f ↦ rw (test_no n x f) (after-without n c (y ∷ ys) b d (omega (arith, h)))
+      | inr f ↦ rw (test_no n x f) (after-all_but n c (y ∷ ys) b d (omega (arith, h)))
     ]
 
 pub before-with : (n c : ℕ) (a b : List ℕ) → n ≢ c → count n (a ++ b) ≤ 1 → before n (a ++ c ∷ b) ≡ cond (holds (head_of b) n) (Some c) (before n (a ++ b))
@@ -117,9 +117,9 @@ before-with n c (x ∷ y ∷ ys) b d h =
       | inr f ↦ rw (test_no y n f) (before-with n c (y ∷ ys) b d (omega (arith, h)))
     ]
 
-pub before-without : (n c : ℕ) (a b : List ℕ) → n ≢ c → count n (a ++ b) ≤ 1 → before n (a ++ b) ≡ cond (holds (head_of b) n) (last_of a) (before n (a ++ c ∷ b))
-before-without n c [] [] d h = refl
-before-without n c [] (y ∷ ys) d h =
+pub before-all_but : (n c : ℕ) (a b : List ℕ) → n ≢ c → count n (a ++ b) ≤ 1 → before n (a ++ b) ≡ cond (holds (head_of b) n) (last_of a) (before n (a ++ c ∷ b))
+before-all_but n c [] [] d h = refl
+before-all_but n c [] (y ∷ ys) d h =
     elim (cases_eq y n) [
       | inl e ↦ rw (test_yes y n e) (before_head n y ys e (omega (arith, h, one_here n y (sym e))))
       | inr f ↦ rw (test_no y n f) refl
@@ -127,15 +127,15 @@ before-without n c [] (y ∷ ys) d h =
   where
     before_head : (n y : ℕ) (ys : List ℕ) → y ≡ n → count n ys ≡ 0 → before n (y ∷ ys) ≡ None
     before_head n y ys e k = rw (holds_absent n ys k) (before_absent n ys k)
-before-without n c (x ∷ []) b d h = rw (test_no c n (λ e. d (sym e))) (once (holds (head_of b) n))
+before-all_but n c (x ∷ []) b d h = rw (test_no c n (λ e. d (sym e))) (once (holds (head_of b) n))
   where
     once : (t : Bool) → cond t (Some x) (before n b) ≡ cond t (Some x) (cond t (Some c) (before n b))
     once true = refl
     once false = refl
-before-without n c (x ∷ y ∷ ys) b d h =
+before-all_but n c (x ∷ y ∷ ys) b d h =
     elim (cases_eq y n) [
       | inl e ↦
           let k : count n b ≡ 0 = omega (arith, h, one_here n y (sym e), count-append n ys b) in
           rw (test_yes y n e, holds_absent n b k) refl
-      | inr f ↦ rw (test_no y n f) (before-without n c (y ∷ ys) b d (omega (arith, h)))
+      | inr f ↦ rw (test_no y n f) (before-all_but n c (y ∷ ys) b d (omega (arith, h)))
     ]

@@ -3,4 +3,3 @@ pub mod Entries
 pub mod Roots
 pub mod Codes
 pub mod Marks
-pub mod Shuffles

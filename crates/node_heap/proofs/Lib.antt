@@ -1,0 +1,15 @@
+pub mod WellFormed
+pub mod Found
+pub mod Moved
+pub mod Moves
+pub mod ReadBack
+pub mod Whole
+pub mod Tests
+pub mod Changes
+pub mod Create
+pub mod Ends
+pub mod Search
+pub mod Walk
+pub mod Empty
+pub mod Along
+pub mod Told

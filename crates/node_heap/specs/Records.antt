@@ -52,10 +52,10 @@ pub record Neighbours (s : Slab Record) (r : Record) : Type 0 where
   pub last : ForSome r.last (ContainsKey s)
 
 -- the record of a new root without children
-pub record IsNew (number list : ℕ) (name : List ℕ) (r : Record) : Type 0 where
-  pub number : r.number ≡ number
-  pub name : r.name ≡ name
-  pub list : r.list ≡ list
+pub record IsNew (n a : ℕ) (text : List ℕ) (r : Record) : Type 0 where
+  pub number : r.number ≡ n
+  pub name : r.name ≡ text
+  pub list : r.list ≡ a
   pub parent : r.parent ≡ None
   pub previous : r.previous ≡ None
   pub next : r.next ≡ None

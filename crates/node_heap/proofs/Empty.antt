@@ -1,0 +1,32 @@
+-- The empty heap.
+use Rattle.std.proofs.Common.{◌≡◌, ℕ, ◌≤◌, List, [], Option, Some, None, refl, sym, ap, ◌∙◌, arith, length, count_by}
+use Rattle.std.specs.Option.{is_some, IsSome}
+use Rattle.model_shapes.specs.Trees.{Trees, none}
+use Rattle.slab.specs.Slab.{Slab, get, slab_len}
+use Rattle.node_heap.specs.declared.records.Record.{Record}
+use Rattle.node_heap.specs.declared.index.Pair.{Pair}
+use Rattle.node_heap.specs.Indexes.{lookup}
+use Rattle.node_heap.specs.Heap.{grove_of, roots_of, Linking}
+
+pub linked_none : (s : Slab Record) → s.slots ≡ [] → Linking s [] [] none
+linked_none s e = record {
+  well_formed = record {
+    nodes_once = λ n. omega arith;
+    lists_once = λ n. omega arith;
+    no_node_zero = refl;
+    no_list_zero = refl;
+  };
+  once = λ n. omega arith;
+  whole = refl;
+  sized = refl;
+  stands = record { apart = λ n m hn hm x. absurd (cc); fits = λ n e h. absurd (cc) };
+  indexed = λ n. refl;
+  listed = λ n e h. absurd (cc);
+  listed_only = λ l k h. absurd (cc);
+  records_len = ap (count_by is_some) e;
+  lists_len = refl;
+}
+
+pub grove_none : (s : Slab Record) → grove_of s [] ≡ none
+unfolding grove_of roots_of
+grove_none s = refl
