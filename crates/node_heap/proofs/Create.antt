@@ -21,7 +21,7 @@ use Rattle.node_heap.specs.Heap.{Linking, Linked}
 use Rattle.node_heap.proofs.Tests.{before_count, after_count}
 use Rattle.node_heap.proofs.Found.{Found, found_at}
 
-lookup-append : (qs : List Pair) (q : Pair) (m : ℕ) → lookup m (qs ++ q ∷ []) ≡ option_or (lookup m qs) (cond (eqb m q.number) (Some q.key) None)
+pub lookup-append : (qs : List Pair) (q : Pair) (m : ℕ) → lookup m (qs ++ q ∷ []) ≡ option_or (lookup m qs) (cond (eqb m q.number) (Some q.key) None)
 lookup-append [] q m = refl
 lookup-append (p ∷ qs) q m = elim (cases_eq m p.number) [
   | inl e ↦ rw (test_yes m p.number e) refl

@@ -8,8 +8,8 @@ use Rattle.node_heap.specs.declared.index.Pair.{Pair}
 use Rattle.node_heap.specs.Indexes.{lookup}
 use Rattle.node_heap.specs.Heap.{grove_of, roots_of, Linking}
 
-pub linked_none : (s : Slab Record) → s.slots ≡ [] → Linking s [] [] none
-linked_none s e = record {
+pub links_none : (s : Slab Record) → s.slots ≡ [] → Linking s [] [] none
+links_none s e = record {
   well_formed = record {
     nodes_once = λ n. omega arith;
     lists_once = λ n. omega arith;
@@ -26,7 +26,3 @@ linked_none s e = record {
   records_len = ap (count_by is_some) e;
   lists_len = refl;
 }
-
-pub grove_none : (s : Slab Record) → grove_of s [] ≡ none
-unfolding grove_of roots_of
-grove_none s = refl

@@ -12,4 +12,6 @@ pub mod Search
 pub mod Walk
 pub mod Empty
 pub mod Along
+pub mod Sorting
+pub mod Turns
 pub mod Told

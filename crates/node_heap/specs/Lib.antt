@@ -4,3 +4,4 @@ pub mod Links
 pub mod Heap
 pub mod HeapView
 pub mod Answers
+pub mod Drafts

@@ -66,3 +66,13 @@ returns-clause-pick c =
     let node : c.greatest-node.result + 1 ≡ (next_pick (grove c)).node = omega (arith, node_is c) in
     let list : c.greatest-list.result + 1 ≡ (next_pick (grove c)).list = omega (arith, list_is c) in
     rw (node, list) (ap (λ (v : HeapView). next_pick v.grove) c.self.view_is)
+
+pub returns-clause-below : goal.returns-clause-below
+returns-clause-below c =
+    let node : c.greatest-node.result ≡ greatest_node c.args.self.now.grove =
+    node_is c ∙ ap (λ (v : HeapView). greatest_node v.grove) c.self.view_is in
+    let list : c.greatest-list.result ≡ greatest_list c.args.self.now.grove =
+    list_is c ∙ ap (λ (v : HeapView). greatest_list v.grove) c.self.view_is in (
+      omega (arith, node, c.if-node.false, c.greatest-node.type_inv),
+      omega (arith, list, c.if-list.false, c.greatest-list.type_inv),
+    )
