@@ -6,7 +6,7 @@ use Rattle.model_shapes.specs.Trees.{Trees, none, node, hole, beside}
 use Rattle.model_shapes.specs.Shapes.{holes}
 use Rattle.model_heap.specs.Lists.{count, head_of, after}
 use Rattle.model_heap.specs.Entries.{Entry, roots, uses, entry, kids_of, parent_of}
-use Rattle.model_heap.specs.Marks.{walked, opening, closing}
+use Rattle.model_heap.specs.Marks.{Mark, opens, closes, walked, opening, closing}
 use Rattle.model_heap.proofs.Moves.{test_yes, test_no, one_here, none_here, or_none, entry_absent}
 use Rattle.model_heap.proofs.Neighbours.{after_absent}
 use Rattle.model_heap.proofs.Kinship.{roots_use, kids_use}
@@ -23,7 +23,7 @@ no_root (node s i kids l rest) w h = absurd (cc)
 no_root (hole rest) w h = absurd (omega (arith, w))
 
 module _ where
-  pub open_kid : (q : Option ℕ) (r : Trees) (n k : ℕ) → holes r ≡ 0 → ((m : ℕ) → uses m r ≤ 1) → head_of (kids_of (entry q r n)) ≡ Some k → opening n r ≡ n ∷ opening k r
+  pub open_kid : (q : Option ℕ) (r : Trees) (n k : ℕ) → holes r ≡ 0 → ((m : ℕ) → uses m r ≤ 1) → head_of (kids_of (entry q r n)) ≡ Some k → opening n r ≡ opens n ∷ opening k r
   open_kid q none n k w u h = absurd (cc)
   open_kid q (node s i kids l rest) n k w u h =
       let wk : holes kids ≡ 0 = omega (arith, w) in
@@ -34,7 +34,7 @@ module _ where
             let f = first_root k kids wk h1 in
             let d : k ≢ i = λ z. absurd (omega (arith, u k, f.1, one_here k i z)) in
             let z : uses k kids ≢ 0 = λ z. absurd (omega (arith, z, f.1)) in
-            rw (test_yes n i e, test_no k i d, test_no (uses k kids) 0 z, f.0) (ap (λ x. x ∷ walked kids ++ 0 ∷ walked rest) (sym e))
+            rw (test_yes n i e, test_no k i d, test_no (uses k kids) 0 z, f.0) (ap (λ x. opens x ∷ walked kids ++ closes i ∷ walked rest) (sym e))
         | inr e ↦ elim (cases_eq (uses n kids) 0) [
           | inl y ↦
               let h1 : head_of (kids_of (entry q rest n)) ≡ Some k = rw (test_no n i e, entry_absent (Some i) kids n y) at h in
@@ -60,13 +60,13 @@ module _ where
       use_of q r n k h = omega (arith, head_use (kids_of (entry q r n)) k h, kids_use q r n k)
   open_kid q (hole rest) n k w u h = absurd (omega (arith, w))
 
-  pub open_leaf : (q : Option ℕ) (r : Trees) (n : ℕ) → holes r ≡ 0 → ((m : ℕ) → uses m r ≤ 1) → uses n r ≡ 1 → head_of (kids_of (entry q r n)) ≡ None → opening n r ≡ n ∷ closing n r
+  pub open_leaf : (q : Option ℕ) (r : Trees) (n : ℕ) → holes r ≡ 0 → ((m : ℕ) → uses m r ≤ 1) → uses n r ≡ 1 → head_of (kids_of (entry q r n)) ≡ None → opening n r ≡ opens n ∷ closing n r
   open_leaf q none n w u t h = absurd (omega (arith, t))
   open_leaf q (node s i kids l rest) n w u t h =
       elim (cases_eq n i) [
         | inl e ↦
             let h1 : head_of (roots kids) ≡ None = rw (test_yes n i e) at h in
-            rw (test_yes n i e, no_root kids (omega (arith, w)) h1) (ap (λ x. x ∷ 0 ∷ walked rest) (sym e))
+            rw (test_yes n i e, no_root kids (omega (arith, w)) h1) (ap (λ x. opens x ∷ closes i ∷ walked rest) (sym e))
         | inr e ↦ elim (cases_eq (uses n kids) 0) [
           | inl y ↦
               let h1 : head_of (kids_of (entry q rest n)) ≡ None = rw (test_no n i e, entry_absent (Some i) kids n y) at h in
@@ -80,7 +80,7 @@ module _ where
   open_leaf q (hole rest) n w u t h = absurd (omega (arith, w))
 
   -- a next root
-  pub close_next_root : (r : Trees) (n m : ℕ) → holes r ≡ 0 → ((m : ℕ) → uses m r ≤ 1) → after n (roots r) ≡ Some m → closing n r ≡ 0 ∷ opening m r
+  pub close_next_root : (r : Trees) (n m : ℕ) → holes r ≡ 0 → ((m : ℕ) → uses m r ≤ 1) → after n (roots r) ≡ Some m → closing n r ≡ closes n ∷ opening m r
   close_next_root none n m w u h = absurd (cc)
   close_next_root (node s i kids l rest) n m w u h =
       elim (cases_eq n i) [
@@ -89,7 +89,7 @@ module _ where
             let f = first_root m rest (omega (arith, w)) h1 in
             let d : m ≢ i = λ z. absurd (omega (arith, u m, f.1, one_here m i z)) in
             let k : uses m kids ≡ 0 = omega (arith, u m, f.1) in
-            rw (test_yes n i e, test_no m i d, test_yes (uses m kids) 0 k, f.0) refl
+            rw (test_yes n i e, test_no m i d, test_yes (uses m kids) 0 k, f.0) (ap (λ x. closes x ∷ walked rest) (sym e))
         | inr e ↦
             let h1 : after n (roots rest) ≡ Some m = rw (test_no n i e) at h in
             let cn : 1 ≤ uses n rest = after_use n m rest h1 in
@@ -136,7 +136,7 @@ some_kids_use q r p n h = elim (cases_eq (uses p r) 0) [
   | inr z ↦ omega (arith, z)
 ]
 
-pub close_next : (q : Option ℕ) (r : Trees) (p n m : ℕ) → holes r ≡ 0 → ((m : ℕ) → uses m r ≤ 1) → after n (kids_of (entry q r p)) ≡ Some m → closing n r ≡ 0 ∷ opening m r
+pub close_next : (q : Option ℕ) (r : Trees) (p n m : ℕ) → holes r ≡ 0 → ((m : ℕ) → uses m r ≤ 1) → after n (kids_of (entry q r p)) ≡ Some m → closing n r ≡ closes n ∷ opening m r
 close_next q none p n m w u h = absurd (cc)
 close_next q (node s i kids l rest) p n m w u h =
     let wk : holes kids ≡ 0 = omega (arith, w) in
@@ -176,13 +176,13 @@ close_next q (node s i kids l rest) p n m w u h =
 close_next q (hole rest) p n m w u h = absurd (omega (arith, w))
 
 -- the last root
-pub close_last : (r : Trees) (n : ℕ) → holes r ≡ 0 → ((m : ℕ) → uses m r ≤ 1) → 1 ≤ count n (roots r) → after n (roots r) ≡ None → closing n r ≡ 0 ∷ []
+pub close_last : (r : Trees) (n : ℕ) → holes r ≡ 0 → ((m : ℕ) → uses m r ≤ 1) → 1 ≤ count n (roots r) → after n (roots r) ≡ None → closing n r ≡ closes n ∷ []
 close_last none n w u t h = absurd (omega (arith, t))
 close_last (node s i kids l rest) n w u t h =
     elim (cases_eq n i) [
       | inl e ↦
           let h1 : head_of (roots rest) ≡ None = rw (test_yes n i e) at h in
-          rw (test_yes n i e, no_root rest (omega (arith, w)) h1) refl
+          rw (test_yes n i e, no_root rest (omega (arith, w)) h1) (ap (λ x. closes x ∷ []) (sym e))
       | inr e ↦
           let h1 : after n (roots rest) ≡ None = rw (test_no n i e) at h in
           let t1 : 1 ≤ count n (roots rest) = omega (arith, t, none_here n i e) in
@@ -192,7 +192,7 @@ close_last (node s i kids l rest) n w u t h =
 close_last (hole rest) n w u t h = absurd (omega (arith, w))
 
 -- the last child: the walk goes up
-pub close_up : (q : Option ℕ) (r : Trees) (p n : ℕ) → holes r ≡ 0 → ((m : ℕ) → uses m r ≤ 1) → 1 ≤ count n (kids_of (entry q r p)) → after n (kids_of (entry q r p)) ≡ None → closing n r ≡ 0 ∷ closing p r
+pub close_up : (q : Option ℕ) (r : Trees) (p n : ℕ) → holes r ≡ 0 → ((m : ℕ) → uses m r ≤ 1) → 1 ≤ count n (kids_of (entry q r p)) → after n (kids_of (entry q r p)) ≡ None → closing n r ≡ closes n ∷ closing p r
 close_up q none p n w u t h = absurd (omega (arith, t))
 close_up q (node s i kids l rest) p n w u t h =
     let wk : holes kids ≡ 0 = omega (arith, w) in
