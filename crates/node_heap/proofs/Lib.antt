@@ -14,4 +14,6 @@ pub mod Empty
 pub mod Along
 pub mod Sorting
 pub mod Turns
+pub mod Tours
+pub mod Rounds
 pub mod Told

@@ -85,7 +85,7 @@ module _ (key : ℕ → ℕ) (rows : Rows) (s : Slab Record) (stands : Stands ke
   unfolding root_of
   not_root f n e p h k = on_some (get s (key n)) (Fits key rows n e) (λ r. if_root r.parent (node r.name r.number (read f s r.first) r.list none)) none (stands.fits n e h) (λ r x. rw (x.parent, k) refl)
 
-no_root_at : (n : ℕ) (r : Trees) → count n (roots r) ≡ 0 → root_at n r ≡ none
+pub no_root_at : (n : ℕ) (r : Trees) → count n (roots r) ≡ 0 → root_at n r ≡ none
 no_root_at n none h = refl
 no_root_at n (node t i kids l rest) h = elim (cases_eq n i) [ inl e ↦ absurd (omega (arith, h, one_here n i e)) | inr d ↦ rw (test_no n i d) (no_root_at n rest (omega (arith, h))) ]
 no_root_at n (hole rest) h = no_root_at n rest h

@@ -30,7 +30,7 @@ pub lookup_nowhere : (xs : List Pair) (n : ℕ) → ((k : ℕ) (d : Pair) → k 
 lookup_nowhere [] n h = refl
 lookup_nowhere (q ∷ qs) n h = rw (test_no n q.number (λ e. h 0 q (omega arith) (sym e))) (lookup_nowhere qs n (λ k d w. h (suc k) d (omega (arith, w))))
 
-at_any : (xs : List Pair) (k : ℕ) (d e : Pair) → k < length xs → get_or xs k d ≡ get_or xs k e
+pub at_any : (xs : List Pair) (k : ℕ) (d e : Pair) → k < length xs → get_or xs k d ≡ get_or xs k e
 at_any [] k d e h = absurd (omega (arith, h))
 at_any (q ∷ qs) zero d e h = refl
 at_any (q ∷ qs) (suc k) d e h = at_any qs k d e (omega (arith, h))

@@ -5,3 +5,4 @@ pub mod Heap
 pub mod HeapView
 pub mod Answers
 pub mod Drafts
+pub mod Walking
