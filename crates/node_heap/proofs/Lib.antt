@@ -16,4 +16,5 @@ pub mod Sorting
 pub mod Turns
 pub mod Tours
 pub mod Rounds
+pub mod Texts
 pub mod Told

@@ -33,14 +33,14 @@ read_none (suc f) s = refl
 abbrev pub Agrees : Option ℕ → Trees → Rows → Type 0
 Agrees q r rows = (m : ℕ) (e : Entry) → entry q r m ≡ Some e → rows m ≡ Some e
 
-module _ (key : ℕ → ℕ) (rows : Rows) (s : Slab Record) (stands : Stands key rows s) (kin : Kin rows) where
-  part_kids : (q : Option ℕ) (t : List ℕ) (i : ℕ) (kids : Trees) (l : ℕ) (rest : Trees) → ((m : ℕ) → uses m (node t i kids l rest) ≤ 1) → Agrees q (node t i kids l rest) rows → Agrees (Some i) kids rows
+module _ (rows : Rows) where
+  pub part_kids : (q : Option ℕ) (t : List ℕ) (i : ℕ) (kids : Trees) (l : ℕ) (rest : Trees) → ((m : ℕ) → uses m (node t i kids l rest) ≤ 1) → Agrees q (node t i kids l rest) rows → Agrees (Some i) kids rows
   part_kids q t i kids l rest u g m e h = elim (cases_eq m i) [
     | inl f ↦ absurd (let z = entry_absent (Some i) kids m (omega (arith, u m, one_here m i f)) in cc)
     | inr f ↦ g m e (rw (test_no m i f, h) refl)
   ]
 
-  part_rest : (q : Option ℕ) (t : List ℕ) (i : ℕ) (kids : Trees) (l : ℕ) (rest : Trees) → ((m : ℕ) → uses m (node t i kids l rest) ≤ 1) → Agrees q (node t i kids l rest) rows → Agrees q rest rows
+  pub part_rest : (q : Option ℕ) (t : List ℕ) (i : ℕ) (kids : Trees) (l : ℕ) (rest : Trees) → ((m : ℕ) → uses m (node t i kids l rest) ≤ 1) → Agrees q (node t i kids l rest) rows → Agrees q rest rows
   part_rest q t i kids l rest u g m e h = elim (cases_eq (uses m rest) 0) [
     | inl z ↦ absurd (let x = entry_absent q rest m z in cc)
     | inr z ↦
@@ -49,20 +49,21 @@ module _ (key : ℕ → ℕ) (rows : Rows) (s : Slab Record) (stands : Stands ke
         g m e (rw (test_no m i f, entry_absent (Some i) kids m k) h)
   ]
 
-  part_here : (q : Option ℕ) (t : List ℕ) (i : ℕ) (kids : Trees) (l : ℕ) (rest : Trees) → Agrees q (node t i kids l rest) rows → rows i ≡ Some (record { name = t; list = l; parent = q; kids = roots kids })
+  pub part_here : (q : Option ℕ) (t : List ℕ) (i : ℕ) (kids : Trees) (l : ℕ) (rest : Trees) → Agrees q (node t i kids l rest) rows → rows i ≡ Some (record { name = t; list = l; parent = q; kids = roots kids })
   part_here q t i kids l rest g = g i (record { name = t; list = l; parent = q; kids = roots kids }) (rw (test_yes i i refl) refl)
 
+module _ (key : ℕ → ℕ) (rows : Rows) (s : Slab Record) (stands : Stands key rows s) (kin : Kin rows) where
   pub read_row : (f : ℕ) (p : ℕ) (pre : List ℕ) (r : Trees) → size r ≤ f → holes r ≡ 0 → ((m : ℕ) → uses m r ≤ 1) → Agrees (Some p) r rows → kids_of (rows p) ≡ pre ++ roots r → read f s (option_map key (head_of (roots r))) ≡ r
   unfolding read
   read_row f p pre none z w u g k = read_none f s
   read_row zero p pre (node t i kids l rest) z w u g k = absurd (omega (arith, z))
   read_row (suc f) p pre (node t i kids l rest) z w u g k =
-      let here = part_here (Some p) t i kids l rest g in
+      let here = part_here rows (Some p) t i kids l rest g in
       let e : Entry = record { name = t; list = l; parent = Some p; kids = roots kids } in
       let fewer : count i pre ≡ 0 = omega (arith, kin.once p i, ap (count i) k, count-append i pre (i ∷ roots rest), one_here i i refl) in
       let next : after i (kids_of (rows p)) ≡ head_of (roots rest) = ap (after i) k ∙ after-here i pre (roots rest) fewer in
-      let deep = read_row f i [] kids (omega (arith, z)) (omega (arith, w)) (λ m. omega (arith, u m)) (part_kids (Some p) t i kids l rest u g) (ap kids_of here) in
-      let wide = read_row f p (pre ++ i ∷ []) rest (omega (arith, z)) (omega (arith, w)) (λ m. omega (arith, u m)) (part_rest (Some p) t i kids l rest u g) (k ∙ sym (append_assoc pre (i ∷ []) (roots rest))) in
+      let deep = read_row f i [] kids (omega (arith, z)) (omega (arith, w)) (λ m. omega (arith, u m)) (part_kids rows (Some p) t i kids l rest u g) (ap kids_of here) in
+      let wide = read_row f p (pre ++ i ∷ []) rest (omega (arith, z)) (omega (arith, w)) (λ m. omega (arith, u m)) (part_rest rows (Some p) t i kids l rest u g) (k ∙ sym (append_assoc pre (i ∷ []) (roots rest))) in
       on_some (get s (key i)) (Fits key rows i e) (λ r. node r.name r.number (read f s r.first) r.list (read f s r.next)) (node t i kids l rest) (stands.fits i e here)
       (λ r x. rw (x.name, x.number, x.list, x.first, x.next, next, deep, wide) refl)
   read_row f p pre (hole rest) z w u g k = absurd (omega (arith, w))
@@ -71,13 +72,13 @@ module _ (key : ℕ → ℕ) (rows : Rows) (s : Slab Record) (stands : Stands ke
   unfolding root_of
   root_here f n none z w u g h = absurd (omega (arith, h))
   root_here f n (node t i kids l rest) z w u g h =
-      let here = part_here None t i kids l rest g in
+      let here = part_here rows None t i kids l rest g in
       let e : Entry = record { name = t; list = l; parent = None; kids = roots kids } in
-      let deep = read_row f i [] kids (omega (arith, z)) (omega (arith, w)) (λ m. omega (arith, u m)) (part_kids None t i kids l rest u g) (ap kids_of here) in
+      let deep = read_row f i [] kids (omega (arith, z)) (omega (arith, w)) (λ m. omega (arith, u m)) (part_kids rows None t i kids l rest u g) (ap kids_of here) in
       let at_i = on_some (get s (key i)) (Fits key rows i e) (λ r. if_root r.parent (node r.name r.number (read f s r.first) r.list none)) (node t i kids l none) (stands.fits i e here) (λ r x. rw (x.parent, x.name, x.number, x.list, x.first, deep) refl) in
       elim (cases_eq n i) [
         | inl a ↦ rw (test_yes n i a) (subst (λ n. on_record (get s (key n)) (λ r. if_root r.parent (node r.name r.number (read f s r.first) r.list none)) ≡ node t i kids l none) (sym a) at_i)
-        | inr a ↦ rw (test_no n i a) (root_here f n rest (omega (arith, z)) (omega (arith, w)) (λ m. omega (arith, u m)) (part_rest None t i kids l rest u g) (omega (arith, h, none_here n i a)))
+        | inr a ↦ rw (test_no n i a) (root_here f n rest (omega (arith, z)) (omega (arith, w)) (λ m. omega (arith, u m)) (part_rest rows None t i kids l rest u g) (omega (arith, h, none_here n i a)))
       ]
   root_here f n (hole rest) z w u g h = absurd (omega (arith, w))
 

@@ -6,3 +6,4 @@ pub mod HeapView
 pub mod Answers
 pub mod Drafts
 pub mod Walking
+pub mod Writing
