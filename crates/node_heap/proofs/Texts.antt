@@ -1,5 +1,6 @@
 -- What is written mark by mark is the text of the grove, and what is made mark by mark is the grove.
-use Rattle.std.proofs.Common.{◌≡◌, ◌≢◌, ℕ, ◌+◌, ◌≤◌, ◌<◌, Bool, true, false, cond, List, [], ◌∷◌, ◌++◌, length, map, get_or, drop, add-one, drop-cons, suc, Option, Some, None, refl, sym, ap, ◌∙◌, arith, subst, append_assoc, append-nil, codes}
+use Rattle.std.proofs.Common.{◌≡◌, ◌≢◌, ℕ, ◌+◌, ◌≤◌, ◌<◌, Bool, true, false, cond, eqb, inl, inr, List, [], ◌∷◌, ◌++◌, length, map, get_or, drop, add-one, drop-cons, zero, suc, Option, Some, None, refl, sym, ap, ◌∙◌, arith, subst, append_assoc, append-nil, codes}
+use Rattle.std.proofs.lemmas.Bool.{cases_eq}
 use Rattle.std.specs.Fmt.{decimal}
 use Rattle.std.specs.Option.{is_some}
 use Rattle.model_shapes.specs.Trees.{Trees, none, node, hole, beside}
@@ -9,9 +10,18 @@ use Rattle.model_documents.specs.Printed.{quoted, tree_text, forest_text, furthe
 use Rattle.model_heap.specs.Lists.{count, head_of, last_of, before}
 use Rattle.model_heap.specs.Entries.{Entry, Rows, rows_of, roots, uses, kids_of, Kin}
 use Rattle.model_heap.specs.Marks.{Mark, opens, closes, walked}
-use Rattle.model_heap.proofs.Moves.{one_here}
+use Rattle.model_heap.proofs.Moves.{test_yes, test_no, one_here}
 use Rattle.model_heap.proofs.Neighbours.{before-here, count-append, last-append}
-use Rattle.node_heap.specs.Walking.{Said, told, said_in}
+use Rattle.model_shapes.specs.Sorts.{shape, grove}
+use Rattle.model_shapes.specs.Shapes.{Shaped}
+use Rattle.std.specs.Prelude.{OnOk, Result, Ok, Err}
+use Rattle.grove_data.specs.Trees.{forest_of}
+use Rattle.grove_data.specs.declared.trees.Tree.{Tree}
+use Rattle.model_documents.specs.Roots.{sorted_roots}
+use Rattle.model_heap.proofs.Kinship.{Kin-rows_of}
+use Rattle.model_heap.proofs.Words.{uses-are}
+use Rattle.node_heap.specs.declared.walking.Mark as program
+use Rattle.node_heap.specs.Walking.{Said, seen, told, said_in}
 use Rattle.node_heap.specs.Writing.{bracket_text, opening_text, closing_text, piece, pieces, row_then, outer_then, built, stack_onto, next_of, outer_of}
 use Rattle.node_heap.proofs.ReadBack.{Agrees, part_kids, part_rest, part_here}
 
@@ -156,3 +166,98 @@ module _ (rows : Rows) where
       (further_roots rest) [] (forest_text kids) (whole_forest kids (omega (arith, w)))
       ∙ append-nil (cond b (codes "[") (codes " + [") ++ (tree_text t i (forest_text kids) l ++ (codes "]" ++ further_roots rest)))
   text_roots b (hole rest) kin w u g = absurd (omega (arith, w))
+
+once_of : (g : Trees) → Shaped (shape grove) g → (n : ℕ) → uses n g ≤ 1
+once_of g h n = omega (arith, uses-are n g, h.well_formed.nodes_once n)
+
+-- THE GROVE that is made
+pub made : (g : Trees) → Shaped (shape grove) g
+    → built (map (said_in (rows_of g)) (walked g)) none [] ≡ g
+made g h =
+    ap (λ ms. built ms none []) (sym (append-nil (map (said_in (rows_of g)) (walked g))))
+    ∙ built_row (rows_of g) None g h.holes_fit (once_of g h) (λ m e x. x) none [] []
+
+-- THE TEXT that is written
+pub written : (g : Trees) → Shaped (shape grove) g
+    → (map (said_in (rows_of g)) (walked g) ≡ [] → ⊥)
+    → pieces true (map (said_in (rows_of g)) (walked g)) ≡ grove_text g
+written none h some = absurd (some refl)
+written (node name number kids list rest) h some =
+    let g : Trees = node name number kids list rest in
+    text_roots (rows_of g) true g (Kin-rows_of g (once_of g h)) h.holes_fit (once_of g h) (λ m e x. x)
+written (hole rest) h some = absurd (omega (arith, h.holes_fit))
+
+pub unwritten : (g : Trees) → Shaped (shape grove) g
+    → map (said_in (rows_of g)) (walked g) ≡ [] → grove_text g ≡ codes "0g"
+unwritten none h e = refl
+unwritten (node name number kids list rest) h e = absurd (cc)
+unwritten (hole rest) h e = absurd (omega (arith, h.holes_fit))
+
+-- one mark more
+pub stack-last : (rows : List (List Tree)) (row : List Tree) (outer : List Trees)
+    → stack_onto (rows ++ row ∷ []) outer ≡ forest_of row ∷ stack_onto rows outer
+stack-last [] row outer = refl
+stack-last (x ∷ rows) row outer = stack-last rows row (forest_of x ∷ outer)
+
+pub marks_at : (items : List program.Mark) (i : ℕ) (m : program.Mark) → i < length items
+    → m ≡ get_or items i m → drop i items ≡ m ∷ drop (i + 1) items
+marks_at items i m low is =
+    rw (add-one, drop-cons items i m) (ap (λ x. x ∷ drop (suc i) items) (sym is))
+
+pub on_ok_always : {A E P : Type 0} (r : Result A E) → P → OnOk r P
+on_ok_always (Ok x) p = p
+on_ok_always (Err x) p = tt
+
+-- nothing is left behind the last
+drop_past : (items : List program.Mark) (i : ℕ) → length items ≤ i → drop i items ≡ []
+drop_past [] zero h = refl
+drop_past [] (suc i) h = refl
+drop_past (x ∷ items) zero h = absurd (omega (arith, h))
+drop_past (x ∷ items) (suc i) h = drop_past items i (omega (arith, h))
+
+-- the row is the grove where no mark is left
+pub made_whole : (g : Trees) → Shaped (shape grove) g → sorted_roots g ≡ g
+    → (marks items : List program.Mark) → map seen marks ≡ map (said_in (rows_of g)) (walked g)
+    → items ≡ marks → (i : ℕ) → length items ≤ i → (row : Trees) (outer : List Trees)
+    → built (map seen (drop i items)) row outer ≡ built (map seen items) none []
+    → row ≡ sorted_roots g
+made_whole g h sorted marks items said is i past row outer e =
+    ap (λ ms. built (map seen ms) row outer) (sym (drop_past items i past)) ∙ e
+    ∙ ap (λ ms. built (map seen ms) none []) is ∙ ap (λ ms. built ms none []) said ∙ made g h
+    ∙ sym sorted
+
+-- and the text is that of the grove
+pub written_whole : (g : Trees) → Shaped (shape grove) g → sorted_roots g ≡ g
+    → (marks items : List program.Mark) → map seen marks ≡ map (said_in (rows_of g)) (walked g)
+    → items ≡ marks → 0 < length marks → (i : ℕ) → length items ≤ i → (text : List ℕ) (first : Bool)
+    → text ++ pieces first (map seen (drop i items)) ≡ pieces true (map seen items)
+    → text ≡ grove_text (sorted_roots g)
+written_whole g h sorted marks items said is some i past text first e =
+    sym (append-nil text)
+    ∙ ap (λ ms. text ++ pieces first (map seen ms)) (sym (drop_past items i past)) ∙ e
+    ∙ ap (λ ms. pieces true (map seen ms)) is ∙ ap (pieces true) said
+    ∙ written g h (λ none_said. filled marks some (said ∙ none_said)) ∙ ap grove_text (sym sorted)
+  where
+    filled : (marks : List program.Mark) → 0 < length marks → map seen marks ≡ [] → ⊥
+    filled [] some e = omega (arith, some)
+    filled (m ∷ marks) some e = cc
+
+pub unwritten_whole : (g : Trees) → Shaped (shape grove) g → sorted_roots g ≡ g
+    → (marks : List program.Mark) → map seen marks ≡ map (said_in (rows_of g)) (walked g)
+    → length marks ≡ 0 → codes "0g" ≡ grove_text (sorted_roots g)
+unwritten_whole g h sorted [] said e = sym (ap grove_text sorted ∙ unwritten g h (sym said))
+unwritten_whole g h sorted (m ∷ marks) said e = absurd (omega (arith, e))
+
+pub no_more : (n : ℕ) → true ≡ eqb n 0 → n ≡ 0
+no_more n e =
+    elim (cases_eq n 0) [
+      | inl z ↦ z
+      | inr d ↦ absurd (let x = test_no n 0 d in cc)
+    ]
+
+pub some_more : (n : ℕ) → false ≡ eqb n 0 → 0 < n
+some_more n e =
+    elim (cases_eq n 0) [
+      | inl z ↦ absurd (let x = test_yes n 0 z in cc)
+      | inr d ↦ omega (arith, d)
+    ]

@@ -1,5 +1,7 @@
 // Walks over the grove of a heap: each node is opened before those below it, and closed behind them.
 ghost use Rattle.std.specs.Prelude.{◌≡◌, ◌≤◌, ◌++◌, map, IfOk, OnOk};
+ghost use Rattle.model_shapes.specs.Sorts.{shape, grove};
+ghost use Rattle.model_shapes.specs.Shapes.{Shaped};
 ghost use Rattle.model_documents.specs.Roots.{sorted_roots};
 ghost use Rattle.model_heap.specs.Lists.{count};
 ghost use Rattle.model_heap.specs.Entries.{rows_of, roots};
@@ -37,6 +39,7 @@ impl NodeHeap {
         ensures marks { IfOk result (λ marks. map seen marks.items
             ≡ map (said_in (rows_of self.now.grove)) (walked self.now.grove)) }
         ensures sorted { sorted_roots self.now.grove ≡ self.now.grove }
+        ensures shaped { Shaped (shape grove) self.now.grove }
     {
         let mut marks = Vec::new(alloc);
         for pair in &self.nodes {

@@ -6,7 +6,7 @@ ghost use Rattle.model_documents.specs.Roots.{sorted_roots};
 ghost use Rattle.model_documents.specs.Printed.{grove_text};
 ghost use Rattle.grove_data.specs.Trees.{forest_of};
 ghost use Rattle.node_heap.specs.Walking.{seen};
-ghost use Rattle.node_heap.specs.Writing.{row_then, outer_then, stack, piece, opening_text, closing_text, bracket_text};
+ghost use Rattle.node_heap.specs.Writing.{row_then, outer_then, outer_of, next_of, stack, piece, opening_text, closing_text, bracket_text};
 ghost use Rattle.std.specs.Option.{is_some};
 
 use crate::heap::NodeHeap;
@@ -66,11 +66,19 @@ fn next_row(
         outer.push(row)?;
         return Ok(List::new(alloc));
     }
-    let above = match outer.pop() {
-        Some(above) => above,
-        None => List::new(alloc),
-    };
+    let above = row_above(alloc, outer);
     closed(alloc, mark.node, row, above)
+}
+
+// takes the next row away: there is none above the roots
+fn row_above(alloc: Global, outer: &mut Vec<Forest>) -> Forest
+    ensures row { forest_of result ≡ next_of (stack outer.old.items) }
+    ensures outer { stack outer.new.items ≡ outer_of (stack outer.old.items) }
+{
+    match outer.pop() {
+        Some(row) => row,
+        None => List::new(alloc),
+    }
 }
 
 // the row with the node, which has these children, at its end
@@ -124,11 +132,8 @@ fn push_opening(
     text.append(&name)?;
     push_str(alloc, text, "#")?;
     push_number(alloc, text, node.number)?;
-    push_str(alloc, text, "[")?;
-    if node.first.is_none() {
-        push_str(alloc, text, "0f")?;
-    }
-    Ok(())
+    let start = if node.first.is_none() { "[0f" } else { "[" };
+    push_str(alloc, text, start)
 }
 
 // puts what stands behind the children of a node at the end

@@ -1,4 +1,7 @@
 use Rattle.std.proofs.Common.{◌≡◌, ◌∙◌, ◌<◌, ◌≤◌, ℕ, ◌+◌, ◌++◌, map, get_or, length, drop, List, Some, None, sym, ap, subst, refl, true, false, not}
+use Rattle.model_shapes.specs.Sorts.{shape, grove}
+use Rattle.model_shapes.specs.Shapes.{Shaped}
+use Rattle.node_heap.proofs.WellFormed.{shaped}
 use Rattle.model_documents.specs.Roots.{sorted_roots}
 use Rattle.model_heap.specs.Lists.{count}
 use Rattle.model_heap.specs.Entries.{roots, rows_of}
@@ -24,6 +27,18 @@ returns-in_err-walk_tree-clause-sorted c =
     subst (λ (v : HeapView). sorted_roots v.grove ≡ v.grove) c.self.view_is
     (still_sorted c.self.inside.records c.self.inside.nodes.items c.self.inside.lists.items
     c.self.invariant)
+
+pub returns-clause-shaped : goal.returns-clause-shaped
+returns-clause-shaped c =
+    subst (λ (v : HeapView). Shaped (shape grove) v.grove) c.self.view_is
+    (shaped (grove_of c.self.inside.records c.self.inside.nodes.items)
+    c.self.invariant.links.well_formed c.self.invariant.links.whole)
+
+pub returns-in_err-walk_tree-clause-shaped : goal.returns-in_err-walk_tree-clause-shaped
+returns-in_err-walk_tree-clause-shaped c =
+    subst (λ (v : HeapView). Shaped (shape grove) v.grove) c.self.view_is
+    (shaped (grove_of c.self.inside.records c.self.inside.nodes.items)
+    c.self.invariant.links.well_formed c.self.invariant.links.whole)
 
 pub loop-pair-init : goal.loop-pair-init
 loop-pair-init c =
