@@ -1,5 +1,5 @@
 -- A grove that is read tree by tree comes to be the whole.
-use Rattle.std.proofs.Common.{◌≡◌, ◌≢◌, ℕ, ◌+◌, ◌*◌, ◌≤◌, Bool, true, false, cond, List, [], ◌∷◌, ◌++◌, Option, Some, None, refl, sym, ap, ◌∙◌, arith}
+use Rattle.std.proofs.Common.{◌≡◌, ◌≢◌, ℕ, ◌+◌, ◌*◌, ◌≤◌, Bool, true, false, cond, List, [], ◌∷◌, ◌++◌, Option, Some, None, refl, ap, ◌∙◌, arith}
 use Rattle.std.proofs.Math.Decide.{ℕ_discrete}
 use Rattle.model_shapes.specs.Trees.{Trees, none, node, hole, beside, node_uses, list_uses, one_if}
 use Rattle.model_shapes.proofs.Basics.{beside-none, beside_assoc, node_uses-beside, list_uses-beside}
@@ -119,8 +119,13 @@ adding_twice p u v (node s j below l rest) h =
         ≡ node s j (cond b (beside (adding p (beside u v) below) (beside u v))
         (adding p (beside u v) below)) l (adding p (beside u v) rest)
     by_test true x y z =
-        rw (adding-beside p v (adding p u below) u, x, y, z,
-        beside_assoc (adding p (beside u v) below) u v) refl
+        rw (
+          adding-beside p v (adding p u below) u,
+          x,
+          y,
+          z,
+          beside_assoc (adding p (beside u v) below) u v,
+        ) refl
     by_test false x y z = rw (x, y) refl
 adding_twice p u v (hole rest) h = ap hole (adding_twice p u v rest h)
 

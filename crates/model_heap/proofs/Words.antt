@@ -1,5 +1,5 @@
 -- What stands at a number, in the words of the machine: what is found, taken out and put in.
-use Rattle.std.proofs.Common.{◌≡◌, ◌≢◌, ℕ, ◌+◌, ◌≤◌, Bool, true, false, cond, eqb, List, [], ◌∷◌, Option, Some, None, refl, sym, ap, ◌∙◌, inl, inr, arith, subst}
+use Rattle.std.proofs.Common.{◌≡◌, ◌≢◌, ℕ, ◌≤◌, true, false, cond, eqb, Option, Some, None, refl, sym, ap, ◌∙◌, inl, inr, arith, subst}
 use Rattle.std.proofs.Math.Decide.{ℕ_discrete}
 use Rattle.std.specs.Option.{option_or}
 use Rattle.std.proofs.lemmas.Bool.{cases_eq}
@@ -13,7 +13,7 @@ use Rattle.model_groves.proofs.Decided.{yes-is}
 use Rattle.model_groves.proofs.Groves.{width-numbered, width-listed, width-parental, bit}
 use Rattle.model_groves.proofs.InContext.{without-none, adding-none}
 use Rattle.model_heap.specs.Lists.{count}
-use Rattle.model_heap.specs.Entries.{Entry, roots, uses, entry, tree_at, all_but, adopt, kids_of, parent_of}
+use Rattle.model_heap.specs.Entries.{Entry, roots, uses, entry, tree_at, all_but, adopt, kids_of}
 use Rattle.model_heap.proofs.Moves.{test_yes, test_no, one_here, none_here, or_none, entry_absent, tree_absent}
 use Rattle.model_heap.proofs.Kinship.{kids_use, roots_use, root_parent, kid_up}
 
@@ -258,8 +258,12 @@ listed_is q (node s i kids l rest) n e u v h =
           let z : list_uses e.list rest ≡ 0 =
           omega (arith, v, one_decided e.list l, one_here e.list l y) in
           let w : uses n rest ≡ 0 = omega (arith, u, one_here n i x) in
-          rw (decided_yes e.list l y, decided_yes n i x, listed_absent e.list rest z,
-          where_absent n rest w) refl
+          rw (
+            decided_yes e.list l y,
+            decided_yes n i x,
+            listed_absent e.list rest z,
+            where_absent n rest w,
+          ) refl
       | inr d ↦ elim (cases_eq (uses n kids) 0) [
         | inl z ↦
             let k : entry q rest n ≡ Some e =
@@ -269,8 +273,13 @@ listed_is q (node s i kids l rest) n e u v h =
             λ y. absurd (omega (arith, v, c, one_decided e.list l, one_here e.list l y)) in
             let y : list_uses e.list kids ≡ 0 = omega (arith, v, c) in
             let more = listed_is q rest n e (omega (arith, u)) (omega (arith, v)) k in
-            rw (decided_no e.list l f, decided_no n i d, listed_absent e.list kids y,
-            where_absent n kids z, more) refl
+            rw (
+              decided_no e.list l f,
+              decided_no n i d,
+              listed_absent e.list kids y,
+              where_absent n kids z,
+              more,
+            ) refl
         | inr z ↦
             let w : uses n rest ≡ 0 = omega (arith, u, z) in
             let k : entry (Some i) kids n ≡ Some e =
@@ -280,8 +289,13 @@ listed_is q (node s i kids l rest) n e u v h =
             λ y. absurd (omega (arith, v, c, one_decided e.list l, one_here e.list l y)) in
             let y : list_uses e.list rest ≡ 0 = omega (arith, v, c) in
             let more = listed_is (Some i) kids n e (omega (arith, u)) (omega (arith, v)) k in
-            rw (decided_no e.list l f, decided_no n i d, listed_absent e.list rest y,
-            where_absent n rest w, more) refl
+            rw (
+              decided_no e.list l f,
+              decided_no n i d,
+              listed_absent e.list rest y,
+              where_absent n rest w,
+              more,
+            ) refl
       ]
     ]
 listed_is q (hole rest) n e u v h = listed_is q rest n e u v h

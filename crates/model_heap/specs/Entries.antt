@@ -1,5 +1,5 @@
 -- What stands at each number of a grove, and the moves of trees.
-use Rattle.std.specs.Prelude.{◌≡◌, ℕ, ◌+◌, ◌≤◌, ◌==◌, max, Bool, true, false, cond, List, [], ◌∷◌, ◌++◌, Option, Some, None, option_map}
+use Rattle.std.specs.Prelude.{◌≡◌, ℕ, ◌+◌, ◌≤◌, ◌==◌, Bool, cond, List, [], ◌∷◌, ◌++◌, Option, Some, None, option_map}
 use Rattle.std.specs.Option.{option_or}
 use Rattle.model_heap.specs.Lists.{count}
 use Rattle.model_shapes.specs.Trees.{Trees, none, node, hole, beside}
@@ -34,7 +34,8 @@ entry p (hole rest) n = entry p rest n
 -- the tree of a number, as one root
 abbrev pub tree_at : ℕ → Trees → Trees
 tree_at c none = none
-tree_at c (node s i kids l rest) = cond (c == i) (node s i kids l none) (beside (tree_at c kids) (tree_at c rest))
+tree_at c (node s i kids l rest) = cond (c == i) (node s i kids l none)
+    (beside (tree_at c kids) (tree_at c rest))
 tree_at c (hole rest) = tree_at c rest
 
 -- all but the tree of a number
@@ -46,7 +47,8 @@ all_but c (hole rest) = hole (all_but c rest)
 -- more roots at the end of a node's children
 abbrev pub adopt : ℕ → Trees → Trees → Trees
 adopt p t none = none
-adopt p t (node s i kids l rest) = cond (p == i) (node s i (beside kids t) l rest) (node s i (adopt p t kids) l (adopt p t rest))
+adopt p t (node s i kids l rest) = cond (p == i) (node s i (beside kids t) l rest)
+    (node s i (adopt p t kids) l (adopt p t rest))
 adopt p t (hole rest) = hole (adopt p t rest)
 
 -- the moves
@@ -79,10 +81,12 @@ kids_by b f e = record e { kids = cond b (f e.kids) e.kids }
 
 -- a number that is a root comes into the row of `p`, which `f` extends
 abbrev pub attached_by : (List ℕ → List ℕ) → ℕ → ℕ → Rows → Rows
-attached_by f p c rows n = cond (n == c) (option_map (below (Some p)) (rows n)) (option_map (kids_by (n == p) f) (rows n))
+attached_by f p c rows n = cond (n == c) (option_map (below (Some p)) (rows n))
+    (option_map (kids_by (n == p) f) (rows n))
 
 abbrev pub detached : ℕ → Rows → Rows
-detached c rows n = cond (n == c) (option_map (below None) (rows n)) (option_map (less_kid c) (rows n))
+detached c rows n = cond (n == c) (option_map (below None) (rows n))
+    (option_map (less_kid c) (rows n))
 
 abbrev pub attached : ℕ → ℕ → Rows → Rows
 attached p c = attached_by (λ xs. xs ++ c ∷ []) p c
@@ -107,7 +111,8 @@ pub record Kin (rows : Rows) : Type 0 where
 -- how many steps up a number has to a root
 abbrev pub depth : ℕ → Trees → ℕ
 depth n none = 0
-depth n (node s i kids l rest) = cond (n == i) 0 (cond (uses n kids == 0) (depth n rest) (1 + depth n kids))
+depth n (node s i kids l rest) = cond (n == i) 0
+    (cond (uses n kids == 0) (depth n rest) (1 + depth n kids))
 depth n (hole rest) = depth n rest
 
 -- one more root

@@ -1,6 +1,6 @@
 -- Needn't be believed: lemmas and the contracts of private functions alone speak of it. A walk over
 -- a grove: it opens each node before those below it, and closes it behind them.
-use Rattle.std.specs.Prelude.{◌≡◌, ℕ, ◌+◌, ◌==◌, Bool, true, false, cond, List, [], ◌∷◌, ◌++◌}
+use Rattle.std.specs.Prelude.{ℕ, ◌==◌, cond, List, [], ◌∷◌, ◌++◌}
 use Rattle.model_shapes.specs.Trees.{Trees, none, node, hole}
 use Rattle.model_heap.specs.Entries.{uses}
 

@@ -1,5 +1,5 @@
 -- The roots of a grove in another order.
-use Rattle.std.specs.Prelude.{◌≡◌, ℕ, ◌+◌, ◌==◌, Bool, true, false, cond, List, [], ◌∷◌}
+use Rattle.std.specs.Prelude.{ℕ, ◌==◌, cond, List, [], ◌∷◌}
 use Rattle.model_shapes.specs.Trees.{Trees, none, node, hole, beside}
 
 -- the root with this number

@@ -1,12 +1,10 @@
 -- The empty heap.
-use Rattle.std.proofs.Common.{◌≡◌, ℕ, ◌≤◌, List, [], Option, Some, None, refl, sym, ap, ◌∙◌, arith, length, count_by}
-use Rattle.std.specs.Option.{is_some, IsSome}
-use Rattle.model_shapes.specs.Trees.{Trees, none}
-use Rattle.slab.specs.Slab.{Slab, get, slab_len}
+use Rattle.std.proofs.Common.{◌≡◌, [], refl, ap, arith, count_by}
+use Rattle.std.specs.Option.{is_some}
+use Rattle.model_shapes.specs.Trees.{none}
+use Rattle.slab.specs.Slab.{Slab}
 use Rattle.node_heap.specs.declared.records.Record.{Record}
-use Rattle.node_heap.specs.declared.index.Pair.{Pair}
-use Rattle.node_heap.specs.Indexes.{lookup}
-use Rattle.node_heap.specs.Heap.{grove_of, roots_of, Linking}
+use Rattle.node_heap.specs.Heap.{Linking}
 
 pub links_none : (s : Slab Record) → s.slots ≡ [] → Linking s [] [] none
 links_none s e = record {

@@ -1,15 +1,14 @@
 -- A walk over all roots, by rising number.
-use Rattle.std.proofs.Common.{◌≡◌, ◌≢◌, ◌⊎◌, ℕ, suc, ◌+◌, ◌<◌, ◌≤◌, Bool, true, false, cond, List, [], ◌∷◌, ◌++◌, length, map, get_or, drop, add-one, drop-cons, Option, Some, None, refl, sym, ap, ◌∙◌, inl, inr, arith, subst, append_assoc}
+use Rattle.std.proofs.Common.{◌≡◌, ◌≢◌, ◌⊎◌, ℕ, suc, ◌+◌, ◌<◌, ◌≤◌, true, false, List, [], ◌∷◌, ◌++◌, length, map, get_or, drop, add-one, drop-cons, Option, Some, None, refl, sym, ap, ◌∙◌, inl, inr, arith, subst, append_assoc}
 use Rattle.std.specs.Option.{IsSome, is_some, option_map}
 use Rattle.std.proofs.lemmas.Bool.{cases_eq}
 use Rattle.model_shapes.specs.Trees.{Trees, none, node, hole, beside}
-use Rattle.model_shapes.specs.Shapes.{holes, root_holes}
 use Rattle.model_shapes.proofs.Shapes.{root_holes-le}
 use Rattle.model_documents.specs.Roots.{sorted_roots, FromNumber}
 use Rattle.model_documents.specs.Roots as documents
 use Rattle.model_documents.proofs.SortedRoots.{sorted-kept}
 use Rattle.model_heap.specs.Lists.{count}
-use Rattle.model_heap.specs.Entries.{Entry, rows_of, roots, uses, parent_of}
+use Rattle.model_heap.specs.Entries.{rows_of, roots, parent_of}
 use Rattle.model_heap.specs.Marks.{Mark, opens, closes, walked}
 use Rattle.model_heap.specs.Roots.{root_at, arranged}
 use Rattle.model_heap.proofs.Moves.{test_yes, test_no}
@@ -19,7 +18,7 @@ use Rattle.node_heap.specs.declared.records.Record.{Record}
 use Rattle.node_heap.specs.declared.index.Pair.{Pair}
 use Rattle.node_heap.specs.Indexes.{lookup, key_in, numbers, Rising}
 use Rattle.node_heap.specs.Heap.{grove_of, Linked}
-use Rattle.node_heap.specs.Walking.{Said, said_in}
+use Rattle.node_heap.specs.Walking.{Said}
 use Rattle.node_heap.proofs.Found.{Found, found, from_none}
 use Rattle.node_heap.proofs.Whole.{rising_rest, read_back}
 use Rattle.node_heap.proofs.Search.{lookup_at, at_any}
@@ -90,8 +89,10 @@ module _ (f : Mark → Said) (g : Trees) (nodes : List Pair) (i : ℕ) (pair : P
         let at : drop i nodes ≡ pair ∷ drop (i + 1) nodes =
         rw (add-one, drop-cons nodes i pair) (ap (λ q. q ∷ drop (suc i) nodes) (sym is)) in
         ap (λ qs. map f (walked (arranged g (numbers qs)))) at
-        ∙ ap (map f) (walked-beside (root_at pair.number g) (arranged g (numbers (drop (i + 1) nodes))))
-        ∙ map-append f (walked (root_at pair.number g)) (walked (arranged g (numbers (drop (i + 1) nodes))))
+        ∙ ap (map f) (walked-beside (root_at pair.number g)
+        (arranged g (numbers (drop (i + 1) nodes))))
+        ∙ map-append f (walked (root_at pair.number g))
+        (walked (arranged g (numbers (drop (i + 1) nodes))))
 
     pub round_on : (before after all : List Said)
         → before ++ map f (walked (arranged g (numbers (drop i nodes)))) ≡ all
@@ -109,7 +110,8 @@ module _ (f : Mark → Said) (g : Trees) (nodes : List Pair) (i : ℕ) (pair : P
         → before ++ map f (walked (arranged g (numbers (drop (i + 1) nodes)))) ≡ all
     round_past before all h e =
         ap (λ xs. before ++ xs) (sym (split_here
-        ∙ ap (λ t. map f (walked t) ++ map f (walked (arranged g (numbers (drop (i + 1) nodes))))) e))
+        ∙ ap (λ t. map f (walked t) ++ map f (walked (arranged g (numbers (drop (i + 1) nodes)))))
+        e))
         ∙ h
 
 -- the record of a pair
@@ -119,7 +121,8 @@ module _ (s : Slab Record) (nodes lists : List Pair) (g : Trees) (l : Linked s n
     pub pair_found : Found s nodes g pair.number pair.key
     pair_found =
         let at : lookup pair.number nodes ≡ Some pair.key =
-        subst (λ q. lookup q.number nodes ≡ Some q.key) (sym is) (lookup_at nodes i pair l.rising low) in
+        subst (λ q. lookup q.number nodes ≡ Some q.key) (sym is)
+        (lookup_at nodes i pair l.rising low) in
         found s nodes lists g l.links pair.number pair.key (sym at)
 
     pub pair_there : ContainsKey s pair.key

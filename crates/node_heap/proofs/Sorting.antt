@@ -1,12 +1,12 @@
 -- An index that is sorted says the same as before.
-use Rattle.std.proofs.Common.{◌≡◌, ◌≢◌, ℕ, zero, suc, ◌+◌, ◌<◌, ◌≤◌, Bool, true, false, cond, eqb, List, [], ◌∷◌, length, get_or, Option, Some, None, refl, sym, ap, ◌∙◌, inl, inr, arith}
+use Rattle.std.proofs.Common.{◌≡◌, ◌≢◌, ℕ, suc, ◌+◌, ◌≤◌, cond, eqb, List, [], ◌∷◌, Option, Some, None, refl, sym, ap, ◌∙◌, inl, inr, arith}
 use Rattle.std.specs.List.{sum_by}
 use Rattle.std.specs.List.Sorted.{IsPermutation, IsNonDecreasingBy}
 use Rattle.std.proofs.lemmas.Bool.{cases_eq}
 use Rattle.std.proofs.lemmas.List.Sums.{sum_by-cons}
 use Rattle.std.proofs.lemmas.List.Sorted.{sum_by-IsPermutation, length_permutation}
 use Rattle.model_heap.specs.Lists.{count}
-use Rattle.model_heap.proofs.Moves.{test_yes, test_no, one_here, none_here}
+use Rattle.model_heap.proofs.Moves.{test_yes, test_no, one_here}
 use Rattle.node_heap.specs.declared.index.Pair.{Pair}
 use Rattle.node_heap.specs.Indexes.{lookup, numbers, Rising}
 use Rattle.node_heap.specs.Drafts.{IsOnce, IsSorted}
@@ -68,8 +68,12 @@ strictly (q ∷ []) u h = tt
 strictly (q ∷ p ∷ qs) u h =
     let le : q.number ≤ p.number = h 0 1 q (omega arith) (omega arith) in
     let d : q.number ≢ p.number =
-    λ e. absurd (omega (arith, u q.number, one_here q.number q.number refl,
-    one_here q.number p.number e)) in (
+    λ e. absurd (omega (
+      arith,
+      u q.number,
+      one_here q.number q.number refl,
+      one_here q.number p.number e,
+    )) in (
       omega (arith, le, d),
       strictly (p ∷ qs) (λ n. omega (arith, u n))
           (λ i j d v w. h (suc i) (suc j) d (omega arith) (omega arith)),

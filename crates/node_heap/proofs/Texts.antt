@@ -1,5 +1,6 @@
--- What is written mark by mark is the text of the grove, and what is made mark by mark is the grove.
-use Rattle.std.proofs.Common.{◌≡◌, ◌≢◌, ℕ, ◌+◌, ◌≤◌, ◌<◌, Bool, true, false, cond, eqb, inl, inr, List, [], ◌∷◌, ◌++◌, length, map, get_or, drop, add-one, drop-cons, zero, suc, Option, Some, None, refl, sym, ap, ◌∙◌, arith, subst, append_assoc, append-nil, codes}
+-- What is written mark by mark is the text of the grove, and what is made mark by mark is the
+-- grove.
+use Rattle.std.proofs.Common.{◌≡◌, ℕ, ◌+◌, ◌≤◌, ◌<◌, Bool, true, false, cond, eqb, inl, inr, List, [], ◌∷◌, ◌++◌, length, map, get_or, drop, add-one, drop-cons, zero, suc, Option, Some, None, refl, sym, ap, ◌∙◌, arith, append_assoc, append-nil, codes}
 use Rattle.std.proofs.lemmas.Bool.{cases_eq}
 use Rattle.std.specs.Fmt.{decimal}
 use Rattle.std.specs.Option.{is_some}
@@ -22,7 +23,7 @@ use Rattle.model_heap.proofs.Kinship.{Kin-rows_of}
 use Rattle.model_heap.proofs.Words.{uses-are}
 use Rattle.node_heap.specs.declared.walking.Mark as program
 use Rattle.node_heap.specs.Walking.{Said, seen, told, said_in}
-use Rattle.node_heap.specs.Writing.{bracket_text, opening_text, closing_text, piece, pieces, row_then, outer_then, built, stack_onto, next_of, outer_of}
+use Rattle.node_heap.specs.Writing.{bracket_text, opening_text, closing_text, piece, pieces, built, stack_onto}
 use Rattle.node_heap.proofs.ReadBack.{Agrees, part_kids, part_rest, part_here}
 
 map-append : (f : Mark → Said) (xs ys : List Mark) → map f (xs ++ ys) ≡ map f xs ++ map f ys
@@ -45,22 +46,25 @@ module _ (rows : Rows) where
   built_row q (node t i kids l rest) w u g row outer ms =
       let here = part_here rows q t i kids l rest g in
       let f = said_in rows in
-      let end : said_in rows (closes i) ≡ told rows false i (Some (record { name = t; list = l; parent = q; kids = roots kids })) =
+      let end : said_in rows (closes i) ≡ told rows false i
+      (Some (record { name = t; list = l; parent = q; kids = roots kids })) =
       ap (told rows false i) here in
-      let start : said_in rows (opens i) ≡ told rows true i (Some (record { name = t; list = l; parent = q; kids = roots kids })) =
+      let start : said_in rows (opens i) ≡ told rows true i
+      (Some (record { name = t; list = l; parent = q; kids = roots kids })) =
       ap (told rows true i) here in
       let a : built (map f (walked (node t i kids l rest)) ++ ms) row outer
-          ≡ built (map f (walked kids ++ closes i ∷ walked rest) ++ ms) none (row ∷ outer) =
+      ≡ built (map f (walked kids ++ closes i ∷ walked rest) ++ ms) none (row ∷ outer) =
       ap (λ m. built (m ∷ (map f (walked kids ++ closes i ∷ walked rest) ++ ms)) row outer) start in
-      let b = ap (λ z. built z none (row ∷ outer)) (marks_split f (walked kids) (closes i) (walked rest) ms) in
+      let b = ap (λ z. built z none (row ∷ outer))
+      (marks_split f (walked kids) (closes i) (walked rest) ms) in
       let c = built_row (Some i) kids (omega (arith, w)) (λ m. omega (arith, u m))
-          (part_kids rows q t i kids l rest u g) none (row ∷ outer)
-          (f (closes i) ∷ (map f (walked rest) ++ ms)) in
+      (part_kids rows q t i kids l rest u g) none (row ∷ outer)
+      (f (closes i) ∷ (map f (walked rest) ++ ms)) in
       let d : built (f (closes i) ∷ (map f (walked rest) ++ ms)) kids (row ∷ outer)
-          ≡ built (map f (walked rest) ++ ms) (beside row (node t i kids l none)) outer =
+      ≡ built (map f (walked rest) ++ ms) (beside row (node t i kids l none)) outer =
       ap (λ m. built (m ∷ (map f (walked rest) ++ ms)) kids (row ∷ outer)) end in
       let e = built_row q rest (omega (arith, w)) (λ m. omega (arith, u m))
-          (part_rest rows q t i kids l rest u g) (beside row (node t i kids l none)) outer ms in
+      (part_rest rows q t i kids l rest u g) (beside row (node t i kids l none)) outer ms in
       a ∙ b ∙ c ∙ d ∙ e
       ∙ ap (λ x. built ms x outer) (beside_assoc row (node t i kids l none) rest)
   built_row q (hole rest) w u g row outer ms = absurd (omega (arith, w))
@@ -99,33 +103,56 @@ module _ (rows : Rows) where
       let f = said_in rows in
       let own : Entry = record { name = t; list = l; parent = Some p; kids = roots kids } in
       let fewer : count i (roots rest) ≡ 0 =
-      omega (arith, kin.once p i, ap (count i) k, count-append i pre (i ∷ roots rest), one_here i i refl) in
+      omega (
+        arith,
+        kin.once p i,
+        ap (count i) k,
+        count-append i pre (i ∷ roots rest),
+        one_here i i refl,
+      ) in
       let ahead : count i pre ≡ 0 =
-      omega (arith, kin.once p i, ap (count i) k, count-append i pre (i ∷ roots rest), one_here i i refl) in
+      omega (
+        arith,
+        kin.once p i,
+        ap (count i) k,
+        count-append i pre (i ∷ roots rest),
+        one_here i i refl,
+      ) in
       let previous : before i (kids_of (rows p)) ≡ last_of pre =
       ap (before i) k ∙ before-here i pre (roots rest) ahead fewer in
-      let start : piece false (f (opens i)) ≡ opening_text (bracket_text false true (is_some (last_of pre))) t i (is_some (head_of (roots kids))) =
+      let start : piece false (f (opens i)) ≡ opening_text
+      (bracket_text false true (is_some (last_of pre))) t i (is_some (head_of (roots kids))) =
       ap (λ o. piece false (told rows true i o)) here
-      ∙ ap (λ o. opening_text (bracket_text false true (is_some o)) t i (is_some (head_of (roots kids)))) previous in
+      ∙ ap (λ o. opening_text (bracket_text false true (is_some o)) t i
+      (is_some (head_of (roots kids)))) previous in
       let end : piece false (f (closes i)) ≡ closing_text l true =
       ap (λ o. piece false (told rows false i o)) here in
       let below = text_row i [] kids kin (omega (arith, w)) (λ m. omega (arith, u m))
-          (part_kids rows (Some p) t i kids l rest u g) (ap kids_of here)
-          (f (closes i) ∷ (map f (walked rest) ++ ms)) in
+      (part_kids rows (Some p) t i kids l rest u g) (ap kids_of here)
+      (f (closes i) ∷ (map f (walked rest) ++ ms)) in
       let behind = text_row p (pre ++ i ∷ []) rest kin (omega (arith, w)) (λ m. omega (arith, u m))
-          (part_rest rows (Some p) t i kids l rest u g)
-          (k ∙ sym (append_assoc pre (i ∷ []) (roots rest))) ms in
+      (part_rest rows (Some p) t i kids l rest u g)
+      (k ∙ sym (append_assoc pre (i ∷ []) (roots rest))) ms in
       let later : trees_text (is_some (last_of (pre ++ i ∷ []))) rest ≡ further_trees rest =
       ap (λ o. trees_text (is_some o) rest) (last-append pre (i ∷ [])) ∙ further rest in
-      ap (λ z. piece false (f (opens i)) ++ pieces false z) (marks_split f (walked kids) (closes i) (walked rest) ms)
+      ap (λ z. piece false (f (opens i)) ++ pieces false z)
+      (marks_split f (walked kids) (closes i) (walked rest) ms)
       ∙ ap (λ z. piece false (f (opens i)) ++ z) below
-      ∙ ap (λ z. piece false (f (opens i)) ++ (trees_text false kids ++ (piece false (f (closes i)) ++ z))) behind
-      ∙ ap (λ z. piece false (f (opens i)) ++ (trees_text false kids ++ (piece false (f (closes i)) ++ (z ++ pieces false ms)))) later
-      ∙ ap (λ z. z ++ (trees_text false kids ++ (piece false (f (closes i)) ++ (further_trees rest ++ pieces false ms)))) start
-      ∙ ap (λ z. opening_text (bracket_text false true (is_some (last_of pre))) t i (is_some (head_of (roots kids))) ++ (trees_text false kids ++ (z ++ (further_trees rest ++ pieces false ms)))) end
-      ∙ arranged (cond (is_some (last_of pre)) (codes " * <") (codes "<")) (quoted t) (codes "#") (decimal i) (codes "[")
-      (cond (is_some (head_of (roots kids))) [] (codes "0f")) (trees_text false kids) (codes "]%") (decimal l) (codes ">")
-      (further_trees rest) (pieces false ms) (forest_text kids) (whole_forest kids (omega (arith, w)))
+      ∙ ap (λ z. piece false (f (opens i)) ++ (trees_text false kids
+      ++ (piece false (f (closes i)) ++ z))) behind
+      ∙ ap (λ z. piece false (f (opens i)) ++ (trees_text false kids
+      ++ (piece false (f (closes i)) ++ (z ++ pieces false ms)))) later
+      ∙ ap (λ z. z ++ (trees_text false kids ++
+      (piece false (f (closes i)) ++ (further_trees rest ++ pieces false ms)))) start
+      ∙ ap (λ z. opening_text (bracket_text false true (is_some (last_of pre))) t i
+      (is_some (head_of (roots kids))) ++ (trees_text false kids
+      ++ (z ++ (further_trees rest ++ pieces false ms)))) end
+      ∙ arranged (cond (is_some (last_of pre)) (codes " * <") (codes "<")) (quoted t) (codes "#")
+      (decimal i) (codes "[")
+      (cond (is_some (head_of (roots kids))) [] (codes "0f")) (trees_text false kids) (codes "]%")
+      (decimal l) (codes ">")
+      (further_trees rest) (pieces false ms) (forest_text kids)
+      (whole_forest kids (omega (arith, w)))
   text_row p pre (hole rest) kin w u g k ms = absurd (omega (arith, w))
 
   -- and of roots
@@ -147,24 +174,35 @@ module _ (rows : Rows) where
   text_roots b (node t i kids l rest) kin w u g =
       let here = part_here rows None t i kids l rest g in
       let f = said_in rows in
-      let start : piece b (f (opens i)) ≡ opening_text (cond b (codes "[") (codes " + [")) t i (is_some (head_of (roots kids))) =
+      let start : piece b (f (opens i)) ≡ opening_text
+      (cond b (codes "[") (codes " + [")) t i (is_some (head_of (roots kids))) =
       ap (λ o. piece b (told rows true i o)) here in
       let end : piece false (f (closes i)) ≡ closing_text l false =
       ap (λ o. piece false (told rows false i o)) here in
       let below = text_row i [] kids kin (omega (arith, w)) (λ m. omega (arith, u m))
-          (part_kids rows None t i kids l rest u g) (ap kids_of here) (f (closes i) ∷ map f (walked rest)) in
+      (part_kids rows None t i kids l rest u g) (ap kids_of here)
+      (f (closes i) ∷ map f (walked rest)) in
       let behind = text_roots false rest kin (omega (arith, w)) (λ m. omega (arith, u m))
-          (part_rest rows None t i kids l rest u g) in
-      ap (λ z. piece b (f (opens i)) ++ pieces false z) (map-append f (walked kids) (closes i ∷ walked rest))
+      (part_rest rows None t i kids l rest u g) in
+      ap (λ z. piece b (f (opens i)) ++ pieces false z)
+      (map-append f (walked kids) (closes i ∷ walked rest))
       ∙ ap (λ z. piece b (f (opens i)) ++ z) below
-      ∙ ap (λ z. piece b (f (opens i)) ++ (trees_text false kids ++ (piece false (f (closes i)) ++ z))) (behind ∙ further_on rest)
-      ∙ ap (λ z. z ++ (trees_text false kids ++ (piece false (f (closes i)) ++ further_roots rest))) start
-      ∙ ap (λ z. opening_text (cond b (codes "[") (codes " + [")) t i (is_some (head_of (roots kids))) ++ (trees_text false kids ++ (z ++ further_roots rest))) end
-      ∙ ap (λ z. opening_text (cond b (codes "[") (codes " + [")) t i (is_some (head_of (roots kids))) ++ (trees_text false kids ++ (closing_text l false ++ z))) (sym (append-nil (further_roots rest)))
+      ∙ ap (λ z. piece b (f (opens i)) ++ (trees_text false kids
+      ++ (piece false (f (closes i)) ++ z))) (behind ∙ further_on rest)
+      ∙ ap (λ z. z ++ (trees_text false kids ++ (piece false (f (closes i)) ++ further_roots rest)))
+      start
+      ∙ ap (λ z. opening_text (cond b (codes "[") (codes " + [")) t i
+      (is_some (head_of (roots kids))) ++ (trees_text false kids ++ (z ++ further_roots rest)))
+      end
+      ∙ ap (λ z. opening_text (cond b (codes "[") (codes " + [")) t i
+      (is_some (head_of (roots kids))) ++ (trees_text false kids
+      ++ (closing_text l false ++ z))) (sym (append-nil (further_roots rest)))
       ∙ arranged (cond b (codes "[") (codes " + [")) (quoted t) (codes "#") (decimal i) (codes "[")
-      (cond (is_some (head_of (roots kids))) [] (codes "0f")) (trees_text false kids) (codes "]%") (decimal l) (codes "]")
+      (cond (is_some (head_of (roots kids))) [] (codes "0f")) (trees_text false kids) (codes "]%")
+      (decimal l) (codes "]")
       (further_roots rest) [] (forest_text kids) (whole_forest kids (omega (arith, w)))
-      ∙ append-nil (cond b (codes "[") (codes " + [") ++ (tree_text t i (forest_text kids) l ++ (codes "]" ++ further_roots rest)))
+      ∙ append-nil (cond b (codes "[") (codes " + [") ++
+      (tree_text t i (forest_text kids) l ++ (codes "]" ++ further_roots rest)))
   text_roots b (hole rest) kin w u g = absurd (omega (arith, w))
 
 once_of : (g : Trees) → Shaped (shape grove) g → (n : ℕ) → uses n g ≤ 1
@@ -184,7 +222,8 @@ pub written : (g : Trees) → Shaped (shape grove) g
 written none h some = absurd (some refl)
 written (node name number kids list rest) h some =
     let g : Trees = node name number kids list rest in
-    text_roots (rows_of g) true g (Kin-rows_of g (once_of g h)) h.holes_fit (once_of g h) (λ m e x. x)
+    text_roots (rows_of g) true g (Kin-rows_of g (once_of g h)) h.holes_fit (once_of g h)
+    (λ m e x. x)
 written (hole rest) h some = absurd (omega (arith, h.holes_fit))
 
 pub unwritten : (g : Trees) → Shaped (shape grove) g

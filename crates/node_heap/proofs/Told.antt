@@ -1,34 +1,32 @@
 -- What calls tell, in the words of the machine.
-use Rattle.std.proofs.Common.{◌≡◌, ◌≢◌, ℕ, zero, suc, ℤ, pos, negsuc, ◌<ℤ◌, ◌+◌, ◌≤◌, Bool, true, false, cond, List, [], ◌∷◌, Option, Some, None, Result, Ok, Err, refl, sym, ap, ◌∙◌, inl, inr, arith, subst}
+use Rattle.std.proofs.Common.{◌≡◌, ◌≢◌, ℕ, zero, suc, ℤ, pos, negsuc, ◌<ℤ◌, ◌≤◌, true, false, List, [], Option, Some, None, Ok, Err, refl, sym, ap, ◌∙◌, inl, inr, arith, subst}
 use lib.Dec.{ltb→lt}
 use Rattle.std.specs.List.{slice_get}
-use Rattle.std.specs.Option.{is_some, IsSome, option_map}
 use Rattle.std.proofs.lemmas.Bool.{cases_eq}
 use Rattle.model_shapes.specs.Sorts.{grove}
-use Rattle.model_shapes.specs.Values.{Name, Value, null, node_number, list_number, int}
+use Rattle.model_shapes.specs.Values.{Name, Value, node_number, list_number, int}
 use Rattle.model_shapes.specs.Trees.{Trees, none, node, hole, beside, node_uses, list_uses}
 use Rattle.model_shapes.specs.Shapes.{holes, SameAt}
 use Rattle.model_terms.specs.Stores.{Store}
-use Rattle.model_groves.specs.Groves.{nodes_where, numbered, listed, parental, has_root, without, adding, positive, first_number, number_at, item_of, node_at, list_at}
+use Rattle.model_groves.specs.Groves.{nodes_where, numbered, listed, parental, has_root, without, adding, first_number, number_at, item_of, node_at, list_at}
 use Rattle.model_machine.specs.Machine as machine
 use Rattle.model_machine.specs.Machine.{Move, Piece, becomes, faults, appending, removing, no_node, no_list, cycle, not_child}
 use Rattle.dom_meaning.specs.declared.faults.FaultKind.{FaultKind}
 use Rattle.dom_meaning.specs.declared.faults.FaultKind.TheVariants as k
 use Rattle.dom_meaning.specs.Faults.{fault_kind_of}
 use Rattle.grove_data.specs.Finding.{number_or_null}
-use Rattle.model_heap.specs.Lists.{count, holds}
-use Rattle.model_heap.specs.Entries.{Entry, rows_of, roots, uses, entry, tree_at, removed, appended, kids_of, parent_of, Kin}
-use Rattle.model_heap.proofs.Moves.{test_yes, test_no, entry_absent}
+use Rattle.model_heap.specs.Lists.{count}
+use Rattle.model_heap.specs.Entries.{Entry, rows_of, roots, uses, tree_at, removed, appended, kids_of, parent_of}
 use Rattle.model_heap.proofs.Kinship.{Kin-rows_of, present, root_of}
 use Rattle.model_heap.proofs.Words.{NodeOf, node_of, where_absent, listed_absent, listed_is, owner_of, tree_is, uses-are, root_yes, root_no, no_parent, parent_is}
-use Rattle.slab.specs.Slab.{Slab, get}
+use Rattle.slab.specs.Slab.{Slab}
 use Rattle.node_heap.specs.declared.records.Record.{Record}
 use Rattle.node_heap.specs.declared.index.Pair.{Pair}
 use Rattle.node_heap.specs.Indexes.{lookup, key_in}
 use Rattle.node_heap.specs.Heap.{Linking}
 use Rattle.node_heap.specs.HeapView.{HeapView}
 use Rattle.node_heap.specs.Answers.{Did, Reads}
-use Rattle.node_heap.proofs.Found.{Found, found_at}
+use Rattle.node_heap.proofs.Found.{Found}
 use Rattle.node_heap.proofs.Tests.{once_there}
 use Rattle.node_heap.proofs.WellFormed.{removed_is, appended_is}
 
@@ -258,8 +256,10 @@ module _ (s : Slab Record) (nodes lists : List Pair) (g : Trees) (l : Linking s 
           × Did {A = Unit {0}} remove_move (Err k.NoNode) v v
       no_child_told h =
           let e : nodes_where (numbered c) v.grove ≡ none = rw (← is) (nowhere c h) in
-          let a = append_lacks (nodes_where (numbered p) v.grove) _ v.grove p fp.entry store above_in e in
-          let b = remove_lacks (nodes_where (numbered p) v.grove) _ v.grove p fp.entry store above_in e in (
+          let a = append_lacks (nodes_where (numbered p) v.grove) _ v.grove p fp.entry store
+          above_in e in
+          let b = remove_lacks (nodes_where (numbered p) v.grove) _ v.grove p fp.entry store
+          above_in e in (
             did_not append_move no_node k.NoNode v a refl,
             did_not remove_move no_node k.NoNode v b refl,
           )
@@ -275,15 +275,18 @@ module _ (s : Slab Record) (nodes lists : List Pair) (g : Trees) (l : Linking s 
             → Did {A = Unit {0}} append_move (Err k.Cycle) v v
         cycle_told u =
             did_not append_move cycle k.Cycle v
-            (move_cycles _ _ v.grove p c fp.entry fc.entry above_in below_in store (uses_in ∙ u)) refl
+            (move_cycles _ _ v.grove p c fp.entry fc.entry above_in below_in store (uses_in ∙ u))
+            refl
 
         pub append_told : uses p (tree_at c g) ≡ 0 → SameAt grove new.grove (appended p c g)
             → new.spare ≡ v.spare → Did {A = Unit {0}} append_move (Ok tt) v new
         append_told u same spare =
-            let after : appended p c g ≡ adding p (nodes_where (numbered c) v.grove) (without c v.grove) =
+            let after : appended p c g ≡ adding p (nodes_where (numbered c) v.grove)
+            (without c v.grove) =
             sym (appended_is p c g (l.once c) (l.once p))
             ∙ ap (λ g. adding p (nodes_where (numbered c) g) (without c g)) is in
-            did append_move [] store (adding p (nodes_where (numbered c) v.grove) (without c v.grove)) v new
+            did append_move [] store (adding p (nodes_where (numbered c) v.grove)
+            (without c v.grove)) v new
             (move_appends _ _ v.grove p c fp.entry fc.entry above_in below_in store (uses_in ∙ u))
             (subst (SameAt grove new.grove) after same) spare
 
@@ -297,10 +300,12 @@ module _ (s : Slab Record) (nodes lists : List Pair) (g : Trees) (l : Linking s 
         pub remove_told : fc.entry.parent ≡ Some p → SameAt grove new.grove (removed c g)
             → new.spare ≡ v.spare → Did {A = Unit {0}} remove_move (Ok tt) v new
         remove_told up same spare =
-            let after : removed c g ≡ beside (without c v.grove) (nodes_where (numbered c) v.grove) =
+            let after : removed c g ≡ beside (without c v.grove)
+            (nodes_where (numbered c) v.grove) =
             sym (removed_is c g (l.once c))
             ∙ ap (λ g. beside (without c g) (nodes_where (numbered c) g)) is in
-            did remove_move [] store (beside (without c v.grove) (nodes_where (numbered c) v.grove)) v new
+            did remove_move [] store (beside (without c v.grove) (nodes_where (numbered c) v.grove))
+            v new
             (move_removes _ _ v.grove p c fp.entry fc.entry above_in below_in store
             (child_count p pk c ck fp fc up))
             (subst (SameAt grove new.grove) after same) spare

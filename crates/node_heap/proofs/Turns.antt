@@ -1,5 +1,5 @@
 -- A heap that is built from a grove, tree by tree.
-use Rattle.std.proofs.Common.{◌≡◌, ◌≢◌, ◌⊎◌, ℕ, ◌+◌, ◌≤◌, Bool, true, false, cond, eqb, List, [], ◌∷◌, ◌++◌, length, map, get_or, drop, take, ◌<◌, ◌-◌, Option, Some, None, refl, sym, ap, ◌∙◌, inl, inr, arith, subst}
+use Rattle.std.proofs.Common.{◌≡◌, ◌≢◌, ◌⊎◌, ℕ, ◌+◌, ◌≤◌, true, cond, eqb, List, [], ◌∷◌, ◌++◌, length, map, get_or, drop, take, ◌<◌, ◌-◌, Option, Some, None, refl, sym, ap, ◌∙◌, inl, inr, arith, subst}
 use Rattle.std.proofs.Math.Decide.{ℕ_discrete}
 use Rattle.std.specs.Option.{option_map, is_some, IsSome, unwrap_or, MatchOption, ForSome}
 use Rattle.std.proofs.lemmas.Bool.{cases_eq}
@@ -13,12 +13,11 @@ use Rattle.model_machine.proofs.Fine.{less-WellFormed}
 use Rattle.model_heap.specs.Lists.{count}
 use Rattle.model_heap.specs.Entries.{Entry, rows_of, uses, tree_at, removed, appended, created}
 use Rattle.model_heap.specs.Growing.{Frame, putting, completing, Present, weight, weights}
-use Rattle.model_heap.proofs.Moves.{test_yes, test_no, one_here, none_here, entry_absent}
-use Rattle.model_heap.proofs.Kinship.{present}
+use Rattle.model_heap.proofs.Moves.{test_yes, one_here, none_here, entry_absent}
 use Rattle.model_heap.proofs.Words.{decided_yes, uses-are, where_absent, tree_is, list_used}
 use Rattle.model_heap.proofs.Growing.{adding_nothing, completing-last, weights-last, node_fits, list_fits, node_put, list_put, turned}
 use Rattle.slab.specs.Slab.{Slab, get, slab_len, Updates, ContainsKey}
-use Rattle.grove_data.specs.Trees.{tree_of, forest_of}
+use Rattle.grove_data.specs.Trees.{forest_of}
 use Rattle.grove_data.specs.declared.trees.Tree.{Tree, out-Tree}
 use Rattle.grove_data.proofs.Bare.{forest-bare}
 use Rattle.grove_data.proofs.Walks.{tree_is as by_fields, forest_at}
@@ -30,7 +29,7 @@ use Rattle.node_heap.specs.Links.{Stands}
 use Rattle.node_heap.specs.Indexes.{lookup, key_in, numbers}
 use Rattle.node_heap.specs.Heap.{Linking, Linked}
 use Rattle.node_heap.specs.Drafts.{IsOnce, IsSorted, IsDraft, Knows, KnowsAll, Part, frame_of}
-use Rattle.node_heap.proofs.Found.{Found, found, found_at}
+use Rattle.node_heap.proofs.Found.{Found, found}
 use Rattle.node_heap.proofs.Whole.{count_lookup}
 use Rattle.node_heap.proofs.Tests.{once_there, neighbours}
 use Rattle.node_heap.proofs.Create.{lookup-append, linking_created}
@@ -79,7 +78,8 @@ once-append qs n k u h m =
         arith,
         numbers-append qs (record { number = n; key = k }) m,
         one_here m n e,
-        subst (λ m. count m (numbers qs) ≡ 0) (sym e) (none_counted (cases_eq (count n (numbers qs)) 0)),
+        subst (λ m. count m (numbers qs) ≡ 0) (sym e)
+            (none_counted (cases_eq (count n (numbers qs)) 0)),
       )
       | inr d ↦ omega (
         arith,
@@ -89,7 +89,8 @@ once-append qs n k u h m =
       )
     ]
   where
-    none_counted : (count n (numbers qs) ≡ 0) ⊎ (count n (numbers qs) ≢ 0) → count n (numbers qs) ≡ 0
+    none_counted : (count n (numbers qs) ≡ 0) ⊎ (count n (numbers qs) ≢ 0) → count n (numbers qs)
+        ≡ 0
     none_counted (inl z) = z
     none_counted (inr z) = absurd (let x = count_lookup qs n (omega (arith, z)) in cc)
 
@@ -141,7 +142,8 @@ module _ (name : List ℕ) (i a : ℕ) (g : Trees) (fresh : uses i g ≡ 0) wher
       without-beside i g (node name i none a none)
       ∙ rw (without-none i g (uses-are i g ∙ fresh), decided_yes i i refl) (beside-none g)
 
-  removed_last : uses i (created name i a g) ≤ 1 → removed i (created name i a g) ≡ created name i a g
+  removed_last : uses i (created name i a g) ≤ 1 → removed i (created name i a g)
+      ≡ created name i a g
   removed_last u =
       sym (removed_is i (created name i a g) u) ∙ rw (left_last, found_last) refl
 
@@ -150,7 +152,8 @@ module _ (name : List ℕ) (i a : ℕ) (g : Trees) (fresh : uses i g ≡ 0) wher
   appended_last p u v =
       sym (appended_is p i (created name i a g) u v) ∙ rw (left_last, found_last) refl
 
-  tree_last : uses i (created name i a g) ≤ 1 → tree_at i (created name i a g) ≡ node name i none a none
+  tree_last : uses i (created name i a g) ≤ 1 → tree_at i (created name i a g)
+      ≡ node name i none a none
   tree_last u = sym (tree_is i (created name i a g) u) ∙ found_last
 
 -- ONE TURN of the reading
@@ -281,9 +284,11 @@ module _ (s : Slab Record) (nodes lists : List Pair) (g : Trees) (d : IsDraft s 
         pub parent_there : ForSome q (λ (p : Pair). ContainsKey s' p.key)
         parent_there = λ p e. subst IsSome (sym (above p e).at) refl
 
-        pub parent_near : ForSome q (λ (p : Pair). (r : Record) → get s' p.key ≡ Some r → Neighbours s' r)
+        pub parent_near : ForSome q (λ (p : Pair). (r : Record) → get s' p.key ≡ Some r
+            → Neighbours s' r)
         parent_near = λ p e r at.
-            neighbours s' nodes' lists' (created name i a g) inserted p.number p.key (above p e) r at
+            neighbours s' nodes' lists' (created name i a g) inserted p.number p.key (above p e) r
+            at
 
         module _ (s'' : Slab Record)
             (puts : MatchOption q (s'' ≡ s') (λ (p : Pair). (r : Record) → get s' p.key ≡ Some r
@@ -313,14 +318,16 @@ module _ (s : Slab Record) (nodes lists : List Pair) (g : Trees) (d : IsDraft s 
                 λ x. absurd (omega (arith, far, one_here p.number i x)) in
                 let outside : uses p.number (tree_at i c) ≡ 0 =
                 rw (tree_last name i a g fresh u) (omega (arith, none_here p.number i other)) in
-                let well' : WellFormed (appended p.number i c) = subst WellFormed (sym is_put) well in
+                let well' : WellFormed (appended p.number i c) = subst WellFormed (sym is_put)
+                well in
                 subst (Linking s'' nodes' lists') is_put
                 (puts_last s' s'' nodes' lists' c p.number i p.key k inserted.once
                 (once_there s' nodes' c i k u here)
                 (once_there s' nodes' c p.number p.key v (above p e)) outside other back fp fc
                 (put fp.it fp.at) len' well')
 
-            pub draft_put : IsDraft s'' nodes' lists' (putting (parent q) (node name i none a none) g)
+            pub draft_put : IsDraft s'' nodes' lists'
+                (putting (parent q) (node name i none a none) g)
             draft_put = record {
               links = placed q refl puts put_well;
               nodes_once = once-append nodes i k d.nodes_once unknown;
@@ -354,7 +361,8 @@ frame parent trees = record { parent = option_map (λ (p : Pair). p.number) pare
 
 -- the first of the trees that are still to be read
 module _ (trees : List Tree) (t : Tree) (some : 0 < length trees) (is : t ≡ get_or trees 0 t) where
-  first_read : forest_of trees ≡ node (out-Tree t).name (out-Tree t).id (forest_of (out-Tree t).kids)
+  first_read : forest_of trees ≡ node (out-Tree t).name (out-Tree t).id
+      (forest_of (out-Tree t).kids)
       (out-Tree t).list (forest_of (drop 1 trees))
   first_read =
       forest_at trees 0 t some is ∙ ap (λ u. beside u (forest_of (drop 1 trees))) (by_fields t)
@@ -491,7 +499,8 @@ some_weight (hole rest) h = absurd (omega (arith, h))
 pub fewer_left : (items left : List Siblings) (last : Siblings) → items ≡ left ++ last ∷ []
     → weights (map frame_of left) < weights (map frame_of items)
 fewer_left items left last e =
-    let all : weights (map frame_of items) ≡ weights (map frame_of left) + weight (forest_of last.trees.now) =
+    let all : weights (map frame_of items) ≡ weights (map frame_of left) + weight
+    (forest_of last.trees.now) =
     ap (λ fs. weights (map frame_of fs)) e ∙ ap weights (frames-last left last)
     ∙ weights-last (map frame_of left) (frame_of last) in
     omega (arith, all, some_weight (forest_of last.trees.now) (forest-bare last.trees.now))
@@ -503,7 +512,8 @@ pub fewer_then : (items left rest : List Siblings) (last : Siblings) (t : Tree) 
     ++ frame (Some pair) (forest_of (out-Tree t).kids) ∷ []
     → weights (map frame_of rest) < weights (map frame_of items)
 fewer_then items left rest last t pair e some is frames =
-    let all : weights (map frame_of items) ≡ weights (map frame_of left) + weight (forest_of last.trees.now) =
+    let all : weights (map frame_of items) ≡ weights (map frame_of left) + weight
+    (forest_of last.trees.now) =
     ap (λ fs. weights (map frame_of fs)) e ∙ ap weights (frames-last left last)
     ∙ weights-last (map frame_of left) (frame_of last) in
     let first : weight (forest_of last.trees.now)
@@ -515,5 +525,11 @@ fewer_then items left rest last t pair e some is frames =
     ap weights frames ∙ weights-last (map frame_of left
     ++ frame last.parent (forest_of (drop 1 last.trees.now)) ∷ [])
     (frame (Some pair) (forest_of (out-Tree t).kids)) in
-    omega (arith, all, first, now, weights-last (map frame_of left)
-    (frame last.parent (forest_of (drop 1 last.trees.now))))
+    omega (
+      arith,
+      all,
+      first,
+      now,
+      weights-last (map frame_of left)
+          (frame last.parent (forest_of (drop 1 last.trees.now))),
+    )

@@ -1,5 +1,5 @@
 -- Groves stay well formed where trees are moved.
-use Rattle.std.proofs.Common.{◌≡◌, ℕ, ◌+◌, ◌≤◌, refl, sym, ap, arith, subst}
+use Rattle.std.proofs.Common.{◌≡◌, ℕ, ◌≤◌, refl, arith, subst}
 use Rattle.model_shapes.specs.Sorts.{shape, grove}
 use Rattle.model_shapes.specs.Trees.{Trees, beside, WellFormed}
 use Rattle.model_shapes.specs.Shapes.{holes, Shaped}

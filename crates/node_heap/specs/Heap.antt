@@ -3,7 +3,7 @@
 use Rattle.std.specs.Prelude.{◌≡◌, ◌≤◌, ℕ, zero, suc, List, [], ◌∷◌, Option, Some, None, is_some, length}
 use Rattle.model_shapes.specs.Trees.{Trees, none, node, beside, WellFormed}
 use Rattle.model_shapes.specs.Shapes.{holes}
-use Rattle.model_heap.specs.Entries.{Entry, Rows, rows_of, uses}
+use Rattle.model_heap.specs.Entries.{Entry, rows_of, uses}
 use Rattle.model_groves.specs.Sizes.{size}
 use Rattle.slab.specs.Slab.{Slab, get, slab_len}
 use Rattle.node_heap.specs.declared.records.Record.{Record}

@@ -1,5 +1,5 @@
 -- Needn't be believed: the contracts of private functions alone speak of it. What walks tell.
-use Rattle.std.specs.Prelude.{ℕ, Bool, true, false, cond, not, List, [], ◌∷◌, Option, Some, None, is_some}
+use Rattle.std.specs.Prelude.{ℕ, Bool, true, false, cond, List, [], Option, Some, None, is_some}
 use Rattle.model_heap.specs.Lists.{before, head_of}
 use Rattle.model_heap.specs.Entries.{Entry, Rows}
 use Rattle.model_heap.specs.Marks as marks

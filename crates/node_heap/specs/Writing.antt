@@ -1,6 +1,6 @@
 -- Needn't be believed: the contracts of private functions alone speak of it. What is written mark
 -- by mark, and groves that are made mark by mark.
-use Rattle.std.specs.Prelude.{ℕ, Bool, true, false, cond, List, [], ◌∷◌, ◌++◌, codes}
+use Rattle.std.specs.Prelude.{ℕ, Bool, false, cond, List, [], ◌∷◌, ◌++◌, codes}
 use Rattle.std.specs.Fmt.{decimal}
 use Rattle.model_shapes.specs.Trees.{Trees, none, node, beside}
 use Rattle.model_documents.specs.Printed.{quoted}

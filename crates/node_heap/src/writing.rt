@@ -101,12 +101,7 @@ fn closed(
 }
 
 // puts what stands at a mark at the end
-fn push_mark(
-    alloc: Global,
-    text: &mut Text,
-    mark: &Mark,
-    is_first: bool,
-) -> Result<(), OutOfMemory>
+fn push_mark(alloc: Global, text: &mut Text, mark: &Mark, is_first: bool) -> Result<(), OutOfMemory>
     ensures { OnOk result (text.new ≡ text.old ++ piece is_first (seen mark.now)) }
 {
     if mark.opens {

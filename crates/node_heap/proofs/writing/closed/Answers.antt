@@ -1,4 +1,4 @@
-use Rattle.std.proofs.Common.{◌≡◌, ◌∙◌, ap}
+use Rattle.std.proofs.Common.{◌∙◌, ap}
 use Rattle.model_shapes.specs.Trees.{Trees, none, node, beside}
 use Rattle.grove_data.specs.Trees.{forest_of, tree_step}
 use Rattle.grove_data.specs.declared.trees.Tree.TheFolds.{fold-roll-Tree}
@@ -14,5 +14,6 @@ returns c =
       kids = c.args.kids;
       list = c.args.node.now.list;
     })
-    ∙ ap (λ name. node name c.args.node.now.number (forest_of c.args.kids) c.args.node.now.list none)
+    ∙ ap (λ name. node name c.args.node.now.number (forest_of c.args.kids) c.args.node.now.list
+    none)
     c.in_ok-copy.ensures)

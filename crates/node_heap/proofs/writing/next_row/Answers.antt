@@ -1,5 +1,4 @@
-use Rattle.std.proofs.Common.{◌≡◌, ◌∙◌, ap, sym, [], List}
-use Rattle.grove_data.specs.Trees.{forest_of}
+use Rattle.std.proofs.Common.{[]}
 use Rattle.node_heap.proofs.Texts.{stack-last, on_ok_always}
 use Rattle.node_heap.proofs.writing.next_row.Goals as goal
 

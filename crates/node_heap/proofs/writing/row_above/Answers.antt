@@ -1,4 +1,4 @@
-use Rattle.std.proofs.Common.{◌≡◌, [], refl}
+use Rattle.std.proofs.Common.{[], refl}
 use Rattle.node_heap.proofs.Texts.{stack-last}
 use Rattle.node_heap.proofs.writing.row_above.Goals as goal
 

@@ -1,4 +1,3 @@
-use Rattle.node_heap.specs.Heap.{Linked}
 use Rattle.grove_data.specs.Trees.{forest_of}
 use Rattle.node_heap.proofs.Turns.{sorted_links}
 use Rattle.node_heap.proofs.Whole.{same_grove, linked_back}

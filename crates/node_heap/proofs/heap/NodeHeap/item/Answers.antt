@@ -1,14 +1,9 @@
-use Rattle.std.proofs.Common.{◌≡◌, ◌<ℤ◌, ◌∙◌, ◌+◌, ◌≤◌, arith, ℕ, ℤ, pos, List, Option, Some, None, Result, Ok, sym, ap, subst, refl}
+use Rattle.std.proofs.Common.{◌≡◌, ◌<ℤ◌, ◌∙◌, ◌+◌, arith, pos, Some, None, sym, ap, subst, refl}
 use Rattle.std.proofs.lemmas.Int.{to_z-of_z}
 use mir.Syntax.{w64}
-use Rattle.model_shapes.specs.Trees.{Trees}
-use Rattle.slab.specs.Slab.{Slab, get, ContainsKey}
-use Rattle.std.specs.List.{slice_get}
-use Rattle.model_heap.specs.Entries.{Entry, rows_of}
-use Rattle.node_heap.specs.declared.index.Pair.{Pair}
 use Rattle.node_heap.specs.HeapView.{HeapView}
 use Rattle.node_heap.specs.Indexes.{lookup}
-use Rattle.node_heap.specs.Heap.{grove_of, Linked}
+use Rattle.node_heap.specs.Heap.{grove_of}
 use Rattle.node_heap.proofs.Told.{item_told, item_before, item_unlisted}
 use Rattle.node_heap.proofs.Along.{Along, start, owner_there, at_key, at_end}
 use Rattle.std.specs.Option.{IsSome}
@@ -20,22 +15,40 @@ index : (c : In-Some) → Some c.in-Some.key ≡ lookup c.args.list c.self.insid
 index c = sym c.in-Some.is ∙ c.find.ensures ∙ ap (lookup c.args.list) c.deref.ensures.value
 
 pub index-requires : goal.index-requires
-index-requires c = owner_there c.self.inside.records c.self.inside.nodes.items c.self.inside.lists.items (grove_of c.self.inside.records c.self.inside.nodes.items) c.self.invariant.links c.args.list c.in-Some.key (index (goal.at.index-requires c).In-Some)
+index-requires c = owner_there c.self.inside.records c.self.inside.nodes.items
+    c.self.inside.lists.items (grove_of c.self.inside.records c.self.inside.nodes.items)
+    c.self.invariant.links c.args.list c.in-Some.key (index (goal.at.index-requires c).In-Some)
 
 pub loop-passed-init : goal.loop-passed-init
-loop-passed-init c = start c.self.inside.records c.self.inside.nodes.items c.self.inside.lists.items (grove_of c.self.inside.records c.self.inside.nodes.items) c.self.invariant.links c.args.list c.in-Some.key c.index.result.now (index (goal.at.loop-passed-init c).In-Some) c.index.ensures
+loop-passed-init c = start c.self.inside.records c.self.inside.nodes.items c.self.inside.lists.items
+    (grove_of c.self.inside.records c.self.inside.nodes.items) c.self.invariant.links c.args.list
+    c.in-Some.key c.index.result.now (index (goal.at.loop-passed-init c).In-Some) c.index.ensures
 
 pub index-requires-in-Some-current : goal.index-requires-in-Some-current
-index-requires-in-Some-current c = let w = at_key c.self.inside.records c.self.inside.nodes.items c.self.inside.lists.items (grove_of c.self.inside.records c.self.inside.nodes.items) c.self.invariant.links c.args.list c.loop-passed._passed c.in-Some-current.key c.loop-passed.current c.loop-passed.invariant c.in-Some-current.is in subst IsSome (sym w.there.at) refl
+index-requires-in-Some-current c = let w = at_key c.self.inside.records c.self.inside.nodes.items
+    c.self.inside.lists.items (grove_of c.self.inside.records c.self.inside.nodes.items)
+    c.self.invariant.links c.args.list c.loop-passed._passed c.in-Some-current.key
+    c.loop-passed.current c.loop-passed.invariant c.in-Some-current.is in
+    subst IsSome (sym w.there.at) refl
 
 pub loop-passed-preserved : goal.loop-passed-preserved
 loop-passed-preserved c =
-    let w = at_key c.self.inside.records c.self.inside.nodes.items c.self.inside.lists.items (grove_of c.self.inside.records c.self.inside.nodes.items) c.self.invariant.links c.args.list c.loop-passed._passed c.in-Some-current.key c.loop-passed.current c.loop-passed.invariant c.in-Some-current.is in
-    let same : w.there.it ≡ c.index-in-Some-current.result.now = let x = w.there.at in let y = c.index-in-Some-current.ensures in cc in
-    subst (λ (r : Record). Along c.self.inside.records c.self.inside.nodes.items (grove_of c.self.inside.records c.self.inside.nodes.items) c.args.list (c.loop-passed._passed + 1) r.next) same w.onward
+    let w = at_key c.self.inside.records c.self.inside.nodes.items c.self.inside.lists.items
+    (grove_of c.self.inside.records c.self.inside.nodes.items) c.self.invariant.links
+    c.args.list c.loop-passed._passed c.in-Some-current.key c.loop-passed.current
+    c.loop-passed.invariant c.in-Some-current.is in
+    let same : w.there.it ≡ c.index-in-Some-current.result.now = let x = w.there.at in let y =
+    c.index-in-Some-current.ensures in cc in
+    subst (λ (r : Record). Along c.self.inside.records c.self.inside.nodes.items
+    (grove_of c.self.inside.records c.self.inside.nodes.items) c.args.list
+    (c.loop-passed._passed + 1) r.next) same w.onward
 
 pub index-requires-in-Some-current-2 : goal.index-requires-in-Some-current-2
-index-requires-in-Some-current-2 c = let w = at_key c.self.inside.records c.self.inside.nodes.items c.self.inside.lists.items (grove_of c.self.inside.records c.self.inside.nodes.items) c.self.invariant.links c.args.list c.loop-passed._passed c.in-Some-current-2.key c.loop-passed.current c.loop-passed.invariant c.in-Some-current-2.is in subst IsSome (sym w.there.at) refl
+index-requires-in-Some-current-2 c = let w = at_key c.self.inside.records c.self.inside.nodes.items
+    c.self.inside.lists.items (grove_of c.self.inside.records c.self.inside.nodes.items)
+    c.self.invariant.links c.args.list c.loop-passed._passed c.in-Some-current-2.key
+    c.loop-passed.current c.loop-passed.invariant c.in-Some-current-2.is in
+    subst IsSome (sym w.there.at) refl
 
 pub returns-in-None : goal.returns-in-None
 returns-in-None c =

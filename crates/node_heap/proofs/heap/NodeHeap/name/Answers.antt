@@ -1,7 +1,6 @@
-use Rattle.std.proofs.Common.{◌≡◌, ◌∙◌, ℕ, List, Bor, Some, None, subst, sym, ap, refl}
+use Rattle.std.proofs.Common.{◌≡◌, ◌∙◌, ℕ, List, Bor, subst, sym, ap, refl}
 use Rattle.std.specs.Option.{IsSome}
 use Rattle.model_shapes.specs.Values.{str}
-use Rattle.slab.specs.Slab.{get}
 use Rattle.node_heap.specs.declared.records.Record.{Record}
 use Rattle.node_heap.specs.HeapView.{HeapView}
 use Rattle.node_heap.specs.Indexes.{lookup}
@@ -16,7 +15,8 @@ it : (c : In-Some) → Found c.self.inside.records c.self.inside.nodes.items
 it c =
     found c.self.inside.records c.self.inside.nodes.items c.self.inside.lists.items
     (grove_of c.self.inside.records c.self.inside.nodes.items) c.self.invariant.links c.args.node
-    c.in-Some.key (sym c.in-Some.is ∙ c.find.ensures ∙ ap (lookup c.args.node) c.deref.ensures.value)
+    c.in-Some.key (sym c.in-Some.is ∙ c.find.ensures ∙ ap (lookup c.args.node)
+    c.deref.ensures.value)
 
 pub index-requires : goal.index-requires
 index-requires c = subst IsSome (sym (it c).at) refl

@@ -1,4 +1,4 @@
-use Rattle.std.proofs.Common.{◌≡◌, ◌∙◌, ℕ, Some, None, option_map, subst, sym, ap, refl}
+use Rattle.std.proofs.Common.{◌≡◌, ◌∙◌, ℕ, Some, None, subst, sym, ap, refl}
 use Rattle.std.specs.Option.{IsSome}
 use Rattle.slab.specs.Slab.{get}
 use Rattle.node_heap.specs.declared.records.Record.{Record}
@@ -13,20 +13,33 @@ use Rattle.node_heap.proofs.Told.{node_told, node_missed, parent_told}
 use Rattle.node_heap.proofs.heap.NodeHeap.parent.Goals as goal
 use Rattle.node_heap.proofs.heap.NodeHeap.parent.Goals.{In-Some}
 
-it : (c : In-Some) → Found c.self.inside.records c.self.inside.nodes.items (grove_of c.self.inside.records c.self.inside.nodes.items) c.args.node c.in-Some.key
-it c = found c.self.inside.records c.self.inside.nodes.items c.self.inside.lists.items (grove_of c.self.inside.records c.self.inside.nodes.items) c.self.invariant.links c.args.node c.in-Some.key (sym c.in-Some.is ∙ c.find.ensures ∙ ap (lookup c.args.node) c.deref.ensures.value)
+it : (c : In-Some) → Found c.self.inside.records c.self.inside.nodes.items
+    (grove_of c.self.inside.records c.self.inside.nodes.items) c.args.node c.in-Some.key
+it c = found c.self.inside.records c.self.inside.nodes.items c.self.inside.lists.items
+    (grove_of c.self.inside.records c.self.inside.nodes.items) c.self.invariant.links c.args.node
+    c.in-Some.key (sym c.in-Some.is ∙ c.find.ensures ∙ ap (lookup c.args.node)
+    c.deref.ensures.value)
 
 abbrev Above : (c : In-Some) (pk : ℕ) → Type 0
-Above c pk = (f : Found c.self.inside.records c.self.inside.nodes.items (grove_of c.self.inside.records c.self.inside.nodes.items) c.args.node c.in-Some.key) × Points c.self.inside.records c.self.inside.nodes.items (grove_of c.self.inside.records c.self.inside.nodes.items) f.entry.parent pk
+Above c pk = (f : Found c.self.inside.records c.self.inside.nodes.items
+    (grove_of c.self.inside.records c.self.inside.nodes.items) c.args.node c.in-Some.key)
+    × Points c.self.inside.records c.self.inside.nodes.items
+    (grove_of c.self.inside.records c.self.inside.nodes.items) f.entry.parent pk
 
-above : (c : In-Some) (pk : ℕ) (r : Record) → get c.self.inside.records c.in-Some.key ≡ Some r → r.parent ≡ Some pk → Above c pk
-above c pk r a p = parent_found c.self.inside.records c.self.inside.nodes.items c.self.inside.lists.items (grove_of c.self.inside.records c.self.inside.nodes.items) (grove_of c.self.inside.records c.self.inside.nodes.items) c.self.invariant.links c.args.node c.in-Some.key pk r (it c) a p
+above : (c : In-Some) (pk : ℕ) (r : Record) → get c.self.inside.records c.in-Some.key ≡ Some r
+    → r.parent ≡ Some pk → Above c pk
+above c pk r a p = parent_found c.self.inside.records c.self.inside.nodes.items
+    c.self.inside.lists.items (grove_of c.self.inside.records c.self.inside.nodes.items)
+    (grove_of c.self.inside.records c.self.inside.nodes.items) c.self.invariant.links c.args.node
+    c.in-Some.key pk r (it c) a p
 
 pub index-requires : goal.index-requires
 index-requires c = subst IsSome (sym (it c).at) refl
 
 pub index-requires-in-Some-parent : goal.index-requires-in-Some-parent
-index-requires-in-Some-parent c = subst IsSome (sym (above (goal.at.index-requires-in-Some-parent c).In-Some c.in-Some-parent.parent c.index.result.now c.index.ensures c.in-Some-parent.is).1.there.at) refl
+index-requires-in-Some-parent c = subst IsSome
+    (sym (above (goal.at.index-requires-in-Some-parent c).In-Some c.in-Some-parent.parent
+    c.index.result.now c.index.ensures c.in-Some-parent.is).1.there.at) refl
 
 pub returns-in-Some-parent : goal.returns-in-Some-parent
 returns-in-Some-parent c =

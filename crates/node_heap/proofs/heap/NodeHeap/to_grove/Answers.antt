@@ -1,4 +1,4 @@
-use Rattle.std.proofs.Common.{◌≡◌, ◌≤◌, arith}
+use Rattle.std.proofs.Common.{arith}
 use Rattle.grove_data.specs.Trees.{forest_of}
 use Rattle.node_heap.specs.Writing.{stack}
 use Rattle.node_heap.proofs.Texts.{made_whole}

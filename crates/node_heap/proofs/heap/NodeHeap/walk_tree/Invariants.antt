@@ -8,7 +8,8 @@ use Rattle.node_heap.proofs.heap.NodeHeap.walk_tree.Given as goal
 abbrev pub invariant-loop-place : goal.invariant-loop-place
 invariant-loop-place l =
     Toured l.self-inside.records l.self-inside.nodes.items
-    (grove_of l.self-inside.records l.self-inside.nodes.items) l.root (map seen l.initial.marks.items)
+    (grove_of l.self-inside.records l.self-inside.nodes.items) l.root
+    (map seen l.initial.marks.items)
     (map seen l.marks.items) l.place
 
 abbrev pub decreases-loop-place : goal.decreases-loop-place

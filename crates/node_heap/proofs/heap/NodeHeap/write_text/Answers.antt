@@ -1,4 +1,4 @@
-use Rattle.std.proofs.Common.{◌≡◌, ◌∙◌, ◌≤◌, ◌<◌, arith, sym, codes}
+use Rattle.std.proofs.Common.{◌≡◌, ◌∙◌, arith, sym, codes}
 use Rattle.std.proofs.lemmas.Result.{IfOk-weaker}
 use Rattle.model_documents.specs.Roots.{sorted_roots}
 use Rattle.model_documents.specs.Printed.{grove_text}
@@ -11,7 +11,12 @@ returns-then-is_empty c =
     (λ text. text ≡ grove_text (sorted_roots c.args.self.now.grove))
     (λ text is. is ∙ unwritten_whole c.args.self.now.grove c.in_ok-marks.ensures.shaped
     c.in_ok-marks.ensures.sorted c.in_ok-marks.marks.items c.in_ok-marks.ensures.marks
-    (omega (arith, c.in_ok-marks.marks.ok.0, no_more c.in_ok-marks.marks.len c.if-is_empty.ensures)))
+    (omega (
+      arith,
+      c.in_ok-marks.marks.ok.0,
+      no_more c.in_ok-marks.marks.len
+          c.if-is_empty.ensures,
+    )))
     c.from_str.ensures
 
 pub returns : goal.returns
