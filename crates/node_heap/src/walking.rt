@@ -1,4 +1,5 @@
-// Walks over the grove of a heap: each node is opened before those below it, and closed behind them.
+// Walks over the grove of a heap: each node is opened before those below it, and closed behind
+// them.
 ghost use Rattle.std.specs.Prelude.{◌≡◌, ◌≤◌, ◌++◌, map, IfOk, OnOk};
 ghost use Rattle.model_shapes.specs.Sorts.{shape, grove};
 ghost use Rattle.model_shapes.specs.Shapes.{Shaped};
