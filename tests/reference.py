@@ -15,6 +15,7 @@ import sys
 sys.dont_write_bytecode = True  # the checkout stays as it is
 from reading.documents import DocumentReader, numbers_in_document, numbers_in_text
 from reading.faults import file_faults
+from reading.generated import count_of, generated
 from reading.limits import (DOCUMENT_NESTING, FILE_NESTING, LAST_I64, LAST_U32, NODES, STEPS,
                             TEXT_BYTES, VARIABLES, Refused)
 from reading.machine import Grove, Machine, outcome
@@ -95,9 +96,9 @@ def fetched(files, name):
     return content
 
 
-def checked(files, name):
-    """Returns the output of `check FILE`."""
-    theory = theory_of(fetched(files, name))
+def checked(content):
+    """Returns the output of `check` on these bytes."""
+    theory = theory_of(content)
     for procedure in theory.procedures:
         check_proof(theory, procedure)
     steps = sum(len(procedure.steps) for procedure in theory.procedures)
@@ -121,7 +122,10 @@ def ran(files, name, called, document, fuel, words):
 def output_of(words, files):
     """Returns the output of the words, or refuses them."""
     if len(words) == 2 and words[0] == "check":
-        return checked(files, words[1])
+        return checked(fetched(files, words[1]))
+    if len(words) == 2 and words[0] in ("make", "trial") and count_of(words[1]):
+        text = generated(count_of(words[1]))
+        return text if words[0] == "make" else checked(text.encode())
     if len(words) < 5 or words[0] != "run" or decimal(words[4], 0, 1000000) is None:
         raise Refused(2, "bad words")
     return ran(files, *words[1:4], int(words[4]), words[5:])

@@ -1,5 +1,5 @@
 #!/usr/bin/env python3
-"""Compares the built program with the rows of this folder, byte by byte.
+"""Compares the built program with the rows of this folder and the examples of the rules, byte by byte.
 
 usage: tests/run.py (--cmd PROGRAM | --reference | --list) [--only TEXT]
   PROGRAM       the built program; each row's words are handed to it
@@ -22,6 +22,7 @@ import tempfile
 sys.dont_write_bytecode = True  # the checkout stays as it is
 import make_rules
 import reference
+import rule_examples
 from reading.tokens import tokens_of
 
 HERE = os.path.dirname(os.path.abspath(__file__))
@@ -40,6 +41,8 @@ class Row:
         self.title, self.place = title, place
         self.words, self.status, self.output = None, None, []
         self.texts, self.changes, self.cuts, self.sink, self.called = {}, [], {}, None, None
+        self.printed, self.numbers, self.repeated = {}, [], []
+        self.fault = None
 
 
 def meant(text):
@@ -94,8 +97,13 @@ def set_field(row, field, text):
         row.sink = text
     elif field == "called":
         row.called = meant(text)
+    elif field == "for":
+        first, last = re.fullmatch(r"(\d+)\.\.(\d+)", text).groups()
+        row.numbers = range(int(first), int(last) + 1)
     elif name == "text" and file:
         row.texts[file] = meant(text)
+    elif name == "printed" and file:
+        row.printed[file] = split_words(text)
     elif name == "cut" and file:
         row.cuts[file] = int(text)
     elif name == "change" and file:
@@ -143,11 +151,17 @@ def row_of(title, place, lines, mark=""):
         if text.startswith("| "):
             set_field(row, "output", text[2:].replace("@", mark))
             continue
+        if text.startswith("|| "):
+            row.repeated.append(text[3:])
+            continue
         field, colon, rest = text.partition(":")
         if not colon:
             raise Unreadable(f"no field: {text}")
         if field != "output" or rest:
             set_field(row, field.strip(), rest.strip().replace("@", mark) if field == "output" else rest.strip())
+    for number in row.numbers:
+        for text in row.repeated:
+            set_field(row, "output", text.replace("@", str(number)))
     if row.words is None or row.status is None:
         raise Unreadable(f"the row has no words or no status: {title}")
     return row
@@ -219,6 +233,16 @@ def given_files(row, files):
     return {name: given[name] for name in given if name.encode() in named}
 
 
+def with_printed(program, row, given):
+    """Returns the given files with those that other words print."""
+    for file, words in row.printed.items():
+        one = Row(row.title, row.place)
+        one.words = words
+        found = program_answer(program, one, given) if program else reference_answer(one, given)
+        given = {**given, file: found[1]}
+    return given
+
+
 def ran(program, row, folder):
     """Runs the program on the row's words in the folder."""
     how = {"cwd": folder, "stdin": subprocess.DEVNULL, "stderr": subprocess.PIPE, "timeout": SECONDS}
@@ -251,8 +275,10 @@ def reference_answer(row, given):
 
 def complaint(program, row, files):
     """Returns what is wrong with the answer of the program, or of the reference where that is None; or None."""
+    if row.fault is not None or row.status is None:
+        return row.fault and f"    {row.fault}"
     try:
-        given = given_files(row, files)
+        given = with_printed(program, row, given_files(row, files))
         answer = program_answer(program, row, given) if program else reference_answer(row, given)
     except (Unreadable, KeyError, OSError, subprocess.TimeoutExpired) as why:
         return f"    not run: {why}"
@@ -265,19 +291,20 @@ def complaint(program, row, files):
 
 
 def rule_rows(found):
-    """Returns the rows of a table of rules, each of which has its file."""
+    """Returns the rows of a table of rules, or of an example, each of which has its file."""
     for made in found:
         row = Row(made.title, made.place)
+        row.fault = getattr(made, "fault", None)
         row.words, row.status = [b"check", b"step.dom"], made.status
         row.output, row.texts = [f"{made.output}\n".encode()], {"step.dom": made.text.encode()}
         yield row
 
 
 def all_rows():
-    """Gives the files of rows and the tables, each with its files and rows."""
+    """Gives the files of rows, the tables and the examples of the rules, each with its files and rows."""
     for path in sorted(glob.glob(os.path.join(HERE, "*.rows"))):
         yield path, *read(path)
-    for path, found in make_rules.rows():
+    for path, found in [*make_rules.rows(), *rule_examples.rows()]:
         yield path, {}, list(rule_rows(found))
 
 

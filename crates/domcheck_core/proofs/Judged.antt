@@ -5,7 +5,7 @@ use Rattle.dom_terms.specs.declared.limits.LimitKind as own
 use Rattle.outside_io.specs.Causes.{Told}
 use Rattle.triple_laws.proofs.Theories.{accepted_theories_hold}
 use Rattle.model_limits.specs.Limits.{standard_limits}
-use Rattle.model_answers.specs.Words.{Request, check, run}
+use Rattle.model_answers.specs.Words.{Request, check, run, make, trial}
 use Rattle.model_text.specs.Lexemes.{Lexeme}
 use Rattle.model_limits.specs.Limits.{LimitKind, file_limit}
 use Rattle.model_answers.specs.Texts.{IsFile}
@@ -102,6 +102,8 @@ module _ (books : Books) where
   pub answer : (r : Option Request) (s : Status) (output : List ℕ)
       → IsReply r books s output → IsTold r books → IsAnswer books r s output
   answer None s output a told = a
+  answer (Some (make n)) s output a told = a
+  answer (Some (trial n)) s output a told = a
   answer (Some (check file)) s output a told =
       checked file told.0 told.1
       (subst (λ (z : List ℕ). CheckAnswer z s output) (a.2 told.0 told.1) a.1)
@@ -150,6 +152,8 @@ module _ (books : Books) where
       → ((bytes : List ℕ) → CheckAnswer bytes s output → P bytes)
       → IsReply r books s output → OfFile r books P
   on_file None s output P f a = tt
+  on_file (Some (make n)) s output P f a = tt
+  on_file (Some (trial n)) s output P f a = tt
   on_file (Some (run file procedure document fuel arguments)) s output P f a = tt
   on_file (Some (check file)) s output P f a = λ bytes told.
       f bytes (subst (λ (z : List ℕ). CheckAnswer z s output) (a.2 bytes told) a.1)
@@ -176,6 +180,8 @@ module _ (books : Books) where
   pub bad_words_exactly : (r : Option Request) (s : Status) (output : List ℕ)
       → IsReply r books s output → BadWordsExactly r books s
   bad_words_exactly None s output a = tt
+  bad_words_exactly (Some (make n)) s output a = tt
+  bad_words_exactly (Some (trial n)) s output a = tt
   bad_words_exactly (Some (check file)) s output a = tt
   bad_words_exactly (Some (run file procedure document fuel arguments)) s output a =
       λ bytes told. words_of_run bytes procedure fuel arguments (Some a.1.0) s output

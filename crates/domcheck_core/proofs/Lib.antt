@@ -12,3 +12,4 @@ pub mod Spelling
 pub mod Tested
 pub mod Refusing
 pub mod Verdicts
+pub mod Generated

@@ -21,7 +21,7 @@ use Rattle.model_answers.specs.Texts.{text_limit, theory_limit, IsFile}
 use Rattle.model_answers.specs.Output.{bad_text_line, bad_document_text_line, fail_line, no_proof_line, gap_line}
 use Rattle.proof_text.proofs.Exact.{one_theory}
 use Rattle.logic_text.proofs.Exact.{at_most_one}
-use Rattle.domcheck_core.specs.Answers.{Books, Answer, limit_answer, fault_answer, Unread, over_limit, spells_nothing, theory_refusal, NoFile, unread, refused, numbered, Verdict, IsBadAt, says_yes, has_gap, step_fails, has_no_proof, CheckAnswer, no_file, judged, grove_answer, DocumentAnswer, no_document, is_document, IsCalled, NotCalled, RunAnswer, not_run, not_called, is_called, IsAnswer, bad_words, checked, ran, IsToldBook, IsTold}
+use Rattle.domcheck_core.specs.Answers.{Books, Answer, limit_answer, fault_answer, Unread, over_limit, spells_nothing, theory_refusal, NoFile, unread, refused, numbered, Verdict, IsBadAt, says_yes, has_gap, step_fails, has_no_proof, CheckAnswer, no_file, judged, grove_answer, DocumentAnswer, no_document, is_document, IsCalled, NotCalled, RunAnswer, not_run, not_called, is_called, IsAnswer, bad_words, checked, ran, made, tried, IsToldBook, IsTold}
 use Rattle.domcheck_core.specs.declared.status.Status.{Status}
 
 -- values in options
@@ -305,6 +305,8 @@ one_answer books r s o t p
     let same : bytes ≡ other = some_same bytes other (sym e ∙ f) in
     one_run (books document) other procedure fuel arguments s t o p
     (subst (λ (z : List ℕ). RunAnswer (books document) z procedure fuel arguments s o) same a) b
+one_answer books r s o t p (made n) (made n) = (refl, refl)
+one_answer books r s o t p (tried n) (tried n) = (refl, refl)
 
 -- where there is an answer, what it needs is told
 told_for_run : (books : Books) (bytes procedure document : List ℕ) (fuel : ℕ)
@@ -322,6 +324,8 @@ told_for_run books bytes procedure document fuel arguments s o
 pub told_of : (books : Books) (r : Option Request) (s : Status) (o : List ℕ)
     → IsAnswer books r s o → IsTold r books
 told_of books r s o bad_words = tt
+told_of books r s o (made n) = tt
+told_of books r s o (tried n) = tt
 told_of books r s o (checked file bytes e a) = (bytes, e)
 told_of books r s o (ran file procedure document fuel arguments bytes e a) =
     (bytes, e, told_for_run books bytes procedure document fuel arguments s o a)

@@ -11,14 +11,14 @@ use Rattle.model_machine.specs.Outcomes.{Outcome, ends, spends, passes_limit, ha
 use Rattle.model_documents.specs.Numbers.{Numbered, first_out_of_range, first_repeat}
 use Rattle.model_groves.specs.Sizes.{size}
 use Rattle.model_limits.specs.Limits.{standard_limits}
-use Rattle.model_answers.specs.Words.{Request, check, run}
+use Rattle.model_answers.specs.Words.{Request, check, run, make, trial}
 use Rattle.model_limits.specs.Limits.{LimitKind, nodes_limit}
 use Rattle.dom_terms.specs.declared.limits.LimitKind as own
 use Rattle.model_answers.specs.Output.{range_line, repeat_line}
 use Rattle.model_text.specs.Lexemes.{Lexeme}
 use Rattle.model_files.specs.FileFaults.{FileFault, first_file_fault}
 use Rattle.model_answers.specs.Texts.{text_limit, theory_limit}
-use Rattle.domcheck_core.specs.Answers.{Books, IsAnswer, bad_words, Answer, limit_answer, fault_answer, Unread, over_limit, spells_nothing, NoFile, unread, refused, Verdict, says_yes, has_gap, step_fails, has_no_proof, CheckAnswer, no_file, judged, outcome_answer, outcome_on, range_refusal, repeat_refusal, size_refusal, refusal, grove_answer, DocumentAnswer, no_document, is_document, RunAnswer, not_run, not_called, is_called}
+use Rattle.domcheck_core.specs.Answers.{Books, IsAnswer, bad_words, made, tried, Answer, limit_answer, fault_answer, Unread, over_limit, spells_nothing, NoFile, unread, refused, Verdict, says_yes, has_gap, step_fails, has_no_proof, CheckAnswer, no_file, judged, outcome_answer, outcome_on, range_refusal, repeat_refusal, size_refusal, refusal, grove_answer, DocumentAnswer, no_document, is_document, RunAnswer, not_run, not_called, is_called}
 use Rattle.domcheck_core.specs.Clauses.{statuses, ReadRose}
 use Rattle.domcheck_core.specs.Books.{IsReply}
 use Rattle.domcheck_core.specs.Numbers.{number_of}
@@ -171,12 +171,22 @@ speaks_words : (books : Books) (s : Status) (o : List ℕ) → IsAnswer books No
     → speaks s ≡ true
 speaks_words books s o bad_words = refl
 
+speaks_made : (n : ℕ) (books : Books) (s : Status) (o : List ℕ)
+    → IsAnswer books (Some (make n)) s o → speaks s ≡ true
+speaks_made n books s o (made n) = refl
+
+speaks_tried : (n : ℕ) (books : Books) (s : Status) (o : List ℕ)
+    → IsAnswer books (Some (trial n)) s o → speaks s ≡ true
+speaks_tried n books s o (tried n) = refl
+
 pub reply_speaks : (r : Option Request) (books : Books) (s : Status) (o : List ℕ)
     → IsReply r books s o → speaks s ≡ true
 reply_speaks None books s o a = speaks_words books s o a
 reply_speaks (Some (check file)) books s o a = speaks_check a.0 s o a.1
 reply_speaks (Some (run file procedure document fuel arguments)) books s o a =
     speaks_run (Some a.1.0) a.0 procedure fuel arguments s o a.1.1
+reply_speaks (Some (make n)) books s o a = speaks_made n books s o a
+reply_speaks (Some (trial n)) books s o a = speaks_tried n books s o a
 
 -- so it is no fault of the library or of the sink
 pub no_fault : (r : Option Request) (books : Books) (s : Status) (o : List ℕ)
@@ -236,26 +246,42 @@ possible_words : (books : Books) (s : Status) (o : List ℕ) → IsAnswer books 
     → Contains (statuses None) (number_of s)
 possible_words books s o bad_words = (0, lit< tt, refl)
 
+possible_made : (n : ℕ) (books : Books) (s : Status) (o : List ℕ)
+    → IsAnswer books (Some (make n)) s o → Contains (statuses (Some (make n))) (number_of s)
+possible_made n books s o (made n) = (0, lit< tt, refl)
+
+possible_tried : (n : ℕ) (books : Books) (s : Status) (o : List ℕ)
+    → IsAnswer books (Some (trial n)) s o → Contains (statuses (Some (trial n))) (number_of s)
+possible_tried n books s o (tried n) = (0, lit< tt, refl)
+
 pub possible : (r : Option Request) (books : Books) (s : Status) (o : List ℕ)
     → IsReply r books s o → Contains (statuses r) (number_of s)
 possible None books s o a = possible_words books s o a
 possible (Some (check file)) books s o a = possible_check file a.0 s o a.1
 possible (Some (run file procedure document fuel arguments)) books s o a =
     possible_run file procedure document fuel arguments (Some a.1.0) a.0 s o a.1.1
+possible (Some (make n)) books s o a = possible_made n books s o a
+possible (Some (trial n)) books s o a = possible_tried n books s o a
 
 -- where the call gives up
 pub no_memory : (r : Option Request) → Contains (statuses r) (number_of status.OutOfMemory)
 no_memory None = (1, lit< tt, refl)
 no_memory (Some (check file)) = (6, lit< tt, refl)
 no_memory (Some (run file procedure document fuel arguments)) = (8, lit< tt, refl)
+no_memory (Some (make n)) = (1, lit< tt, refl)
+no_memory (Some (trial n)) = (1, lit< tt, refl)
 
 pub no_sink : (r : Option Request) → Contains (statuses r) (number_of status.WriteFault)
 no_sink None = (2, lit< tt, refl)
 no_sink (Some (check file)) = (8, lit< tt, refl)
 no_sink (Some (run file procedure document fuel arguments)) = (10, lit< tt, refl)
+no_sink (Some (make n)) = (2, lit< tt, refl)
+no_sink (Some (trial n)) = (2, lit< tt, refl)
 
 pub no_book : (r : Option Request) (books : Books) (rose : List ℕ → Type 0)
     → ReadRose r books rose → Contains (statuses r) (number_of status.ReadFault)
 no_book None books rose h = absurd h
 no_book (Some (check file)) books rose h = (7, lit< tt, refl)
 no_book (Some (run file procedure document fuel arguments)) books rose h = (9, lit< tt, refl)
+no_book (Some (make n)) books rose h = absurd h
+no_book (Some (trial n)) books rose h = absurd h

@@ -1,5 +1,5 @@
 -- The answer to the words: the status and the output, one case for each row.
-use Rattle.std.specs.Prelude.{◌≡◌, ℕ, zero, suc, nat_le, List, Option, Some, None, option_map, slice_get}
+use Rattle.std.specs.Prelude.{◌≡◌, ℕ, zero, suc, ◌*◌, nat_le, List, Option, Some, None, option_map, slice_get}
 use Rattle.model_shapes.specs.Trees.{Trees}
 use Rattle.model_shapes.specs.Values.{Value}
 use Rattle.model_formulas.specs.Formulas.{Named}
@@ -21,10 +21,12 @@ use Rattle.model_text.specs.FaultTokens.{IsFaultToken}
 use Rattle.model_documents.specs.Grammar.{SpellsGrove}
 use Rattle.model_documents.specs.Numbers.{first_out_of_range, first_repeat}
 use Rattle.model_grammar.specs.Theories.{SpellsTheory}
-use Rattle.model_answers.specs.Words.{Request, check, run}
+use Rattle.model_grammar.specs.Writing.{theory_text}
+use Rattle.model_generator.specs.Generated.{generated_theory}
+use Rattle.model_answers.specs.Words.{Request, check, run, make, trial}
 use Rattle.model_answers.specs.Arguments.{called}
 use Rattle.model_answers.specs.Texts.{text_limit, theory_limit, IsFile}
-use Rattle.model_answers.specs.Output.{accepted_line, fail_line, no_proof_line, gap_line, bad_words_line, bad_text_line, bad_document_text_line, file_fault_line, range_line, repeat_line, limit_line, fault_line, spent_line, ended_lines}
+use Rattle.model_answers.specs.Output.{line, accepted_text, accepted_line, fail_line, no_proof_line, gap_line, bad_words_line, bad_text_line, bad_document_text_line, file_fault_line, range_line, repeat_line, limit_line, fault_line, spent_line, ended_lines}
 use Rattle.dom_terms.specs.declared.limits.LimitKind.{LimitKind}
 use Rattle.dom_terms.specs.declared.limits.LimitKind.TheVariants as l
 use Rattle.domcheck_core.specs.declared.status.Status.{Status}
@@ -203,6 +205,9 @@ pub data IsAnswer (books : Books) : Option Request → Status → List ℕ → T
       {s : Status} {output : List ℕ} → books file ≡ Some bytes
       → RunAnswer (books document) bytes procedure fuel arguments s output
       → IsAnswer books (Some (run file procedure document fuel arguments)) s output
+  made : (n : ℕ) → IsAnswer books (Some (make n)) status.Done (theory_text (generated_theory n))
+  tried : (n : ℕ)
+      → IsAnswer books (Some (trial n)) status.Done (line (accepted_text n (8 * n)))
 
 -- the book of this name is told
 abbrev pub IsToldBook : Books → List ℕ → Type 0
@@ -215,3 +220,5 @@ IsTold (Some (check file)) books = IsToldBook books file
 IsTold (Some (run file procedure document fuel arguments)) books =
     (bytes : List ℕ) × (books file ≡ Some bytes)
     × (IsCalled bytes procedure arguments → IsToldBook books document)
+IsTold (Some (make n)) books = Unit
+IsTold (Some (trial n)) books = Unit

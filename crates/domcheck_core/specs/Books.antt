@@ -1,7 +1,7 @@
 -- Needn't be believed: what is read from a book, told or not, and what a reply says of the books.
 use Rattle.std.specs.Prelude.{◌≡◌, ℕ, List, Option, Some, None}
 use Rattle.outside_io.specs.Causes.{Told}
-use Rattle.model_answers.specs.Words.{Request, check, run}
+use Rattle.model_answers.specs.Words.{Request, check, run, make, trial}
 use Rattle.domcheck_core.specs.Answers.{Books, CheckAnswer, RunAnswer, IsAnswer}
 use Rattle.domcheck_core.specs.declared.status.Status.{Status}
 
@@ -17,3 +17,5 @@ IsReply (Some (check file)) books s output =
 IsReply (Some (run file procedure document fuel arguments)) books s output =
     ReadFrom (books file) (λ bytes. ReadFrom (books document)
     (λ read. RunAnswer (Some read) bytes procedure fuel arguments s output))
+IsReply (Some (make n)) books s output = IsAnswer books (Some (make n)) s output
+IsReply (Some (trial n)) books s output = IsAnswer books (Some (trial n)) s output

@@ -6,7 +6,7 @@ use Rattle.outside_io.specs.Pieces.{Took, TookPrefix}
 use Rattle.model_commands.specs.Theories.{Theory, procedures_of}
 use Rattle.model_machine.specs.LocalTriples.{MeetsItsSpecification}
 use Rattle.rule_table.specs.Accepted.{Each}
-use Rattle.model_answers.specs.Words.{Request, check, run, reading_of}
+use Rattle.model_answers.specs.Words.{Request, check, run, make, trial, reading_of}
 use Rattle.model_answers.specs.Texts.{IsFile}
 use Rattle.domcheck_core.specs.Answers.{Books, IsAnswer, IsTold, IsCalled, NotCalled}
 use Rattle.domcheck_core.specs.declared.status.Status.{Status}
@@ -18,9 +18,8 @@ asked words = reading_of (map string_bytes words)
 
 -- of the bytes of the file that `check` asks for, where the library tells them
 abbrev pub OfFile : Option Request → Books → (List ℕ → Type 0) → Type 0
-OfFile None books P = Unit
 OfFile (Some (check file)) books P = Told (books file) P
-OfFile (Some (run file procedure document fuel arguments)) books P = Unit
+OfFile r books P = Unit
 
 -- The bytes are a file of a theory, and each of its procedures, started in any context round data that
 -- meets its requires, faults in no number of steps and ends with data that meets its ensures.
@@ -56,14 +55,16 @@ statuses None = 2 ∷ 10 ∷ 12 ∷ []
 statuses (Some (check file)) = 0 ∷ 1 ∷ 3 ∷ 4 ∷ 8 ∷ 9 ∷ 10 ∷ 11 ∷ 12 ∷ []
 statuses (Some (run file procedure document fuel arguments)) =
     0 ∷ 2 ∷ 3 ∷ 4 ∷ 5 ∷ 6 ∷ 7 ∷ 8 ∷ 10 ∷ 11 ∷ 12 ∷ []
+statuses (Some (make n)) = 0 ∷ 10 ∷ 12 ∷ []
+statuses (Some (trial n)) = 0 ∷ 10 ∷ 12 ∷ []
 
 -- a name that the request reads, whose count rose: that of the document only where every test
 -- before its reading passes
 abbrev pub ReadRose : Option Request → Books → (List ℕ → Type 0) → Type 0
-ReadRose None books rose = ⊥
 ReadRose (Some (check file)) books rose = rose file
 ReadRose (Some (run file procedure document fuel arguments)) books rose =
     rose file ⊎ (rose document × Told (books file) (λ bytes. IsCalled bytes procedure arguments))
+ReadRose r books rose = ⊥
 
 -- what the sink took: all of the output of the answer; at a fault of the sink a prefix of that of
 -- some answer; at want of memory and a fault of the library nothing

@@ -7,6 +7,7 @@ ghost use Rattle.domcheck_core.specs.Books.{IsReply};
 ghost use Rattle.domcheck_core.specs.Clauses.{asked, ReadRose};
 
 use crate::books::{check_book, open_book, run_book};
+use crate::generated::{print_generated, try_generated};
 use crate::replies::{Refusal, Reply, reported};
 use crate::runs::Opened;
 use crate::status::Status;
@@ -72,6 +73,8 @@ pub fn answer_words<L: Library>(
         ) => run(
             alloc, library, &file, &procedure, &document, fuel, &arguments,
         ),
+        Ok(Request::Make { count }) => Ok(print_generated(alloc, count)?),
+        Ok(Request::Trial { count }) => Ok(try_generated(alloc, count)?),
         Err(WordFault::BadWords) => Ok(reported(alloc, Status::BadWords, Report::BadWords)?),
         Err(WordFault::OutOfMemory) => Err(Refusal::OutOfMemory),
     }

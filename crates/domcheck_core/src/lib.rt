@@ -17,6 +17,7 @@ mod calls;
 mod checks;
 mod document;
 mod file;
+mod generated;
 mod groves;
 mod limits;
 mod replies;
@@ -35,7 +36,8 @@ pub use status::Status;
 use std::alloc::Global;
 
 /// Does what the words after the program's name ask for, and answers how it ended. The forms today
-/// are `check FILE` and `run FILE PROC DOC FUEL ARG*`. The output is built whole and then written.
+/// are `check FILE`, `run FILE PROC DOC FUEL ARG*`, `make N` and `trial N`. The output is built whole
+/// and then written.
 pub fn domcheck<L: Library, S: Sink>(
     alloc: Global,
     words: &[String],

@@ -1,8 +1,9 @@
 -- What the words after the program's name ask for.
 use Rattle.model_limits.specs.Limits.{standard_limits}
-use Rattle.std.specs.Prelude.{ℕ, nat_le, ◌&&◌, List, [], ◌∷◌, Option, Some, None, cond, option_map, bytes_eq, codes}
+use Rattle.std.specs.Prelude.{ℕ, suc, nat_le, ◌&&◌, List, [], ◌∷◌, Option, Some, None, cond, option_map, bytes_eq, codes}
 use Rattle.std.specs.Str.Parse.{digits_value}
 use Rattle.model_text.specs.Tokens.{is_number}
+use Rattle.model_generator.specs.Generated.{most_makers}
 
 -- a request, with the words that it names
 pub data Request : Type 0 where
@@ -10,6 +11,8 @@ pub data Request : Type 0 where
   check : List ℕ → Request
   -- a file, a procedure, a document, the fuel and the arguments
   run : List ℕ → List ℕ → List ℕ → ℕ → List (List ℕ) → Request
+  -- the number of procedures of a generated theory: it is printed, or tried
+  make trial : ℕ → Request
 
 -- a decimal number of at most so much: digits without a sign, with no leading zero but in `0`
 abbrev pub decimal_of : ℕ → List ℕ → Option ℕ
@@ -30,8 +33,20 @@ run_of (file ∷ procedure ∷ document ∷ fuel ∷ arguments) =
     (decimal_of standard_limits.fuel fuel)
 run_of words = None
 
+-- the number, where it isn't 0
+abbrev pub above_zero : Option ℕ → Option ℕ
+above_zero (Some (suc n)) = Some (suc n)
+above_zero number = None
+
+-- the forms `make N` and `trial N`
+abbrev pub count_of : (ℕ → Request) → List (List ℕ) → Option Request
+count_of form (count ∷ []) = option_map form (above_zero (decimal_of most_makers count))
+count_of form words = None
+
 -- THE READING of the words; nothing else has one
 abbrev pub reading_of : List (List ℕ) → Option Request
 reading_of [] = None
 reading_of (command ∷ words) = cond (bytes_eq command (codes "check")) (check_of words)
-    (cond (bytes_eq command (codes "run")) (run_of words) None)
+    (cond (bytes_eq command (codes "run")) (run_of words)
+    (cond (bytes_eq command (codes "make")) (count_of make words)
+    (cond (bytes_eq command (codes "trial")) (count_of trial words) None)))

@@ -1,5 +1,5 @@
 // Decimal numbers.
-ghost use Rattle.std.specs.Prelude.{◌≡◌, ℕ};
+ghost use Rattle.std.specs.Prelude.{◌≡◌, ◌≤◌, ℕ, IfSome};
 ghost use Rattle.std.specs.Option.{option_map};
 ghost use Rattle.model_shapes.specs.Values.{Value, int};
 ghost use Rattle.model_limits.specs.Limits.{standard_limits};
@@ -11,7 +11,8 @@ use text_tokens::number_value;
 
 /// The decimal number of at most so much that the bytes are, or none.
 pub fn decimal(bytes: &[u8], most: u64) -> Option<u64>
-    ensures { result ≡ decimal_of most bytes.now }
+    ensures value { result ≡ decimal_of most bytes.now }
+    ensures most { IfSome result (λ number. number ≤ most) }
 {
     match bytes {
         [] | [b'0', _, ..] => None,

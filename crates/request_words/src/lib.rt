@@ -8,4 +8,4 @@ mod decimals;
 mod requests;
 
 pub use arguments::read_arguments;
-pub use requests::{Request, WordFault, read_words};
+pub use requests::{MOST_PROCEDURES, Request, WordFault, read_words};

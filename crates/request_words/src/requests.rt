@@ -1,13 +1,19 @@
 // Requests.
-ghost use Rattle.std.specs.Prelude.{◌≡◌, IfOk, map, string_bytes};
-ghost use Rattle.model_answers.specs.Words.{check_of, run_of, reading_of};
-ghost use Rattle.request_words.specs.Requests.{Reads};
+ghost use Rattle.std.specs.Prelude.{◌≡◌, ◌≤◌, ℕ, IfOk, IfSome, map, string_bytes};
+ghost use Rattle.std.specs.Option.{option_map};
+ghost use Rattle.model_answers.specs.Words as model;
+ghost use Rattle.model_answers.specs.Words.{check_of, run_of, count_of, reading_of};
+ghost use Rattle.model_generator.specs.Generated.{most_makers};
+ghost use Rattle.request_words.specs.Requests.{Reads, Counts};
 ghost use Rattle.request_words.specs.declared.requests.WordFault.TheVariants.{OutOfMemory};
 
 use crate::decimals::decimal;
 use dom_terms::limits::FUEL;
 use dom_terms::{OutOfMemory, Text, Texts};
 use std::alloc::Global;
+
+/// The most procedures of a generated theory that may be asked for.
+pub const MOST_PROCEDURES: u32 = 200;
 
 /// What the words after the program's name ask for.
 #[derive(Debug, Drop)]
@@ -29,6 +35,16 @@ pub enum Request {
         fuel: u32,
         /// The words of the arguments.
         arguments: Texts,
+    },
+    /// `make N`
+    Make {
+        /// The number of procedures, from 1 to `MOST_PROCEDURES`.
+        count: u32,
+    },
+    /// `trial N`
+    Trial {
+        /// The number of procedures, from 1 to `MOST_PROCEDURES`.
+        count: u32,
     },
 }
 
@@ -62,7 +78,8 @@ fn texts(alloc: Global, words: &[String]) -> Result<Texts, OutOfMemory>
 
 // The words behind `check`.
 fn read_check(alloc: Global, words: &[String]) -> Result<Request, WordFault>
-    ensures { Reads result (check_of (map string_bytes words.now)) }
+    ensures reading { Reads result (check_of (map string_bytes words.now)) }
+    ensures counts { IfOk result Counts }
 {
     let [file] = words else {
         return Err(WordFault::BadWords);
@@ -73,7 +90,8 @@ fn read_check(alloc: Global, words: &[String]) -> Result<Request, WordFault>
 
 // The words behind `run`.
 fn read_run(alloc: Global, words: &[String]) -> Result<Request, WordFault>
-    ensures { Reads result (run_of (map string_bytes words.now)) }
+    ensures reading { Reads result (run_of (map string_bytes words.now)) }
+    ensures counts { IfOk result Counts }
 {
     let [file, procedure, document, fuel, arguments @ ..] = words else {
         return Err(WordFault::BadWords);
@@ -90,10 +108,48 @@ fn read_run(alloc: Global, words: &[String]) -> Result<Request, WordFault>
     })
 }
 
+// The number behind `make` or `trial`, or none.
+fn count(words: &[String]) -> Option<u32>
+    ensures reading { (form : ℕ → model.Request)
+        → option_map form result ≡ count_of form (map string_bytes words.now) }
+    ensures counts { IfSome result (λ n. (1 ≤ n) × (n ≤ most_makers)) }
+{
+    let [count] = words else {
+        return None;
+    };
+    match decimal(count.as_str().as_bytes(), u64::from(MOST_PROCEDURES)) {
+        None | Some(0) => None,
+        Some(number) => Some(number as u32),
+    }
+}
+
+// The words behind `make`.
+fn read_make(words: &[String]) -> Result<Request, WordFault>
+    ensures reading { Reads result (count_of model.make (map string_bytes words.now)) }
+    ensures counts { IfOk result Counts }
+{
+    let Some(count) = count(words) else {
+        return Err(WordFault::BadWords);
+    };
+    Ok(Request::Make { count })
+}
+
+// The words behind `trial`.
+fn read_trial(words: &[String]) -> Result<Request, WordFault>
+    ensures reading { Reads result (count_of model.trial (map string_bytes words.now)) }
+    ensures counts { IfOk result Counts }
+{
+    let Some(count) = count(words) else {
+        return Err(WordFault::BadWords);
+    };
+    Ok(Request::Trial { count })
+}
+
 /// The request that the words after the program's name are. `BadWords` comes exactly where they
 /// have none of the forms.
 pub fn read_words(alloc: Global, words: &[String]) -> Result<Request, WordFault>
-    ensures { Reads result (reading_of (map string_bytes words.now)) }
+    ensures reading { Reads result (reading_of (map string_bytes words.now)) }
+    ensures counts { IfOk result Counts }
 {
     let [command, words @ ..] = words else {
         return Err(WordFault::BadWords);
@@ -101,6 +157,8 @@ pub fn read_words(alloc: Global, words: &[String]) -> Result<Request, WordFault>
     match command.as_str() {
         "check" => read_check(alloc, words),
         "run" => read_run(alloc, words),
+        "make" => read_make(words),
+        "trial" => read_trial(words),
         _ => Err(WordFault::BadWords),
     }
 }
