@@ -18,6 +18,7 @@ ghost use Rattle.dom_terms.specs.Values.{value_seen};
 ghost use Rattle.theory_syntax.specs.Commands.{command_of};
 ghost use Rattle.dom_meaning.specs.Faults.{TellsLimit};
 ghost use Rattle.dom_meaning.specs.OwnTerms.{TermsFit};
+ghost use Rattle.node_heap.specs.Answers.{Did};
 ghost use Rattle.heap_runner.specs.Turns.{Came, TellsOwnLimit, looks, limit_here, creation_limit, moving_to};
 
 use crate::reads::{Read, item_read, node_read};
@@ -119,6 +120,7 @@ fn text(value: Value) -> Text
 
 // Moves the tree of the second node to the end of the children of the first, or from these to the
 // roots.
+#[tactic(auto, using(crate::proofs::Moves::moving_rules))]
 fn moved(
     alloc: Global,
     place: Place,
@@ -139,24 +141,31 @@ fn moved(
 {
     let parent = eval(alloc, parent, store)?;
     let child = eval(alloc, child, store)?;
-    match (parent, child) {
-        (Value::Node(parent), Value::Node(child)) => Ok(moved_to(place, parent, child, heap)),
-        _ => Ok(Turn::Fault(FaultKind::NoNode)),
+    let Value::Node(parent) = parent else {
+        return Ok(Turn::Fault(FaultKind::NoNode));
+    };
+    let Value::Node(child) = child else {
+        return Ok(Turn::Fault(FaultKind::NoNode));
+    };
+    match moved_to(place, parent, child, heap) {
+        Ok(()) => Ok(Turn::Moved),
+        Err(kind) => Ok(Turn::Fault(kind)),
     }
 }
 
 // Moves the tree of the second number.
-fn moved_to(place: Place, parent: u32, child: u32, heap: &mut NodeHeap) -> Turn
-    ensures { (store : stores.Store) → Came true (moving_to place
+fn moved_to(
+    place: Place,
+    parent: u32,
+    child: u32,
+    heap: &mut NodeHeap,
+) -> Result<(), FaultKind>
+    ensures { (store : stores.Store) → Did (moving_to place
         (node_at (node_number parent) heap.old.grove) (node_at (node_number child) heap.old.grove)
-        store heap.old.grove) store heap.old.grove heap.new.grove (Ok result) }
+        store heap.old.grove) result heap.old heap.new }
 {
-    let moved = match place {
+    match place {
         Place::Children => heap.append(parent, child),
         Place::Roots => heap.remove(parent, child),
-    };
-    match moved {
-        Ok(()) => Turn::Moved,
-        Err(kind) => Turn::Fault(kind),
     }
 }
