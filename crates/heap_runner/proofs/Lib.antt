@@ -1,2 +1,4 @@
 pub mod Moves
 pub mod Results
+pub mod FirstTurns
+pub mod FirstPieces
