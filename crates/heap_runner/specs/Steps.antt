@@ -17,6 +17,8 @@ use Rattle.dom_meaning.specs.declared.faults.StepFault.{StepFault}
 use Rattle.dom_meaning.specs.declared.faults.StepFault.TheVariants as f
 use Rattle.dom_meaning.specs.declared.steps.StepOut.{StepOut}
 use Rattle.dom_meaning.specs.declared.steps.StepOut.TheVariants as s
+use Rattle.heap_runner.specs.declared.outcomes.HeapOutcome.{HeapOutcome}
+use Rattle.heap_runner.specs.declared.outcomes.HeapOutcome.TheVariants as o
 use Rattle.dom_meaning.specs.Configs.{pieces_in}
 use Rattle.dom_meaning.specs.Faults.{fault_kind_of}
 
@@ -53,3 +55,8 @@ Stepped limit out before after (Err (f.Limit kind)) =
     (limit ≡ Some (limit_kind_of kind)) × (after.grove ≡ before.grove)
 Stepped limit out before after (Err f.OutOfMemory) =
     (after.grove ≡ before.grove) ⊎ ((limit ≡ None) × LeavesGrove out after.grove)
+
+-- how a run comes out where a step isn't taken
+abbrev pub outcome_of : StepFault → HeapOutcome
+outcome_of (f.Limit kind) = o.Limit kind
+outcome_of f.OutOfMemory = o.OutOfMemory

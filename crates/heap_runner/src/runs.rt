@@ -20,13 +20,13 @@ ghost use Rattle.theory_syntax.specs.Theories.{procedure_of, theory_of};
 ghost use Rattle.dom_meaning.specs.Configs.{config_of};
 ghost use Rattle.dom_meaning.specs.Faults.{fault_kind_of};
 ghost use Rattle.heap_runner.specs.Answers.{Answers, Leaves};
-ghost use Rattle.heap_runner.specs.Steps.{on_heap};
+ghost use Rattle.heap_runner.specs.Steps.{on_heap, outcome_of};
 ghost use Rattle.heap_runner.specs.Reached.{Reached};
 
 use crate::outcomes::HeapOutcome;
 use crate::steps::step_on;
 use dom_meaning::{Config, FaultKind, Pending, StepFault, StepOut, start};
-use dom_terms::{List, OutOfMemory, ProgVar, Store, Values, value_or_default};
+use dom_terms::{List, OutOfMemory, Store, Values, Vars, value_or_default};
 use node_heap::NodeHeap;
 use std::alloc::Global;
 use theory_syntax::{Procedure, Theory};
@@ -119,8 +119,17 @@ fn turned(
         Ok(StepOut::Done) => Err(ended(alloc, &config, steps)),
         Ok(StepOut::Fault(kind)) => Err(faulted(config, kind, steps)),
         Ok(StepOut::BadPick) => unreachable!(),
-        Err(StepFault::Limit(kind)) => Err(HeapOutcome::Limit(kind)),
-        Err(StepFault::OutOfMemory) => Err(HeapOutcome::OutOfMemory),
+        Err(fault) => Err(refused(fault)),
+    }
+}
+
+// How a run comes out where a step isn't taken.
+fn refused(fault: StepFault) -> HeapOutcome
+    ensures { result ≡ outcome_of fault }
+{
+    match fault {
+        StepFault::Limit(kind) => HeapOutcome::Limit(kind),
+        StepFault::OutOfMemory => HeapOutcome::OutOfMemory,
     }
 }
 
@@ -132,19 +141,19 @@ fn ended(alloc: Global, config: &Config, steps: u32) -> HeapOutcome
         → Leaves (run steps) trees → SameAt sorts.grove trees left.grove
         → Answers run fuel result trees }
 {
-    match values_of(alloc, config.results.as_slice(), &config.store) {
+    match values_of(alloc, &config.results, &config.store) {
         Ok(values) => HeapOutcome::Ended { steps, values },
         Err(_) => HeapOutcome::OutOfMemory,
     }
 }
 
 // The values of the variables, in order.
-fn values_of(alloc: Global, variables: &[ProgVar], store: &Store) -> Result<Values, OutOfMemory>
+fn values_of(alloc: Global, variables: &Vars, store: &Store) -> Result<Values, OutOfMemory>
     ensures { IfOk result (λ values. map value_seen values
         ≡ outcomes.values_in (map prog_var_of variables.now) (store_of store.now)) }
 {
     let mut values = List::new(alloc);
-    for variable in variables {
+    for variable in variables.as_slice() {
         values.push(value_or_default(alloc, variable, store)?)?;
     }
     Ok(values)
