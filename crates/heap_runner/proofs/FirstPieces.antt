@@ -1,5 +1,5 @@
 -- What the machine does with the piece that is kept last, on the heap's grove.
-use Rattle.std.proofs.Common.{◌≡◌, ◌⊎◌, inl, inr, false, List, [], ◌∷◌, ◌++◌, Some, None, Result, Ok, Err, refl, sym, ap, ◌∙◌, subst}
+use Rattle.std.proofs.Common.{◌≡◌, inl, inr, false, List, [], ◌∷◌, ◌++◌, None, Result, Ok, Err, refl, sym, ap, ◌∙◌, subst}
 use Rattle.std.specs.Prelude.{IfOk, IsErrAnd, ◌≢◌}
 use Rattle.model_shapes.specs.Sorts.{shape, grove}
 use Rattle.model_shapes.specs.Trees.{Trees, root_uses}
@@ -85,9 +85,12 @@ module _ (ps : Procedures) (config : Config) (piece : Pending) (others : List Pe
         → Stepped (limit_here (on_heap config g)) its_step (on_heap config g) left
         (Err f.OutOfMemory)
     went_on left same_grove limit =
-        inr (limit_is ∙ limit, subst (LeavesGrove its_step) (sym same_grove)
-        (subst (λ z. LeavesGrove z new) (sym step_is)
-        (leaves (pieces_in others) after new its_move same)))
+        inr (
+          limit_is ∙ limit,
+          subst (LeavesGrove its_step) (sym same_grove)
+              (subst (λ z. LeavesGrove z new) (sym step_is)
+              (leaves (pieces_in others) after new its_move same)),
+        )
 
     module _ (bodies : BodiesSorted ps) (fits : FitsConfig ps (config_of config))
         (shaped : Shaped (shape grove) g) where

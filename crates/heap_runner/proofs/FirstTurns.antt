@@ -1,26 +1,22 @@
 -- What comes of the first piece, as a step of the machine.
-use Rattle.std.proofs.Common.{◌≡◌, ◌⊎◌, inl, inr, Bool, true, false, List, [], ◌∷◌, ◌++◌, Option, Some, None, Result, Ok, Err, refl, sym, ap, ◌∙◌, subst}
-use Rattle.model_shapes.specs.Sorts.{grove}
+use Rattle.std.proofs.Common.{◌≡◌, false, List, [], ◌∷◌, ◌++◌, Option, Some, None, refl, ap, ◌∙◌, subst}
 use Rattle.model_shapes.specs.Trees.{Trees}
 use Rattle.model_shapes.specs.Values.{Value, FitsValue}
-use Rattle.model_shapes.specs.Shapes.{SameAt}
 use Rattle.model_terms.specs.Terms.{Term}
 use Rattle.model_terms.specs.TermLimits.{or_else}
 use Rattle.model_terms.specs.Stores.{ProgVar, Store, set, sort_of, ProperStore}
 use Rattle.model_terms.proofs.StoreLaws.{set-same}
 use Rattle.model_commands.specs.Commands.{skip, block, assign, create_node, node_name, child_nodes, parent_node, list_item, append_child, remove_child, if_else, while_do, local, call}
 use Rattle.model_commands.specs.Theories.{Procedure, Procedures, procedure_named}
-use Rattle.model_groves.specs.Picks.{Pick, next_pick}
-use Rattle.model_limits.specs.Limits.{LimitKind, standard_limits}
+use Rattle.model_groves.specs.Picks.{Pick}
+use Rattle.model_limits.specs.Limits.{standard_limits}
 use Rattle.model_machine.specs.Machine as model
 use Rattle.model_machine.specs.Machine.{Piece, run, restore, return, Move, becomes, faults, bad_pick, calling, move, configuration, next, done, at_fault, at_bad_pick, stepped, step}
-use Rattle.model_machine.specs.Outcomes.{limit_ahead, pick_limit}
+use Rattle.model_machine.specs.Outcomes.{limit_ahead}
 use Rattle.model_machine.specs.SameMoves.{SameMove}
-use Rattle.model_machine.specs.Fitting.{Fine}
 use Rattle.model_machine.proofs.Fine.{FineMove}
-use Rattle.model_machine.proofs.NextMoves.{next-steps}
-use Rattle.heap_runner.specs.Turns.{looks, piece_looks, limit_here}
-use Rattle.heap_runner.specs.Steps.{SameConfig, Leads, LeavesGrove}
+use Rattle.heap_runner.specs.Turns.{piece_looks, limit_here}
+use Rattle.heap_runner.specs.Steps.{Leads, LeavesGrove}
 
 -- a move that is known up to the order of roots
 module _ (rest : List Piece) (after : Store) (new : Trees) where

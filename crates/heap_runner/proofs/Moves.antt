@@ -1,5 +1,5 @@
 -- What comes of a tree that is moved, and of a new node.
-use Rattle.std.proofs.Common.{◌≡◌, Bool, true, false, cond, List, [], Result, Ok, Err, refl, sym, ap, ◌∙◌, subst, ℕ}
+use Rattle.std.proofs.Common.{◌≡◌, Bool, true, false, cond, [], Ok, Err, refl, sym, ap, ◌∙◌, subst, ℕ}
 use Rattle.model_shapes.specs.Sorts.{grove}
 use Rattle.model_shapes.specs.Trees.{Trees, none, node, hole, beside}
 use Rattle.model_shapes.specs.Values.{Name, Value, node_number, str}

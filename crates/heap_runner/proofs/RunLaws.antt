@@ -1,7 +1,7 @@
 -- Runs, step by step, on groves that are the same up to the order of roots.
 use Rattle.std.proofs.Common.{◌≡◌, ◌⊎◌, inl, inr, ℕ, zero, suc, ◌+◌, ◌-◌, ◌<◌, ◌≤◌, Bool, true, false, cond, List, [], ◌∷◌, ◌++◌, Option, Some, None, refl, sym, ap, ◌∙◌, subst, arith, zero-add, Err, length, length-append}
 use Rattle.model_shapes.specs.Sorts.{shape, grove}
-use Rattle.model_shapes.specs.Trees.{Trees, WellFormed}
+use Rattle.model_shapes.specs.Trees.{Trees}
 use Rattle.model_shapes.specs.Shapes.{SameAt, Shaped}
 use Rattle.model_shapes.proofs.Shapes.{SameAt-sym, SameAt-trans, same-Shaped}
 use Rattle.model_terms.specs.Stores.{ProgVar, Store}
@@ -10,7 +10,7 @@ use Rattle.model_commands.specs.SortTests.{BodiesSorted}
 use Rattle.model_groves.specs.Picks.{Pick, next_pick}
 use Rattle.model_limits.specs.Limits.{LimitKind, standard_limits}
 use Rattle.model_machine.specs.Machine.{FaultKind, Piece, Move, becomes, faults, bad_pick, move, Config, configuration, is_done, StepOut, next, done, at_fault, at_bad_pick, stepped, step}
-use Rattle.model_machine.specs.Outcomes.{Outcome, ends, spends, passes_limit, has_fault, ends_at, first_command, within, on_step, outcome}
+use Rattle.model_machine.specs.Outcomes.{Outcome, spends, passes_limit, has_fault, ends_at, first_command, within, on_step, outcome}
 use Rattle.model_machine.specs.SameMoves.{SameMove}
 use Rattle.model_machine.specs.Fitting.{FitsConfig}
 use Rattle.model_machine.proofs.Fine.{step-fits}
@@ -47,9 +47,15 @@ same-stepped rest m m' same = absurd same
 -- where a step leads that is the same as one that leads there
 leads_from : (out other : StepOut) (after : Config) → SameOut out other → Leads other after
     → (config : Config) × (out ≡ next config) × SameConfig config after
-leads_from (next config) (next other) after same leads =
-    (config, refl, (same.0 ∙ leads.0, same.1 ∙ leads.1,
-    SameAt-trans grove config.grove other.grove after.grove same.2 leads.2))
+leads_from (next config) (next other) after same leads = (
+  config,
+  refl,
+  (
+    same.0 ∙ leads.0,
+    same.1 ∙ leads.1,
+    SameAt-trans grove config.grove other.grove after.grove same.2 leads.2,
+  ),
+)
 leads_from out done after same leads = absurd leads
 leads_from out (at_fault kind) after same leads = absurd leads
 leads_from out at_bad_pick after same leads = absurd leads

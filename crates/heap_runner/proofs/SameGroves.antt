@@ -37,11 +37,23 @@ module _ (f : Trees → ℕ) (joins : (a b : Trees) → f (beside a b) ≡ max (
   reordered-max : {a b : Trees} → Reordered a b → f a ≡ f b
   reordered-max nothing = refl
   reordered-max (moved_node s i k l a p q r) =
-      omega (arith, reordered-max r, joins p q, joins p (node s i k l q),
-      joins (node s i k l none) q, joins (node s i k l none) a)
+      omega (
+        arith,
+        reordered-max r,
+        joins p q,
+        joins p (node s i k l q),
+        joins (node s i k l none) q,
+        joins (node s i k l none) a,
+      )
   reordered-max (moved_hole a p q r) =
-      omega (arith, reordered-max r, joins p q, joins p (hole q), joins (hole none) q,
-      joins (hole none) a)
+      omega (
+        arith,
+        reordered-max r,
+        joins p q,
+        joins p (hole q),
+        joins (hole none) q,
+        joins (hole none) a,
+      )
 
 module _ (a b : Trees) (same : SameAt grove a b) where
   same-size : size a ≡ size b

@@ -1,15 +1,11 @@
 -- Needn't be believed: the contracts of private functions alone speak of it. Configurations whose
 -- grove is that of a heap, and what one step does to them.
-use Rattle.std.specs.Prelude.{◌≡◌, ◌⊎◌, ℕ, suc, ◌+◌, List, Result, Ok, Err, Option, Some, None}
+use Rattle.std.specs.Prelude.{◌≡◌, ◌⊎◌, Result, Ok, Err, Option, Some, None}
 use Rattle.model_shapes.specs.Sorts.{grove}
 use Rattle.model_shapes.specs.Trees.{Trees}
 use Rattle.model_shapes.specs.Shapes.{SameAt}
-use Rattle.model_terms.specs.Stores.{ProgVar}
-use Rattle.model_commands.specs.Theories.{Procedures}
 use Rattle.model_limits.specs.Limits as limits
 use Rattle.model_machine.specs.Machine as model
-use Rattle.model_machine.specs.Fitting.{FitsConfig}
-use Rattle.model_machine.specs.Outcomes.{Outcome, outcome}
 use Rattle.dom_terms.specs.Stores.{store_of}
 use Rattle.dom_terms.specs.Limits.{limit_kind_of}
 use Rattle.dom_meaning.specs.declared.configurations.Config.{Config}

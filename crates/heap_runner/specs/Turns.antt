@@ -1,12 +1,12 @@
 -- Needn't be believed: the contracts of private functions alone speak of it. What comes of a command
 -- on the heap, as a move of the machine of the definitions.
-use Rattle.std.specs.Prelude.{◌≡◌, ℕ, ◌+◌, nat_le, ◌&&◌, Bool, true, false, List, [], ◌∷◌, Result, Ok, Err, Option, None}
+use Rattle.std.specs.Prelude.{◌≡◌, ℕ, ◌+◌, nat_le, ◌&&◌, Bool, true, false, [], Result, Ok, Err, Option, None}
 use Rattle.model_shapes.specs.Trees.{Trees}
 use Rattle.model_shapes.specs.Values.{Name, Value, str, list_number}
 use Rattle.model_terms.specs.Terms.{Term}
 use Rattle.model_terms.specs.Stores.{Store, set}
 use Rattle.model_terms.specs.TermLimits.{or_else, unless, term_limit}
-use Rattle.model_commands.specs.Commands.{Command, skip, block, assign, create_node, node_name, child_nodes, parent_node, list_item, append_child, remove_child, if_else, while_do, local, call}
+use Rattle.model_commands.specs.Commands.{Command, create_node, node_name, child_nodes, parent_node, list_item, append_child, remove_child}
 use Rattle.model_groves.specs.Groves.{nodes_where, parental, first_number}
 use Rattle.model_groves.specs.Sizes.{size, greatest_node, greatest_list}
 use Rattle.model_limits.specs.Limits.{LimitKind, nodes_limit, identifier_limit, standard_limits}

@@ -154,12 +154,7 @@ fn moved(
 }
 
 // Moves the tree of the second number.
-fn moved_to(
-    place: Place,
-    parent: u32,
-    child: u32,
-    heap: &mut NodeHeap,
-) -> Result<(), FaultKind>
+fn moved_to(place: Place, parent: u32, child: u32, heap: &mut NodeHeap) -> Result<(), FaultKind>
     ensures { (store : stores.Store) → Did (moving_to place
         (node_at (node_number parent) heap.old.grove) (node_at (node_number child) heap.old.grove)
         store heap.old.grove) result heap.old heap.new }

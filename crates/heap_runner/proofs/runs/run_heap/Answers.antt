@@ -4,7 +4,6 @@ use Rattle.model_limits.specs.Limits.{standard_limits}
 use Rattle.model_machine.specs.Machine.{Config, configuration, start}
 use Rattle.model_machine.specs.Outcomes.{outcome}
 use Rattle.model_terms.specs.Stores.{ProgVar}
-use Rattle.dom_terms.specs.Terms.{prog_var_of}
 use Rattle.dom_terms.specs.Values.{value_seen}
 use Rattle.theory_syntax.specs.Theories.{procedure_of, theory_of}
 use Rattle.heap_runner.specs.Answers.{Answers}

@@ -8,7 +8,7 @@ use Rattle.dom_terms.specs.Stores.{store_of}
 use Rattle.dom_terms.specs.Terms.{prog_var_of}
 use Rattle.dom_terms.specs.Values.{value_seen}
 use Rattle.theory_syntax.specs.Theories.{theory_of}
-use Rattle.dom_meaning.specs.Configs.{config_of, pick_of, pieces_in}
+use Rattle.dom_meaning.specs.Configs.{pick_of, pieces_in}
 use Rattle.dom_meaning.specs.declared.faults.StepFault.TheVariants.{OutOfMemory}
 use Rattle.heap_runner.specs.Turns.{limit_here}
 use Rattle.heap_runner.specs.Steps.{on_heap, Stepped}
@@ -19,9 +19,11 @@ pub turn_of-requires : goal.turn_of-requires
 turn_of-requires c =
     let last : c.args.config.now.pending ≡ c.in-Some._others.now ++ c.in-Some.piece.now ∷ [] =
     search rules in
-    let ps = procedures_of (theory_of c.args.theory.now) in
-    (ps, piece_fits ps c.args.config.now c.in-Some.piece.now c.in-Some._others.now last
-    c.args.heap.now.grove c.requires.fits)
+    let ps = procedures_of (theory_of c.args.theory.now) in (
+      ps,
+      piece_fits ps c.args.config.now c.in-Some.piece.now c.in-Some._others.now last
+          c.args.heap.now.grove c.requires.fits,
+    )
 
 pub set-requires : goal.set-requires
 set-requires c =
@@ -44,8 +46,12 @@ returns-in_ok-set-in-Set-clause-step c =
     (set (prog_var_of c.in-Set.variable) (value_seen c.in-Set.value)
     (store_of c.args.config.now.store)) c.turn_of.new.heap.grove
     (rw c.in-Set.is at c.in_ok-variable.ensures.came ps)
-    (record { pending = c.drop_first.new.pending; store = c.set.new.self;
-    grove = c.args.config.now.grove; results = c.args.config.now.results })
+    (record {
+      pending = c.drop_first.new.pending;
+      store = c.set.new.self;
+      grove = c.args.config.now.grove;
+      results = c.args.config.now.results;
+    })
     (c.drop_first.ensures c.in-Some.piece.now c.in-Some._others.now last)
     c.in_ok-set-in-Set.ensures.ok
     (rw c.in-Set.is at c.in_ok-variable.ensures.limit (pieces_in c.in-Some._others.now))
@@ -62,8 +68,12 @@ returns-in_ok-set-in-Set-clause-fits c =
     (rw c.in-Set.is at c.in_ok-variable.ensures.came ps)
     (well-formed-bodies (theory_of c.args.theory.now) c.requires.well_formed) c.requires.fits
     c.requires.shaped
-    (record { pending = c.drop_first.new.pending; store = c.set.new.self;
-    grove = c.args.config.now.grove; results = c.args.config.now.results })
+    (record {
+      pending = c.drop_first.new.pending;
+      store = c.set.new.self;
+      grove = c.args.config.now.grove;
+      results = c.args.config.now.results;
+    })
     (c.drop_first.ensures c.in-Some.piece.now c.in-Some._others.now last)
     c.in_ok-set-in-Set.ensures.ok refl
 
@@ -75,8 +85,12 @@ returns-in-Moved-clause-step c =
     advances ps c.args.config.now c.in-Some.piece.now c.in-Some._others.now last
     c.args.heap.now.grove (store_of c.args.config.now.store) c.turn_of.new.heap.grove
     (rw c.in-Moved.is at c.in_ok-variable.ensures.came ps)
-    (record { pending = c.drop_first-in-Moved.new.pending; store = c.args.config.now.store;
-    grove = c.args.config.now.grove; results = c.args.config.now.results })
+    (record {
+      pending = c.drop_first-in-Moved.new.pending;
+      store = c.args.config.now.store;
+      grove = c.args.config.now.grove;
+      results = c.args.config.now.results;
+    })
     (c.drop_first-in-Moved.ensures c.in-Some.piece.now c.in-Some._others.now last) refl
     (rw c.in-Moved.is at c.in_ok-variable.ensures.limit (pieces_in c.in-Some._others.now))
 
@@ -90,8 +104,12 @@ returns-in-Moved-clause-fits c =
     (rw c.in-Moved.is at c.in_ok-variable.ensures.came ps)
     (well-formed-bodies (theory_of c.args.theory.now) c.requires.well_formed) c.requires.fits
     c.requires.shaped
-    (record { pending = c.drop_first-in-Moved.new.pending; store = c.args.config.now.store;
-    grove = c.args.config.now.grove; results = c.args.config.now.results })
+    (record {
+      pending = c.drop_first-in-Moved.new.pending;
+      store = c.args.config.now.store;
+      grove = c.args.config.now.grove;
+      results = c.args.config.now.results;
+    })
     (c.drop_first-in-Moved.ensures c.in-Some.piece.now c.in-Some._others.now last) refl refl
 
 pub returns-in-Fault-clause-step : goal.returns-in-Fault-clause-step
@@ -135,8 +153,12 @@ returns-in_err-set-in-Set-clause-step c =
     search rules in
     let ps = procedures_of (theory_of c.args.theory.now) in
     let before = on_heap c.args.config.now c.args.heap.now.grove in
-    let after = on_heap (record { pending = c.args.config.now.pending; store = c.set.new.self;
-    grove = c.args.config.now.grove; results = c.args.config.now.results })
+    let after = on_heap (record {
+      pending = c.args.config.now.pending;
+      store = c.set.new.self;
+      grove = c.args.config.now.grove;
+      results = c.args.config.now.results;
+    })
     c.turn_of.new.heap.grove in
     subst (Stepped (limit_here before) (step ps before (next_pick c.args.heap.now.grove)) before
     after) (is_refusal OutOfMemory c.from_residual-in_err-set-in-Set.result

@@ -1,5 +1,4 @@
-use Rattle.std.proofs.Common.{◌≡◌, true, sym, subst, ap}
-use Rattle.model_commands.specs.SortTests.{is_sorted}
+use Rattle.std.proofs.Common.{sym, subst}
 use Rattle.model_groves.specs.Picks.{next_pick}
 use Rattle.model_machine.specs.Machine as model
 use Rattle.model_machine.specs.Fitting.{FitsPiece}
