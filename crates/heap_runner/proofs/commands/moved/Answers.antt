@@ -1,0 +1,25 @@
+use Rattle.std.proofs.Common.{◌≡◌, ◌∙◌, sym, ap}
+use Rattle.model_shapes.specs.Values.{node_number}
+use Rattle.model_terms.specs.Stores.{value_of}
+use Rattle.model_groves.specs.Groves.{node_at}
+use Rattle.dom_terms.specs.Stores.{store_of}
+use Rattle.dom_terms.specs.Terms.{term_of}
+use Rattle.dom_terms.specs.Values.{value_seen}
+use Rattle.heap_runner.specs.Turns.{moving_to}
+use Rattle.heap_runner.proofs.Moves.{was_fault}
+use Rattle.heap_runner.proofs.commands.moved.Goals as goal
+
+pub returns-in-Err-clause-came : goal.returns-in-Err-clause-came
+returns-in-Err-clause-came c =
+    let g = c.args.heap.now.grove in
+    let store = store_of c.args.store.now in
+    let parent : value_of store (term_of c.args.parent.now) ≡ node_number c.in-Node.parent =
+    sym c.in_ok-parent.ensures.value ∙ ap value_seen c.in-Node.is in
+    let child : value_of store (term_of c.args.child.now) ≡ node_number c.in-Node-child.child =
+    sym c.in_ok-child.ensures.value ∙ ap value_seen c.in-Node-child.is in
+    let told = was_fault _ (moving_to c.args.place (node_at (node_number c.in-Node.parent) g)
+    (node_at (node_number c.in-Node-child.child) g) store g) c.in-Err.kind c.args.heap.now
+    c.moved_to.new.heap (c.in-Err.ensures store) in (
+      (λ i. moving_to c.args.place (node_at (parent i) g) (node_at (child i) g) store g) ∙ told.0,
+      told.1,
+    )

@@ -1,0 +1,4 @@
+pub mod Answers
+pub mod Turns
+pub mod Steps
+pub mod Reached
