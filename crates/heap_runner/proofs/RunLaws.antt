@@ -4,7 +4,7 @@ use Rattle.model_shapes.specs.Sorts.{shape, grove}
 use Rattle.model_shapes.specs.Trees.{Trees}
 use Rattle.model_shapes.specs.Shapes.{SameAt, Shaped}
 use Rattle.model_shapes.proofs.Shapes.{SameAt-sym, SameAt-trans, same-Shaped}
-use Rattle.model_terms.specs.Stores.{ProgVar, Store}
+use Rattle.model_terms.specs.Stores.{ProgVar, Store, ProperStore}
 use Rattle.model_commands.specs.Theories.{Procedures}
 use Rattle.model_commands.specs.SortTests.{BodiesSorted}
 use Rattle.model_groves.specs.Picks.{Pick, next_pick}
@@ -12,7 +12,7 @@ use Rattle.model_limits.specs.Limits.{LimitKind, standard_limits}
 use Rattle.model_machine.specs.Machine.{FaultKind, Piece, Move, becomes, faults, bad_pick, move, Config, configuration, is_done, StepOut, next, done, at_fault, at_bad_pick, stepped, step}
 use Rattle.model_machine.specs.Outcomes.{Outcome, spends, passes_limit, has_fault, ends_at, first_command, within, on_step, outcome}
 use Rattle.model_machine.specs.SameMoves.{SameMove}
-use Rattle.model_machine.specs.Fitting.{FitsConfig}
+use Rattle.model_machine.specs.Fitting.{FitPieces, FitsConfig}
 use Rattle.model_machine.proofs.Fine.{step-fits}
 use Rattle.model_machine.proofs.SameRuns.{same-move}
 use Rattle.std.proofs.Common as plain
@@ -277,14 +277,26 @@ module _ (run : ℕ → Outcome) (ps : Procedures) (rs : List ProgVar) (steps : 
       reached_end fuel le (ap (λ z. step ps (configuration z here.store here.grove)
       (next_pick here.grove)) empty)
 
--- where a run begins
-pub reached_start : (ps : Procedures) (rs : List ProgVar) (here : Config) → FitsConfig ps here
-    → Reached (λ within. outcome standard_limits ps rs within 0 here) ps rs 0 here
-reached_start ps rs here fits = record {
-  roots = here.grove;
-  same = λ t. refl;
-  fits = fits;
-  more = λ fuel. ap (λ n. outcome standard_limits ps rs n 0 here) (zero-add fuel);
+-- where a run begins, in any order of the roots
+pub reached_start : (ps : Procedures) (rs : List ProgVar) (here : Config) (roots : Trees)
+    → SameAt grove roots here.grove → FitPieces ps here.pending → ProperStore here.store
+    → Shaped (shape grove) here.grove
+    → Reached (λ within. outcome standard_limits ps rs within 0
+    (configuration here.pending here.store roots)) ps rs 0 here
+reached_start ps rs here roots same pieces proper whole = record {
+  roots = roots;
+  same = same;
+  fits = record {
+    pieces = pieces;
+    fine = record {
+      proper = proper;
+      whole = same-Shaped (shape grove) here.grove roots (SameAt-sym grove roots here.grove same)
+          whole;
+    };
+  };
+  more = λ fuel.
+      ap (λ n. outcome standard_limits ps rs n 0 (configuration here.pending here.store roots))
+      (zero-add fuel);
 }
 
 -- where pieces are pending, the machine has some

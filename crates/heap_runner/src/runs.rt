@@ -32,7 +32,7 @@ use std::alloc::Global;
 use theory_syntax::{Procedure, Theory};
 
 /// Runs the procedure at a place, counted from 0, with these arguments on the grove that the heap
-/// stands for, for at most `fuel` steps. A new node takes one more than the greatest node number,
+/// stands for, in any order of its roots, for at most `fuel` steps. A new node takes one more than the greatest node number,
 /// and one more than the greatest list number, of the grove. Before each step it is asked, in this
 /// order, whether nothing is pending, whether the fuel is spent, and whether a limit is passed:
 /// Number or Text of the terms of the first piece, then Nodes or Depth, then Identifier. At every
@@ -51,9 +51,10 @@ pub fn run_heap(
         → slice_get theory.now.procedures procedure ≡ Some started
         → ValuesFit (procedure_of started).params (map value_seen arguments) }
     ensures { (started : Procedure) → slice_get theory.now.procedures procedure ≡ Some started
+        → (roots : Trees) → SameAt sorts.grove roots heap.old.grove
         → Answers (λ within. outcome standard_limits (procedures_of (theory_of theory.now))
         (procedure_of started).results within 0
-        (model.start (procedure_of started) (map value_seen arguments) heap.old.grove))
+        (model.start (procedure_of started) (map value_seen arguments) roots))
         fuel result heap.new.grove }
 {
     // a heap stands for a well-formed grove: so says the call for its size
@@ -75,9 +76,10 @@ fn run_from(
     requires well_formed { IsWellFormedTheory (theory_of theory.now) }
     requires fits { FitsConfig (procedures_of (theory_of theory.now)) (config_of config) }
     requires shaped { Shaped (shape sorts.grove) heap.old.grove }
-    ensures { Answers (λ within. outcome standard_limits (procedures_of (theory_of theory.now))
-        (map prog_var_of config.results) within 0 (on_heap config heap.old.grove))
-        fuel result heap.new.grove }
+    ensures { (run : ℕ → outcomes.Outcome)
+        → Reached run (procedures_of (theory_of theory.now)) (map prog_var_of config.results) 0
+        (on_heap config heap.old.grove)
+        → Answers run fuel result heap.new.grove }
 {
     let mut config = config;
     for steps in 0..fuel {

@@ -31,9 +31,11 @@ impl NodeHeap {
         Ok(row)
     }
 
-    /// The text of that grove, as the program prints it.
+    /// The text of that grove, as the program prints it. What a heap stands for is a well-formed
+    /// grove always.
     pub fn write_text(&self, alloc: Global) -> Result<Text, OutOfMemory>
-        ensures { IfOk result (λ text. text ≡ grove_text (sorted_roots self.now.grove)) }
+        ensures text { IfOk result (λ text. text ≡ grove_text (sorted_roots self.now.grove)) }
+        ensures shaped { Shaped (shape grove) self.now.grove }
     {
         let marks = self.walk(alloc)?;
         if marks.is_empty() {

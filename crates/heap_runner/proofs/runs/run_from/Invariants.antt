@@ -1,8 +1,7 @@
-use Rattle.std.proofs.Common.{◌≡◌, map}
+use Rattle.std.proofs.Common.{◌≡◌, ℕ, map}
 use Rattle.model_commands.specs.Theories.{procedures_of}
-use Rattle.model_limits.specs.Limits.{standard_limits}
 use Rattle.model_machine.specs.Fitting.{FitsConfig}
-use Rattle.model_machine.specs.Outcomes.{outcome}
+use Rattle.model_machine.specs.Outcomes.{Outcome}
 use Rattle.dom_terms.specs.Terms.{prog_var_of}
 use Rattle.theory_syntax.specs.Theories.{theory_of}
 use Rattle.dom_meaning.specs.Configs.{config_of}
@@ -14,8 +13,9 @@ abbrev pub invariant-loop-steps : goal.invariant-loop-steps
 invariant-loop-steps l = record {
   fits : FitsConfig (procedures_of (theory_of l.theory)) (config_of l.config);
   results : l.config.results ≡ l.fn.config.results;
-  reached : Reached (λ within. outcome standard_limits (procedures_of (theory_of l.theory))
-      (map prog_var_of l.fn.config.results) within 0 (on_heap l.fn.config l.fn.heap.grove))
-      (procedures_of (theory_of l.theory)) (map prog_var_of l.fn.config.results) l.steps
+  reached : (run : ℕ → Outcome)
+      → Reached run (procedures_of (theory_of l.theory)) (map prog_var_of l.fn.config.results) 0
+      (on_heap l.fn.config l.fn.heap.grove)
+      → Reached run (procedures_of (theory_of l.theory)) (map prog_var_of l.fn.config.results) l.steps
       (on_heap l.config l.heap.grove);
 }

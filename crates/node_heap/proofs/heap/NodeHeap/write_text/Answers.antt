@@ -5,8 +5,8 @@ use Rattle.model_documents.specs.Printed.{grove_text}
 use Rattle.node_heap.proofs.Texts.{written_whole, unwritten_whole, no_more, some_more}
 use Rattle.node_heap.proofs.heap.NodeHeap.write_text.Goals as goal
 
-pub returns-then-is_empty : goal.returns-then-is_empty
-returns-then-is_empty c =
+pub returns-then-is_empty-clause-text : goal.returns-then-is_empty-clause-text
+returns-then-is_empty-clause-text c =
     IfOk-weaker c.from_str.result (λ text. text ≡ codes "0g")
     (λ text. text ≡ grove_text (sorted_roots c.args.self.now.grove))
     (λ text is. is ∙ unwritten_whole c.args.self.now.grove c.in_ok-marks.ensures.shaped
@@ -19,8 +19,8 @@ returns-then-is_empty c =
     )))
     c.from_str.ensures
 
-pub returns : goal.returns
-returns c =
+pub returns-clause-text : goal.returns-clause-text
+returns-clause-text c =
     let some = some_more c.in_ok-marks.marks.len (sym c.if-is_empty.false ∙ c.is_empty.ensures) in
     written_whole c.args.self.now.grove c.in_ok-marks.ensures.shaped c.in_ok-marks.ensures.sorted
     c.in_ok-marks.marks.items c.deref-mark-items.result.now c.in_ok-marks.ensures.marks
