@@ -23,12 +23,13 @@ abbrev pub Present : Option ℕ → Trees → Type 0
 Present None grove = Unit
 Present (Some parent) grove = node_uses parent grove ≡ 1
 
--- how many turns are left
+-- how many turns are left, in some trees
 abbrev pub weight : Trees → ℕ
 weight none = 1
 weight (node name number kids list rest) = 1 + (weight kids + weight rest)
 weight (hole rest) = weight rest
 
+-- in all frames
 abbrev pub weights : List Frame → ℕ
 weights [] = 0
 weights (frame ∷ rest) = weight frame.trees + weights rest

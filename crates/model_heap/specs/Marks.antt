@@ -4,6 +4,7 @@ use Rattle.std.specs.Prelude.{ℕ, ◌==◌, cond, List, [], ◌∷◌, ◌++◌
 use Rattle.model_shapes.specs.Trees.{Trees, none, node, hole}
 use Rattle.model_heap.specs.Entries.{uses}
 
+-- where a node is opened, or closed
 pub data Mark : Type 0 where
   opens closes : ℕ → Mark
 

@@ -1,11 +1,12 @@
--- The roots of a grove in another order.
+-- Needn't be believed: lemmas alone speak of it. The roots of a grove in another order.
 use Rattle.std.specs.Prelude.{ℕ, ◌==◌, cond, List, [], ◌∷◌}
 use Rattle.model_shapes.specs.Trees.{Trees, none, node, hole, beside}
 
 -- the root with this number
 abbrev pub root_at : ℕ → Trees → Trees
 root_at n none = none
-root_at n (node s i kids l rest) = cond (n == i) (node s i kids l none) (root_at n rest)
+root_at n (node name number kids list rest) = cond (n == number) (node name number kids list none)
+    (root_at n rest)
 root_at n (hole rest) = root_at n rest
 
 -- the roots in the order of these numbers

@@ -66,16 +66,15 @@ fn drafted(alloc: Global, grove: &Grove) -> Result<Draft, OutOfMemory>
         let [tree, others @ ..] = siblings.trees else {
             continue;
         };
-        let parent = siblings.parent;
         let name = tree.name.copy(alloc)?;
         let number = tree.id;
         let list = tree.list;
         let key = records.insert(Record::new(name, number, list))?;
         nodes.push(Pair { number, key })?;
         lists.push(Pair { number: list, key })?;
-        attach_under(&mut records, key, parent);
+        attach_under(&mut records, key, siblings.parent);
         rest.push(Siblings {
-            parent,
+            parent: siblings.parent,
             trees: others,
         })?;
         rest.push(Siblings {

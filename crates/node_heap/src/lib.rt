@@ -2,7 +2,8 @@
 //! grove and no memory.
 //! Promises that each call does what the machine's step does with the grove that the heap stands
 //! for, and that the heap stands for a grove always. It stands for one up to the order of roots.
-//! Stands on the texts and groves of the program, its faults, and the machine of the definitions.
+//! Stands on the texts, groves and faults of the program, on its writing of literals, and on the
+//! machine of the definitions.
 #![tactic(auto)]
 
 mod building;
