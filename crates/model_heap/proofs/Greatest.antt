@@ -1,11 +1,11 @@
 -- The greatest numbers of a grove.
-use Rattle.std.proofs.Common.{rules, ◌≡◌, ◌≢◌, ◌⊎◌, ℕ, zero, suc, ◌+◌, ◌<◌, ◌≤◌, max, Bool, true, false, cond, eqb, List, [], ◌∷◌, ◌++◌, Option, Some, None, refl, sym, ap, ◌∙◌, inl, inr, arith, subst}
-use Rattle.std.specs.Option.{option_or, option_map, is_some, IsSome}
+use Rattle.std.proofs.Common.{◌≡◌, ◌≢◌, ◌⊎◌, ℕ, ◌≤◌, max, Option, Some, None, refl, sym, ap, inl, inr, arith, subst}
+use Rattle.std.specs.Option.{option_or}
 use Rattle.std.proofs.lemmas.Bool.{cases_eq, cases_lt}
-use Rattle.model_shapes.specs.Trees.{Trees, none, node, hole, beside}
-use Rattle.model_heap.specs.Entries.{Entry, roots, uses, entry, rows_of, greatest_node, greatest_list}
-use Rattle.model_heap.proofs.Moves.{test_yes, test_no, one_here, none_here, entry_absent, or_none}
-use Rattle.model_heap.proofs.Kinship.{present}
+use Rattle.model_groves.specs.Sizes.{greatest_list, greatest_node}
+use Rattle.model_shapes.specs.Trees.{Trees, none, node, hole}
+use Rattle.model_heap.specs.Entries.{Entry, roots, uses, entry}
+use Rattle.model_heap.proofs.Moves.{test_yes, test_no, one_here, none_here, entry_absent}
 
 pub node_bound : (g : Trees) (n : ℕ) → 1 ≤ uses n g → n ≤ greatest_node g
 node_bound none n h = absurd (omega (arith, h))
@@ -20,30 +20,49 @@ node_bound (hole rest) n h = node_bound rest n h
 
 pub node_there : (g : Trees) → (greatest_node g ≡ 0) ⊎ (1 ≤ uses (greatest_node g) g)
 node_there none = inl refl
-node_there (node s i kids l rest) = elim (cases_lt i (max (greatest_node kids) (greatest_node rest))) [
-  | inr a ↦
-      let e : max i (max (greatest_node kids) (greatest_node rest)) ≡ i = omega (arith, a) in
-      inr (omega (arith, one_here (max i (max (greatest_node kids) (greatest_node rest))) i e))
-  | inl a ↦ elim (cases_lt (greatest_node kids) (greatest_node rest)) [
-    | inl b ↦
-        let e : max i (max (greatest_node kids) (greatest_node rest)) ≡ greatest_node rest = omega (arith, a, b) in
-        elim (node_there rest) [ inl z ↦ absurd (omega (arith, z, b)) | inr z ↦ let w = subst (λ n. 1 ≤ uses n rest) (sym e) z in inr (omega (arith, w)) ]
-    | inr b ↦
-        let e : max i (max (greatest_node kids) (greatest_node rest)) ≡ greatest_node kids = omega (arith, a, b) in
-        elim (node_there kids) [ inl z ↦ absurd (omega (arith, z, a, b)) | inr z ↦ let w = subst (λ n. 1 ≤ uses n kids) (sym e) z in inr (omega (arith, w)) ]
-  ]
-]
+node_there (node s i kids l rest) = elim (cases_lt i
+    (max (greatest_node kids) (greatest_node rest))) [
+      | inr a ↦
+          let e : max i (max (greatest_node kids) (greatest_node rest)) ≡ i = omega (arith, a) in
+          inr (omega (arith, one_here (max i (max (greatest_node kids) (greatest_node rest))) i e))
+      | inl a ↦ elim (cases_lt (greatest_node kids) (greatest_node rest)) [
+        | inl b ↦
+            let e : max i (max (greatest_node kids) (greatest_node rest)) ≡ greatest_node rest =
+            omega (arith, a, b) in
+            elim (node_there rest) [
+              | inl z ↦ absurd (omega (arith, z, b))
+              | inr z ↦ let w =
+                  subst (λ n. 1 ≤ uses n rest) (sym e) z in inr (omega (arith, w))
+            ]
+        | inr b ↦
+            let e : max i (max (greatest_node kids) (greatest_node rest)) ≡ greatest_node kids =
+            omega (arith, a, b) in
+            elim (node_there kids) [
+              | inl z ↦ absurd (omega (arith, z, a, b))
+              | inr z ↦ let w =
+                  subst (λ n. 1 ≤ uses n kids) (sym e) z in inr (omega (arith, w))
+            ]
+      ]
+    ]
 node_there (hole rest) = node_there rest
 
 -- the list number of an entry is one of the grove's
-pub list_bound : (q : Option ℕ) (g : Trees) (n : ℕ) (e : Entry) → entry q g n ≡ Some e → e.list ≤ greatest_list g
+pub list_bound : (q : Option ℕ) (g : Trees) (n : ℕ) (e : Entry) → entry q g n ≡ Some e
+    → e.list ≤ greatest_list g
 list_bound q none n e h = absurd (cc)
 list_bound q (node s i kids l rest) n e h = elim (cases_eq n i) [
   | inl a ↦
-      let w : l ≡ e.list = let z : Some (record { name = s; list = l; parent = q; kids = roots kids }) ≡ Some e = rw (test_yes n i a) at h in ap list_of z in
+      let w : l ≡ e.list = let z : Some (record {
+        name = s;
+        list = l;
+        parent = q;
+        kids =
+            roots kids;
+      }) ≡ Some e = rw (test_yes n i a) at h in ap list_of z in
       omega (arith, w)
   | inr d ↦
-      let w : option_or (entry (Some i) kids n) (entry q rest n) ≡ Some e = rw (test_no n i d) at h in
+      let w : option_or (entry (Some i) kids n) (entry q rest n) ≡ Some e =
+      rw (test_no n i d) at h in
       elim (either (entry (Some i) kids n) (entry q rest n) w) [
         | inl x ↦ omega (arith, list_bound (Some i) kids n e x)
         | inr x ↦ omega (arith, list_bound q rest n e x)
@@ -66,28 +85,61 @@ pub record Attained (q : Option ℕ) (g : Trees) : Type 0 where
   pub list : entry_of.list ≡ greatest_list g
 
 some_use : (q : Option ℕ) (g : Trees) (n : ℕ) (e : Entry) → entry q g n ≡ Some e → 1 ≤ uses n g
-some_use q g n e h = elim (cases_eq (uses n g) 0) [ inl z ↦ absurd (let a = entry_absent q g n z in cc) | inr z ↦ omega (arith, z) ]
+some_use q g n e h = elim (cases_eq (uses n g) 0)
+    [ inl z ↦ absurd (let a = entry_absent q g n z in cc) | inr z ↦ omega (arith, z) ]
 
-pub list_there : (q : Option ℕ) (g : Trees) → ((n : ℕ) → uses n g ≤ 1) → (greatest_list g ≡ 0) ⊎ Attained q g
+pub list_there : (q : Option ℕ) (g : Trees) → ((n : ℕ) → uses n g ≤ 1) → (greatest_list g ≡ 0)
+    ⊎ Attained q g
 list_there q none u = inl refl
-list_there q (node s i kids l rest) u = elim (cases_lt l (max (greatest_list kids) (greatest_list rest))) [
-  | inr a ↦ inr (record { number = i; entry_of = record { name = s; list = l; parent = q; kids = roots kids }; is = rw (test_yes i i refl) refl; list = omega (arith, a) })
-  | inl a ↦ elim (cases_lt (greatest_list kids) (greatest_list rest)) [
-    | inl b ↦ elim (list_there q rest (λ n. omega (arith, u n))) [
-      | inl z ↦ absurd (omega (arith, z, b))
-      | inr z ↦
-          let h = some_use q rest z.number z.entry_of z.is in
-          let d : z.number ≢ i = λ e. absurd (omega (arith, u z.number, h, one_here z.number i e)) in
-          let k : uses z.number kids ≡ 0 = omega (arith, u z.number, h) in
-          inr (record { number = z.number; entry_of = z.entry_of; is = rw (test_no z.number i d, entry_absent (Some i) kids z.number k) z.is; list = omega (arith, z.list, a, b) })
+list_there q (node s i kids l rest) u = elim (cases_lt l
+    (max (greatest_list kids) (greatest_list rest))) [
+      | inr a ↦ inr (record {
+        number = i;
+        entry_of =
+            record { name = s; list = l; parent = q; kids = roots kids };
+        is =
+            rw (test_yes i i refl) refl;
+        list = omega (arith, a);
+      })
+      | inl a ↦ elim (cases_lt (greatest_list kids) (greatest_list rest)) [
+        | inl b ↦ elim (list_there q rest (λ n. omega (arith, u n))) [
+          | inl z ↦ absurd (omega (arith, z, b))
+          | inr z ↦
+              let h = some_use q rest z.number z.entry_of z.is in
+              let d : z.number ≢ i = λ e. absurd (omega
+              (arith, u z.number, h, one_here z.number i e)) in
+              let k : uses z.number kids ≡ 0 = omega (arith, u z.number, h) in
+              inr (record {
+                number = z.number;
+                entry_of = z.entry_of;
+                is =
+                    rw (test_no z.number i d, entry_absent (Some i) kids z.number k) z.is;
+                list =
+                    omega (arith, z.list, a, b);
+              })
+        ]
+        | inr b ↦ elim (list_there (Some i) kids (λ n. omega (arith, u n))) [
+          | inl z ↦ absurd (omega (arith, z, a, b))
+          | inr z ↦
+              let h = some_use (Some i) kids z.number z.entry_of z.is in
+              let d : z.number ≢ i = λ e. absurd (omega
+              (arith, u z.number, h, one_here z.number i e)) in
+              inr (record {
+                number = z.number;
+                entry_of = z.entry_of;
+                is =
+                    rw (test_no z.number i d, z.is) refl;
+                list = omega (arith, z.list, a, b);
+              })
+        ]
+      ]
     ]
-    | inr b ↦ elim (list_there (Some i) kids (λ n. omega (arith, u n))) [
-      | inl z ↦ absurd (omega (arith, z, a, b))
-      | inr z ↦
-          let h = some_use (Some i) kids z.number z.entry_of z.is in
-          let d : z.number ≢ i = λ e. absurd (omega (arith, u z.number, h, one_here z.number i e)) in
-          inr (record { number = z.number; entry_of = z.entry_of; is = rw (test_no z.number i d, z.is) refl; list = omega (arith, z.list, a, b) })
-    ]
-  ]
+list_there q (hole rest) u = elim (list_there q rest u) [
+  | inl z ↦ inl z
+  | inr z ↦ inr (record {
+    number = z.number;
+    entry_of = z.entry_of;
+    is = z.is;
+    list = z.list;
+  })
 ]
-list_there q (hole rest) u = elim (list_there q rest u) [ inl z ↦ inl z | inr z ↦ inr (record { number = z.number; entry_of = z.entry_of; is = z.is; list = z.list }) ]

@@ -1,8 +1,7 @@
 -- A list before and after one number comes in.
-use Rattle.std.proofs.Common.{rules, ◌≡◌, ◌≢◌, ◌⊎◌, ℕ, zero, suc, ◌+◌, ◌<◌, ◌≤◌, Bool, true, false, cond, eqb, List, [], ◌∷◌, ◌++◌, Option, Some, None, refl, sym, ap, ◌∙◌, inl, inr, arith, subst, append_assoc, append-nil}
-use Rattle.std.specs.Option.{option_or, option_map, is_some, IsSome}
+use Rattle.std.proofs.Common.{◌≡◌, ◌≢◌, ℕ, ◌+◌, ◌≤◌, Bool, true, false, cond, List, [], ◌∷◌, ◌++◌, Some, None, refl, sym, ap, inl, inr, arith}
+use Rattle.std.specs.Option.{option_or}
 use Rattle.std.proofs.lemmas.Bool.{cases_eq}
-use Rattle.std.proofs.lemmas.Bool.Decides.{nat_tests}
 use Rattle.model_heap.specs.Lists.{count, holds, head_of, last_of, after, before}
 use Rattle.model_heap.specs.Entries.{drop_from}
 use Rattle.model_heap.proofs.Moves.{test_yes, test_no, one_here, none_here}
@@ -52,61 +51,96 @@ pub split : (c : ℕ) (xs : List ℕ) → 1 ≤ count c xs → Split c xs
 split c [] h = absurd (omega arith)
 split c (x ∷ xs) h =
     elim (cases_eq c x) [
-      | inl e ↦ record { front = []; back = xs; whole = ap (λ z. z ∷ xs) (sym e); rest = rw (test_yes c x e) refl; first = refl }
+      | inl e ↦ record {
+        front = [];
+        back = xs;
+        whole = ap (λ z. z ∷ xs) (sym e);
+        rest =
+            rw (test_yes c x e) refl;
+        first = refl;
+      }
       | inr d ↦ split_past c x xs d (split c xs (omega (arith, h, none_here c x d)))
     ]
 
 holds_absent : (n : ℕ) (xs : List ℕ) → count n xs ≡ 0 → holds (head_of xs) n ≡ false
 holds_absent n [] h = refl
-holds_absent n (x ∷ xs) h = elim (cases_eq x n) [ inl e ↦ absurd (omega (arith, h, one_here n x (sym e))) | inr d ↦ test_no x n d ]
+holds_absent n (x ∷ xs) h = elim (cases_eq x n)
+    [ inl e ↦ absurd (omega (arith, h, one_here n x (sym e))) | inr d ↦ test_no x n d ]
 
 last_absent : (n : ℕ) (xs : List ℕ) → count n xs ≡ 0 → holds (last_of xs) n ≡ false
 last_absent n [] h = refl
-last_absent n (x ∷ []) h = elim (cases_eq x n) [ inl e ↦ absurd (omega (arith, h, one_here n x (sym e))) | inr d ↦ test_no x n d ]
+last_absent n (x ∷ []) h = elim (cases_eq x n)
+    [ inl e ↦ absurd (omega (arith, h, one_here n x (sym e))) | inr d ↦ test_no x n d ]
 last_absent n (x ∷ y ∷ ys) h = last_absent n (y ∷ ys) (omega (arith, h))
 
 pub after_absent : (n : ℕ) (xs : List ℕ) → count n xs ≡ 0 → after n xs ≡ None
 after_absent n [] h = refl
-after_absent n (x ∷ xs) h = elim (cases_eq n x) [ inl e ↦ absurd (omega (arith, h, one_here n x e)) | inr d ↦ rw (test_no n x d) (after_absent n xs (omega (arith, h))) ]
+after_absent n (x ∷ xs) h = elim (cases_eq n x) [
+  | inl e ↦ absurd (omega (arith, h, one_here n x e))
+  | inr d ↦
+      rw (test_no n x d) (after_absent n xs (omega (arith, h)))
+]
 
 pub before_absent : (n : ℕ) (xs : List ℕ) → count n xs ≡ 0 → before n xs ≡ None
 before_absent n [] h = refl
-before_absent n (x ∷ xs) h = rw (holds_absent n xs (omega (arith, h))) (before_absent n xs (omega (arith, h)))
+before_absent n (x ∷ xs) h = rw (holds_absent n xs (omega (arith, h)))
+    (before_absent n xs (omega (arith, h)))
 
 -- the neighbours of the number itself
 pub after-here : (c : ℕ) (a b : List ℕ) → count c a ≡ 0 → after c (a ++ c ∷ b) ≡ head_of b
 after-here c [] b h = rw (test_yes c c refl) refl
-after-here c (x ∷ a) b h = elim (cases_eq c x) [ inl e ↦ absurd (omega (arith, h, one_here c x e)) | inr d ↦ rw (test_no c x d) (after-here c a b (omega (arith, h))) ]
+after-here c (x ∷ a) b h = elim (cases_eq c x) [
+  | inl e ↦ absurd (omega (arith, h, one_here c x e))
+  | inr d ↦
+      rw (test_no c x d) (after-here c a b (omega (arith, h)))
+]
 
-pub before-here : (c : ℕ) (a b : List ℕ) → count c a ≡ 0 → count c b ≡ 0 → before c (a ++ c ∷ b) ≡ last_of a
+pub before-here : (c : ℕ) (a b : List ℕ) → count c a ≡ 0 → count c b ≡ 0 → before c (a ++ c ∷ b)
+    ≡ last_of a
 before-here c [] b h k = rw (holds_absent c b k) (before_absent c b k)
 before-here c (x ∷ []) b h k = rw (test_yes c c refl) refl
-before-here c (x ∷ y ∷ ys) b h k = elim (cases_eq y c) [ inl e ↦ absurd (omega (arith, h, one_here c y (sym e))) | inr d ↦ rw (test_no y c d) (before-here c (y ∷ ys) b (omega (arith, h)) k) ]
+before-here c (x ∷ y ∷ ys) b h k = elim (cases_eq y c) [
+  | inl e ↦ absurd (omega (arith, h, one_here c y (sym e)))
+  | inr d ↦
+      rw (test_no y c d) (before-here c (y ∷ ys) b (omega (arith, h)) k)
+]
 
--- the neighbours of another number, with and without it
-pub after-with : (n c : ℕ) (a b : List ℕ) → n ≢ c → count n a ≤ 1 → after n (a ++ c ∷ b) ≡ cond (holds (last_of a) n) (Some c) (after n (a ++ b))
+-- the neighbours of another number, with and all_but it
+pub after-with : (n c : ℕ) (a b : List ℕ) → n ≢ c → count n a ≤ 1 → after n (a ++ c ∷ b)
+    ≡ cond (holds (last_of a) n) (Some c) (after n (a ++ b))
 after-with n c [] b d h = rw (test_no n c d) refl
-after-with n c (x ∷ []) b d h = elim (cases_eq n x) [ inl e ↦ rw (test_yes n x e, test_yes x n (sym e)) refl | inr f ↦ rw (test_no n x f, test_no x n (λ e. f (sym e)), test_no n c d) refl ]
+after-with n c (x ∷ []) b d h = elim (cases_eq n x) [
+  | inl e ↦ rw (test_yes n x e, test_yes x n (sym e)) refl
+  | inr f ↦
+      rw (test_no n x f, test_no x n (λ e. f (sym e)), test_no n c d) refl
+]
 after-with n c (x ∷ y ∷ ys) b d h =
     elim (cases_eq n x) [
       | inl e ↦ rw (test_yes n x e, last_absent n (y ∷ ys) (omega (arith, h, one_here n x e))) refl
       | inr f ↦ rw (test_no n x f) (after-with n c (y ∷ ys) b d (omega (arith, h)))
     ]
 
-pub after-without : (n c : ℕ) (a b : List ℕ) → n ≢ c → count n a ≤ 1 → after n (a ++ b) ≡ cond (holds (last_of a) n) (head_of b) (after n (a ++ c ∷ b))
-after-without n c [] b d h = rw (test_no n c d) refl
-after-without n c (x ∷ []) b d h = elim (cases_eq n x) [ inl e ↦ rw (test_yes n x e, test_yes x n (sym e)) refl | inr f ↦ rw (test_no n x f, test_no x n (λ e. f (sym e)), test_no n c d) refl ]
-after-without n c (x ∷ y ∷ ys) b d h =
+pub after-all_but : (n c : ℕ) (a b : List ℕ) → n ≢ c → count n a ≤ 1 → after n (a ++ b)
+    ≡ cond (holds (last_of a) n) (head_of b) (after n (a ++ c ∷ b))
+after-all_but n c [] b d h = rw (test_no n c d) refl
+after-all_but n c (x ∷ []) b d h = elim (cases_eq n x) [
+  | inl e ↦ rw (test_yes n x e, test_yes x n (sym e)) refl
+  | inr f ↦
+      rw (test_no n x f, test_no x n (λ e. f (sym e)), test_no n c d) refl
+]
+after-all_but n c (x ∷ y ∷ ys) b d h =
     elim (cases_eq n x) [
       | inl e ↦ rw (test_yes n x e, last_absent n (y ∷ ys) (omega (arith, h, one_here n x e))) refl
-      | inr f ↦ rw (test_no n x f) (after-without n c (y ∷ ys) b d (omega (arith, h)))
+      | inr f ↦ rw (test_no n x f) (after-all_but n c (y ∷ ys) b d (omega (arith, h)))
     ]
 
-pub before-with : (n c : ℕ) (a b : List ℕ) → n ≢ c → count n (a ++ b) ≤ 1 → before n (a ++ c ∷ b) ≡ cond (holds (head_of b) n) (Some c) (before n (a ++ b))
+pub before-with : (n c : ℕ) (a b : List ℕ) → n ≢ c → count n (a ++ b) ≤ 1 → before n (a ++ c ∷ b)
+    ≡ cond (holds (head_of b) n) (Some c) (before n (a ++ b))
 before-with n c [] b d h = refl
 before-with n c (x ∷ []) b d h = rw (test_no c n (λ e. d (sym e))) (once (holds (head_of b) n))
   where
-    once : (t : Bool) → cond t (Some c) (before n b) ≡ cond t (Some c) (cond t (Some x) (before n b))
+    once : (t : Bool) → cond t (Some c) (before n b) ≡ cond t (Some c)
+        (cond t (Some x) (before n b))
     once true = refl
     once false = refl
 before-with n c (x ∷ y ∷ ys) b d h =
@@ -117,9 +151,10 @@ before-with n c (x ∷ y ∷ ys) b d h =
       | inr f ↦ rw (test_no y n f) (before-with n c (y ∷ ys) b d (omega (arith, h)))
     ]
 
-pub before-without : (n c : ℕ) (a b : List ℕ) → n ≢ c → count n (a ++ b) ≤ 1 → before n (a ++ b) ≡ cond (holds (head_of b) n) (last_of a) (before n (a ++ c ∷ b))
-before-without n c [] [] d h = refl
-before-without n c [] (y ∷ ys) d h =
+pub before-all_but : (n c : ℕ) (a b : List ℕ) → n ≢ c → count n (a ++ b) ≤ 1 → before n (a ++ b)
+    ≡ cond (holds (head_of b) n) (last_of a) (before n (a ++ c ∷ b))
+before-all_but n c [] [] d h = refl
+before-all_but n c [] (y ∷ ys) d h =
     elim (cases_eq y n) [
       | inl e ↦ rw (test_yes y n e) (before_head n y ys e (omega (arith, h, one_here n y (sym e))))
       | inr f ↦ rw (test_no y n f) refl
@@ -127,15 +162,16 @@ before-without n c [] (y ∷ ys) d h =
   where
     before_head : (n y : ℕ) (ys : List ℕ) → y ≡ n → count n ys ≡ 0 → before n (y ∷ ys) ≡ None
     before_head n y ys e k = rw (holds_absent n ys k) (before_absent n ys k)
-before-without n c (x ∷ []) b d h = rw (test_no c n (λ e. d (sym e))) (once (holds (head_of b) n))
+before-all_but n c (x ∷ []) b d h = rw (test_no c n (λ e. d (sym e))) (once (holds (head_of b) n))
   where
-    once : (t : Bool) → cond t (Some x) (before n b) ≡ cond t (Some x) (cond t (Some c) (before n b))
+    once : (t : Bool) → cond t (Some x) (before n b) ≡ cond t (Some x)
+        (cond t (Some c) (before n b))
     once true = refl
     once false = refl
-before-without n c (x ∷ y ∷ ys) b d h =
+before-all_but n c (x ∷ y ∷ ys) b d h =
     elim (cases_eq y n) [
       | inl e ↦
           let k : count n b ≡ 0 = omega (arith, h, one_here n y (sym e), count-append n ys b) in
           rw (test_yes y n e, holds_absent n b k) refl
-      | inr f ↦ rw (test_no y n f) (before-without n c (y ∷ ys) b d (omega (arith, h)))
+      | inr f ↦ rw (test_no y n f) (before-all_but n c (y ∷ ys) b d (omega (arith, h)))
     ]

@@ -1,5 +1,5 @@
 -- What stands at each number of a grove, and the moves of trees.
-use Rattle.std.specs.Prelude.{◌≡◌, ℕ, ◌+◌, ◌≤◌, ◌==◌, max, Bool, true, false, cond, List, [], ◌∷◌, ◌++◌, Option, Some, None, option_map}
+use Rattle.std.specs.Prelude.{◌≡◌, ℕ, ◌+◌, ◌≤◌, ◌==◌, Bool, cond, List, [], ◌∷◌, ◌++◌, Option, Some, None, option_map}
 use Rattle.std.specs.Option.{option_or}
 use Rattle.model_heap.specs.Lists.{count}
 use Rattle.model_shapes.specs.Trees.{Trees, none, node, hole, beside}
@@ -34,29 +34,31 @@ entry p (hole rest) n = entry p rest n
 -- the tree of a number, as one root
 abbrev pub tree_at : ℕ → Trees → Trees
 tree_at c none = none
-tree_at c (node s i kids l rest) = cond (c == i) (node s i kids l none) (beside (tree_at c kids) (tree_at c rest))
+tree_at c (node s i kids l rest) = cond (c == i) (node s i kids l none)
+    (beside (tree_at c kids) (tree_at c rest))
 tree_at c (hole rest) = tree_at c rest
 
 -- all but the tree of a number
-abbrev pub without : ℕ → Trees → Trees
-without c none = none
-without c (node s i kids l rest) = cond (c == i) rest (node s i (without c kids) l (without c rest))
-without c (hole rest) = hole (without c rest)
+abbrev pub all_but : ℕ → Trees → Trees
+all_but c none = none
+all_but c (node s i kids l rest) = cond (c == i) rest (node s i (all_but c kids) l (all_but c rest))
+all_but c (hole rest) = hole (all_but c rest)
 
 -- more roots at the end of a node's children
 abbrev pub adopt : ℕ → Trees → Trees → Trees
 adopt p t none = none
-adopt p t (node s i kids l rest) = cond (p == i) (node s i (beside kids t) l rest) (node s i (adopt p t kids) l (adopt p t rest))
+adopt p t (node s i kids l rest) = cond (p == i) (node s i (beside kids t) l rest)
+    (node s i (adopt p t kids) l (adopt p t rest))
 adopt p t (hole rest) = hole (adopt p t rest)
 
 -- the moves
 abbrev pub removed : ℕ → Trees → Trees
-removed c g = beside (without c g) (tree_at c g)
+removed c g = beside (all_but c g) (tree_at c g)
 
 abbrev pub appended : ℕ → ℕ → Trees → Trees
-appended p c g = adopt p (tree_at c g) (without c g)
+appended p c g = adopt p (tree_at c g) (all_but c g)
 
--- a list without the first place of a number
+-- a list all_but the first place of a number
 abbrev pub drop_from : ℕ → List ℕ → List ℕ
 drop_from c [] = []
 drop_from c (x ∷ xs) = cond (c == x) xs (x ∷ drop_from c xs)
@@ -79,10 +81,12 @@ kids_by b f e = record e { kids = cond b (f e.kids) e.kids }
 
 -- a number that is a root comes into the row of `p`, which `f` extends
 abbrev pub attached_by : (List ℕ → List ℕ) → ℕ → ℕ → Rows → Rows
-attached_by f p c rows n = cond (n == c) (option_map (below (Some p)) (rows n)) (option_map (kids_by (n == p) f) (rows n))
+attached_by f p c rows n = cond (n == c) (option_map (below (Some p)) (rows n))
+    (option_map (kids_by (n == p) f) (rows n))
 
 abbrev pub detached : ℕ → Rows → Rows
-detached c rows n = cond (n == c) (option_map (below None) (rows n)) (option_map (less_kid c) (rows n))
+detached c rows n = cond (n == c) (option_map (below None) (rows n))
+    (option_map (less_kid c) (rows n))
 
 abbrev pub attached : ℕ → ℕ → Rows → Rows
 attached p c = attached_by (λ xs. xs ++ c ∷ []) p c
@@ -107,36 +111,10 @@ pub record Kin (rows : Rows) : Type 0 where
 -- how many steps up a number has to a root
 abbrev pub depth : ℕ → Trees → ℕ
 depth n none = 0
-depth n (node s i kids l rest) = cond (n == i) 0 (cond (uses n kids == 0) (depth n rest) (1 + depth n kids))
+depth n (node s i kids l rest) = cond (n == i) 0
+    (cond (uses n kids == 0) (depth n rest) (1 + depth n kids))
 depth n (hole rest) = depth n rest
-
--- the greatest numbers, or 0
-abbrev pub greatest_node : Trees → ℕ
-greatest_node none = 0
-greatest_node (node s i kids l rest) = max i (max (greatest_node kids) (greatest_node rest))
-greatest_node (hole rest) = greatest_node rest
-
-abbrev pub greatest_list : Trees → ℕ
-greatest_list none = 0
-greatest_list (node s i kids l rest) = max l (max (greatest_list kids) (greatest_list rest))
-greatest_list (hole rest) = greatest_list rest
 
 -- one more root
 abbrev pub created : List ℕ → ℕ → ℕ → Trees → Trees
 created s n l g = beside g (node s n none l none)
-
--- more roots just before a number
-abbrev pub insert_at : ℕ → Trees → Trees → Trees
-insert_at w t none = none
-insert_at w t (node s i kids l rest) = cond (w == i) (beside t (node s i kids l rest)) (node s i (insert_at w t kids) l (insert_at w t rest))
-insert_at w t (hole rest) = hole (insert_at w t rest)
-
-abbrev pub inserted : ℕ → ℕ → Trees → Trees
-inserted w c g = insert_at w (tree_at c g) (without c g)
-
-abbrev pub insert_in : ℕ → List ℕ → List ℕ → List ℕ
-insert_in w cs [] = []
-insert_in w cs (x ∷ xs) = cond (w == x) (cs ++ x ∷ xs) (x ∷ insert_in w cs xs)
-
-abbrev pub into : ℕ → List ℕ → Entry → Entry
-into w cs e = record e { kids = insert_in w cs e.kids }

@@ -1,5 +1,5 @@
 -- The roots of a grove in another order.
-use Rattle.std.specs.Prelude.{◌≡◌, ℕ, ◌+◌, ◌==◌, Bool, true, false, cond, List, [], ◌∷◌}
+use Rattle.std.specs.Prelude.{ℕ, ◌==◌, cond, List, [], ◌∷◌}
 use Rattle.model_shapes.specs.Trees.{Trees, none, node, hole, beside}
 
 -- the root with this number
@@ -12,8 +12,3 @@ root_at n (hole rest) = root_at n rest
 abbrev pub arranged : Trees → List ℕ → Trees
 arranged g [] = none
 arranged g (n ∷ ns) = beside (root_at n g) (arranged g ns)
-
-abbrev pub size : Trees → ℕ
-size none = 0
-size (node s i kids l rest) = 1 + (size kids + size rest)
-size (hole rest) = size rest

@@ -3,7 +3,7 @@
 use Rattle.std.specs.Prelude.{◌≡◌, ℕ, Result, Ok, Err}
 use Rattle.model_shapes.specs.Sorts.{grove}
 use Rattle.model_shapes.specs.Values.{Name, Value}
-use Rattle.model_shapes.specs.Trees.{Trees, none, node, hole}
+use Rattle.model_shapes.specs.Trees.{Trees, node}
 use Rattle.model_shapes.specs.Shapes.{SameAt}
 use Rattle.model_machine.specs.Machine as machine
 use Rattle.model_machine.specs.Machine.{Move, becomes, faults, bad_pick}

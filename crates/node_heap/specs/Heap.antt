@@ -3,7 +3,7 @@
 use Rattle.std.specs.Prelude.{◌≡◌, ◌≤◌, ℕ, zero, suc, List, [], ◌∷◌, Option, Some, None, is_some, length}
 use Rattle.model_shapes.specs.Trees.{Trees, none, node, beside, WellFormed}
 use Rattle.model_shapes.specs.Shapes.{holes}
-use Rattle.model_heap.specs.Entries.{Entry, Rows, rows_of, uses}
+use Rattle.model_heap.specs.Entries.{Entry, rows_of, uses}
 use Rattle.model_groves.specs.Sizes.{size}
 use Rattle.slab.specs.Slab.{Slab, get, slab_len}
 use Rattle.node_heap.specs.declared.records.Record.{Record}
@@ -45,19 +45,23 @@ roots_of most records key (n ∷ rest) =
 unfoldable pub grove_of : Slab Record → List Pair → Trees
 grove_of records nodes = roots_of (length nodes) records (key_in nodes) (numbers nodes)
 
--- THE INVARIANT: the records and the two indexes are the links of a grove
-pub record Linked (s : Slab Record) (nodes lists : List Pair) (g : Trees) : Type 0 where
+-- the records and the two indexes, in whatever order, are the links of a grove
+pub record Linking (s : Slab Record) (nodes lists : List Pair) (g : Trees) : Type 0 where
   pub well_formed : WellFormed g
   pub once : (n : ℕ) → uses n g ≤ 1
   pub whole : holes g ≡ 0
   pub sized : size g ≡ length nodes
   pub stands : Stands (key_in nodes) (rows_of g) s
-  pub rising : Rising nodes
   pub indexed : (n : ℕ) → is_some (lookup n nodes) ≡ is_some (rows_of g n)
-  pub rising_lists : Rising lists
   pub listed : (n : ℕ) (e : Entry) → rows_of g n ≡ Some e
       → lookup e.list lists ≡ Some (key_in nodes n)
   pub listed_only : (l k : ℕ) → lookup l lists ≡ Some k
       → (n : ℕ) × (e : Entry) × (rows_of g n ≡ Some e) × (e.list ≡ l) × (key_in nodes n ≡ k)
   pub records_len : slab_len s ≡ length nodes
   pub lists_len : length lists ≡ length nodes
+
+-- THE INVARIANT: they are, with both indexes in rising order
+pub record Linked (s : Slab Record) (nodes lists : List Pair) (g : Trees) : Type 0 where
+  pub links : Linking s nodes lists g
+  pub rising : Rising nodes
+  pub rising_lists : Rising lists

@@ -1,4 +1,5 @@
--- Needn't be believed: the invariant of heaps speaks of it, and the contracts of public calls don't.
+-- Needn't be believed: the invariant of heaps speaks of it, and the contracts of public calls
+-- don't.
 -- Indexes: lists of numbers with the keys of their records.
 use Rattle.std.specs.Prelude.{ℕ, ◌<◌, ◌==◌, cond, List, [], ◌∷◌, Option, Some, None, unwrap_or}
 use Rattle.node_heap.specs.declared.index.Pair.{Pair}

@@ -4,3 +4,6 @@ pub mod Links
 pub mod Heap
 pub mod HeapView
 pub mod Answers
+pub mod Drafts
+pub mod Walking
+pub mod Writing

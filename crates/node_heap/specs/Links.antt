@@ -2,7 +2,7 @@
 use Rattle.std.specs.Prelude.{◌≡◌, ℕ, List, [], Option, Some, None, option_map, IsSome}
 use Rattle.std.specs.Option.{IsSomeAnd}
 use Rattle.model_heap.specs.Lists.{head_of, last_of, after, before}
-use Rattle.model_heap.specs.Entries.{Entry, Rows, kids_of, parent_of}
+use Rattle.model_heap.specs.Entries.{Entry, Rows, kids_of}
 use Rattle.slab.specs.Slab.{Slab, get}
 use Rattle.node_heap.specs.declared.records.Record.{Record}
 

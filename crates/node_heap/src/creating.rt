@@ -43,7 +43,9 @@ impl NodeHeap {
         }
         let number = node + 1;
         let list = list + 1;
-        let key = self.records.insert_reserved(Record::new(name, number, list));
+        let key = self
+            .records
+            .insert_reserved(Record::new(name, number, list));
         self.nodes.push_reserved(Pair { number, key });
         self.lists.push_reserved(Pair { number: list, key });
         Ok((number, list))

@@ -32,10 +32,10 @@ impl Model for NodeHeap {
     ghost coded = { view_code };
 
     ghost view = { λ heap. record {
-        grove = grove_of heap.records heap.nodes.items;
-        spare = min (heap.records.capacity - slab_len heap.records)
-            (min (vec_capacity heap.nodes - vec_len heap.nodes)
-            (vec_capacity heap.lists - vec_len heap.lists));
+      grove = grove_of heap.records heap.nodes.items;
+      spare = min (heap.records.capacity - slab_len heap.records)
+          (min (vec_capacity heap.nodes - vec_len heap.nodes)
+          (vec_capacity heap.lists - vec_len heap.lists));
     } };
 
     ghost invariant = { λ heap. Linked heap.records heap.nodes.items heap.lists.items

@@ -34,6 +34,7 @@ pub fn find(index: &[Pair], number: u32) -> Option<usize>
 }
 
 /// The greatest number, which is the last one, or 0 where there is none.
+#[tactic(auto, using(crate::proofs::Ends::last_number))]
 pub fn greatest(index: &[Pair]) -> u32
     ensures { result ≡ greatest_of index.now }
 {

@@ -12,6 +12,7 @@ mod index;
 mod moving;
 mod reading;
 mod records;
+mod walking;
 mod writing;
 
 pub use creating::NoNumber;

@@ -41,7 +41,8 @@ impl NodeHeap {
         Ok(())
     }
 
-    /// Moves the child of the parent with all below it to the roots, or faults, as the machine does.
+    /// Moves the child of the parent with all below it to the roots, or faults, as the machine
+    /// does.
     pub fn remove(&mut self, parent: u32, child: u32) -> Result<(), FaultKind>
         ensures { (store : Store) → Did (removing (node_at (node_number parent) self.old.grove)
             (node_at (node_number child) self.old.grove) store self.old.grove)

@@ -1,0 +1,97 @@
+-- The walk from a node to its root.
+use Rattle.std.proofs.Common.{◌≡◌, ◌≢◌, ℕ, ◌<◌, ◌≤◌, List, Option, Some, None, refl, sym, ap, ◌∙◌, arith, subst}
+use Rattle.std.specs.Option.{option_map, IsSome}
+use Rattle.model_shapes.specs.Trees.{Trees}
+use Rattle.model_heap.specs.Lists.{count}
+use Rattle.model_heap.specs.Entries.{rows_of, uses, tree_at, kids_of, parent_of, depth}
+use Rattle.model_heap.proofs.Kinship.{Kin-rows_of, depth_kid, tree_step, root_outside, root_of, tree_holds}
+use Rattle.slab.specs.Slab.{Slab, get}
+use Rattle.node_heap.specs.declared.records.Record.{Record}
+use Rattle.node_heap.specs.declared.index.Pair.{Pair}
+use Rattle.node_heap.specs.Indexes.{key_in}
+use Rattle.node_heap.specs.Heap.{Linking}
+use Rattle.node_heap.proofs.Found.{Found, Points, parent_found}
+use Rattle.node_heap.proofs.Tests.{once_there}
+
+abbrev pub number_of : Option Record → ℕ
+number_of None = 0
+number_of (Some r) = r.number
+
+abbrev pub number_at : Slab Record → ℕ → ℕ
+number_at s k = number_of (get s k)
+
+-- the walk has come to a number, which stands in the child's tree where the first did
+pub record Walk (s : Slab Record) (nodes : List Pair) (g : Trees) (p c k : ℕ) : Type 0 where
+  pub number : ℕ
+  pub found : Found s nodes g number k
+  pub same : uses number (tree_at c g) ≡ uses p (tree_at c g)
+
+pub number_found : (s : Slab Record) (nodes : List Pair) (g : Trees) (n k : ℕ) → Found s nodes g n k
+    → number_at s k ≡ n
+number_found s nodes g n k f = ap number_of f.at ∙ f.fits.number
+
+pub record Up (s : Slab Record) (nodes : List Pair) (g : Trees) (p c k next : ℕ) : Type 0 where
+  pub walk : Walk s nodes g p c next
+  pub nearer : depth (number_at s next) g < depth (number_at s k) g
+
+module _ (s : Slab Record) (nodes lists : List Pair) (g : Trees) (l : Linking s nodes lists g)
+    (p c k : ℕ) (w : Walk s nodes g p c k) (ck : ℕ) (fc : Found s nodes g c ck) where
+  there : uses c g ≡ 1
+  there = once_there s nodes g c ck (l.once c) fc
+
+  other : k ≢ ck → w.number ≢ c
+  other d e = d (w.found.key ∙ ap (key_in nodes) e ∙ sym fc.key)
+
+  pub walk_up : k ≢ ck → (r : Record) (next : ℕ) → get s k ≡ Some r → r.parent ≡ Some next
+      → Up s nodes g p c k next
+  walk_up d r next a up = go (parent_found s nodes lists g g l w.number k next r w.found a up)
+    where
+      go : (f : Found s nodes g w.number k) × Points s nodes g f.entry.parent next
+          → Up s nodes g p c k next
+      go q =
+          let kin = Kin-rows_of g l.once in
+          let has : 1 ≤ count w.number (kids_of (rows_of g q.1.number)) =
+          kin.down q.1.number w.number (ap parent_of q.0.is ∙ q.1.is) in
+          record {
+            walk = record {
+              number = q.1.number;
+              found = q.1.there;
+              same = sym (tree_step c None g q.1.number w.number (other d) (l.once c)
+                  (l.once q.1.number) (l.once w.number) has) ∙ w.same;
+            };
+            nearer = rw (
+              number_found s nodes g q.1.number next q.1.there,
+              number_found s nodes g w.number k w.found,
+            )
+                (omega (
+                  arith,
+                  depth_kid None g q.1.number w.number (l.once q.1.number)
+                      (l.once w.number) has,
+                ));
+          }
+
+  -- it ends at a root outside the child's tree
+  pub walk_out : k ≢ ck → (r : Record) → get s k ≡ Some r → r.parent ≡ None → uses p (tree_at c g)
+      ≡ 0
+  walk_out d r a e =
+      let same : w.found.it ≡ r = let x = w.found.at in cc in
+      let none : w.found.entry.parent ≡ None = no_parent w.found.entry.parent
+      (sym w.found.fits.parent ∙ ap (λ (r : Record). r.parent) same ∙ e) in
+      let root : parent_of (rows_of g w.number) ≡ None = ap parent_of w.found.is ∙ none in
+      let u = once_there s nodes g w.number k (l.once w.number) w.found in
+      sym w.same ∙ root_outside c w.number g (other d) (l.once c) (l.once w.number)
+      (root_of None g w.number u root)
+    where
+      no_parent : (o : Option ℕ) → option_map (key_in nodes) o ≡ None → o ≡ None
+      no_parent None m = refl
+      no_parent (Some p) m = absurd (cc)
+
+  -- or at the child itself
+  pub walk_in : k ≡ ck → uses p (tree_at c g) ≡ 1
+  walk_in e =
+      let same : w.number ≡ c = l.stands.apart w.number c (subst IsSome (sym w.found.is) refl)
+      (subst IsSome (sym fc.is) refl) (sym w.found.key ∙ e ∙ fc.key) in
+      sym w.same ∙ ap (λ n. uses n (tree_at c g)) same ∙ tree_holds c g there
+
+pub apart_from : (p c : ℕ) (g : Trees) → uses c g ≡ 1 → uses p (tree_at c g) ≡ 0 → p ≢ c
+apart_from p c g u h e = omega (arith, h, tree_holds c g u, ap (λ n. uses n (tree_at c g)) e)
