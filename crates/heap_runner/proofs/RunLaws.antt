@@ -168,8 +168,8 @@ module _ (run : ℕ → Outcome) (ps : Procedures) (rs : List ProgVar) (steps : 
       by_pending (x ∷ k) =
           same-stepped k (move ps (next_pick r.roots) x here.store r.roots)
           (move ps (next_pick r.roots) x here.store here.grove)
-          (same-move r.roots here.grove r.same r.fits.fine.whole.well_formed ps (next_pick r.roots) x
-          here.store)
+          (same-move r.roots here.grove r.same r.fits.fine.whole.well_formed ps
+          (next_pick r.roots) x here.store)
 
   same_limit : limit_here there ≡ limit_here here
   same_limit = same-limit r.roots here.grove r.same here.pending here.store

@@ -1,5 +1,5 @@
--- Needn't be believed: the contracts of private functions alone speak of it. What comes of a command
--- on the heap, as a move of the machine of the definitions.
+-- Needn't be believed: the contracts of private functions alone speak of it. What comes of a
+-- command on the heap, as a move of the machine of the definitions.
 use Rattle.std.specs.Prelude.{◌≡◌, ℕ, ◌+◌, nat_le, ◌&&◌, Bool, true, false, [], Result, Ok, Err, Option, None}
 use Rattle.model_shapes.specs.Trees.{Trees}
 use Rattle.model_shapes.specs.Values.{Name, Value, str, list_number}

@@ -7,7 +7,7 @@ ghost use Rattle.model_commands.specs.Theories.{Procedures};
 ghost use Rattle.model_groves.specs.Groves.{node_at};
 ghost use Rattle.model_groves.specs.Picks.{next_pick};
 ghost use Rattle.model_limits.specs.Limits.{standard_limits};
-ghost use Rattle.model_machine.specs.Machine.{Piece, run, move, creating, appending, removing, configuration};
+ghost use Rattle.model_machine.specs.Machine.{Piece, run, move, creating, configuration};
 ghost use Rattle.model_terms.specs.Stores as stores;
 ghost use Rattle.model_terms.specs.Stores.{value_of, text_in};
 ghost use Rattle.model_terms.specs.TermLimits.{terms_limit};
@@ -19,7 +19,8 @@ ghost use Rattle.theory_syntax.specs.Commands.{command_of};
 ghost use Rattle.dom_meaning.specs.Faults.{TellsLimit};
 ghost use Rattle.dom_meaning.specs.OwnTerms.{TermsFit};
 ghost use Rattle.node_heap.specs.Answers.{Did};
-ghost use Rattle.heap_runner.specs.Turns.{Came, TellsOwnLimit, looks, limit_here, creation_limit, moving_to};
+ghost use Rattle.heap_runner.specs.Turns.{Came, TellsOwnLimit, looks, moving_to};
+ghost use Rattle.heap_runner.specs.Turns.{limit_here, creation_limit};
 
 use crate::reads::{Read, item_read, node_read};
 use dom_meaning::{FaultKind, StepFault};

@@ -1,6 +1,7 @@
 // Runs on a heap within their fuel.
 ghost use Rattle.std.specs.Prelude as plain;
-ghost use Rattle.std.specs.Prelude.{◌≡◌, ◌<◌, ◌≤◌, ◌+◌, ℕ, Some, IfOk, MatchResult, length, map, slice_get};
+ghost use Rattle.std.specs.Prelude.{◌≡◌, ◌<◌, ◌≤◌, ◌+◌, ℕ, length, map, slice_get};
+ghost use Rattle.std.specs.Prelude.{Some, IfOk, MatchResult};
 ghost use Rattle.model_commands.specs.Theories.{Procedures, procedures_of};
 ghost use Rattle.model_groves.specs.Picks.{Pick};
 ghost use Rattle.model_files.specs.FileFaults.{IsWellFormedTheory};
@@ -164,7 +165,8 @@ fn values_of(alloc: Global, variables: &Vars, store: &Store) -> Result<Values, O
 // The fault of the first piece, which is a command: no other piece faults.
 fn faulted(mut config: Config, kind: FaultKind, steps: u32) -> HeapOutcome
     requires { (procedures : Procedures) × (pick : Pick) × (trees : Trees)
-        × (model.step procedures (on_heap config trees) pick ≡ model.at_fault (fault_kind_of kind)) }
+        × (model.step procedures (on_heap config trees) pick
+        ≡ model.at_fault (fault_kind_of kind)) }
     ensures { (run : ℕ → outcomes.Outcome) (fuel : ℕ) (trees : Trees)
         → run fuel ≡ has_fault (fault_kind_of kind) steps
         (first_command (on_heap config trees).pending)
