@@ -1,7 +1,9 @@
 // Groves and texts made of heaps, by loops over walks.
 ghost use Rattle.std.specs.Prelude.{◌≡◌, ◌++◌, IfOk, OnOk, codes};
 ghost use Rattle.std.specs.Fmt.{decimal};
+ghost use Rattle.model_shapes.specs.Sorts.{shape, grove};
 ghost use Rattle.model_shapes.specs.Trees.{none, node as node_with, beside};
+ghost use Rattle.model_shapes.specs.Shapes.{Shaped};
 ghost use Rattle.model_documents.specs.Roots.{sorted_roots};
 ghost use Rattle.model_documents.specs.Printed.{grove_text};
 ghost use Rattle.grove_data.specs.Trees.{forest_of};
