@@ -1,75 +1,58 @@
--- Runs that are called: where they end, the grove is well formed.
-use Rattle.std.proofs.Common.{◌≡◌, ◌∙◌, ℕ, List, map, Option, Some, None, ap, Result, Ok, Err, IfOk, sym, subst}
-use Rattle.model_shapes.specs.Trees.{Trees, WellFormed}
+-- Runs that are called, on the heap: what they come to by the definitions, and the answer to it.
+use Rattle.std.proofs.Common.{◌≡◌, ◌∙◌, ℕ, List, map, Option, Some, None, ap, Result, Ok, Err, IfOk, subst, sym, arith}
+use Rattle.model_shapes.specs.Sorts.{shape, grove}
+use Rattle.model_shapes.specs.Trees.{Trees}
+use Rattle.model_shapes.specs.Shapes.{Shaped, SameAt}
 use Rattle.model_shapes.specs.Values.{Value}
+use Rattle.model_shapes.proofs.Shapes.{SameAt-sym, SameAt-trans, same-Shaped, root_holes-le}
 use Rattle.model_formulas.specs.Formulas.{Named}
 use Rattle.model_terms.specs.Stores.{ProgVar}
-use Rattle.model_commands.specs.Theories.{ProcedureOf, Theory, procedures_of}
-use Rattle.model_files.specs.FileFaults.{IsWellFormedTheory}
-use Rattle.model_machine.specs.Fitting.{FitsConfig}
-use Rattle.model_machine.specs.Behind.{Behind}
-use Rattle.model_machine.specs.Machine as machine
-use Rattle.model_machine.specs.Outcomes as model
-use Rattle.model_limits.specs.Limits.{standard_limits}
-use Rattle.model_machine.proofs.Picks.{outcome-behind}
-use Rattle.model_machine.proofs.Fine.{ends-fine}
-use Rattle.model_files.proofs.WellFormedTheories.{well-formed-bodies}
-use Rattle.model_machine.specs.Outcomes.{outcome}
-use Rattle.dom_meaning.specs.Runs.{IsOutcome}
-use Rattle.dom_meaning.specs.Starts.{Begins}
-use Rattle.dom_meaning.specs.Configs.{config_of}
-use Rattle.dom_meaning.specs.declared.configurations.Config.{Config}
-use Rattle.dom_terms.specs.Terms.{prog_var_of}
-use Rattle.dom_meaning.specs.declared.runs.Outcome.{Outcome}
-use Rattle.dom_meaning.specs.declared.runs.Outcome.TheVariants as o
-use Rattle.domcheck_core.specs.Calls.{IsWhole}
 use Rattle.model_terms.specs.TermLimits.{or_else}
+use Rattle.model_commands.specs.Theories.{ProcedureOf, Theory}
+use Rattle.model_machine.specs.Outcomes.{Outcome}
+use Rattle.model_documents.specs.Printed.{grove_text}
+use Rattle.model_documents.specs.Roots.{sorted_roots}
+use Rattle.model_documents.proofs.SortedRoots.{sorted-same, sorted-rising, rising-equal}
+use Rattle.model_answers.specs.Output.{ended_with, ended_lines}
+use Rattle.heap_runner.specs.Answers.{Answers}
+use Rattle.heap_runner.specs.declared.outcomes.HeapOutcome.{HeapOutcome}
+use Rattle.heap_runner.specs.declared.outcomes.HeapOutcome.TheVariants as h
+use Rattle.domcheck_core.specs.Calls.{CameOut}
 use Rattle.domcheck_core.specs.declared.status.Status.{Status}
 use Rattle.domcheck_core.specs.Answers.{Answer, outcome_on, outcome_answer, grove_answer, refusal}
 
--- where a run ends, the grove is well formed
-ends_whole : (theory : Theory) → IsWellFormedTheory theory → (results : List ProgVar) (fuel : ℕ)
-    (config : machine.Config) → FitsConfig (procedures_of theory) config
-    → (n : ℕ) (values : List Value) (g : Trees)
-    → outcome standard_limits (procedures_of theory) results fuel 0 config ≡ model.ends n values g
-    → WellFormed g
-ends_whole theory w results fuel config fits n values g e =
-    let ps = procedures_of theory in
-    let b : Behind ps results 0 config (model.ends n values g) =
-    subst (Behind ps results 0 config) e (outcome-behind standard_limits ps results fuel 0 config)
-    in
-    (ends-fine ps (well-formed-bodies theory w) b.0 config b.1 g fits b.3).whole.well_formed
+-- groves that are the same are equal once their roots are sorted
+same_sorted : (a b : Trees) → Shaped (shape grove) a → SameAt grove a b
+    → sorted_roots a ≡ sorted_roots b
+same_sorted a b whole same =
+    let sorted = sorted_roots a in
+    let is_same : SameAt grove sorted (sorted_roots b) =
+    SameAt-trans grove sorted a (sorted_roots b) (sorted-same a)
+    (SameAt-trans grove a b (sorted_roots b) same
+    (SameAt-sym grove (sorted_roots b) b (sorted-same b))) in
+    let shaped : Shaped (shape grove) sorted =
+    same-Shaped (shape grove) a sorted (SameAt-sym grove sorted a (sorted-same a)) whole in
+    rising-equal sorted (sorted_roots b) shaped.well_formed.nodes_once
+    (omega (arith, root_holes-le sorted, shaped.holes_fit)) (sorted-rising a) (sorted-rising b)
+    is_same
 
-pub whole : (theory : Theory) → IsWellFormedTheory theory → (results : List ProgVar) (fuel : ℕ)
-    (config : machine.Config) → FitsConfig (procedures_of theory) config → (r : Outcome)
-    → IsOutcome results fuel r
-    (outcome standard_limits (procedures_of theory) results fuel 0 config) → IsWhole r
-whole theory w results fuel config fits (o.Ended steps values g) e =
-    ends_whole theory w results fuel config fits steps _ _ e
-whole theory w results fuel config fits (o.Fault kind steps command) e = tt
-whole theory w results fuel config fits (o.Spent left) e = tt
-whole theory w results fuel config fits (o.Limit kind) e = tt
-whole theory w results fuel config fits o.OutOfMemory e = tt
+-- so their lines are those of either
+pub same_lines : (steps : ℕ) (results : List ProgVar) (values : List Value) (a b : Trees)
+    → Shaped (shape grove) a → SameAt grove a b
+    → ended_lines steps results values b
+    ≡ ended_with steps results values (grove_text (sorted_roots a))
+same_lines steps results values a b whole same =
+    ap (λ (z : Trees). ended_with steps results values (grove_text z))
+    (sym (same_sorted a b whole same))
 
--- what a run came to is what the definition says of the document
-pub ran : (theory : Theory) (f : ProcedureOf Named) (values : List Value) (fuel : ℕ)
-    (document roots : Trees) (config : Config) (results : List ProgVar) (r : Outcome)
-    → Begins f values roots config → roots ≡ document → results ≡ f.results
-    → IsOutcome (map prog_var_of config.results) fuel r
-    (outcome standard_limits (procedures_of theory) (map prog_var_of config.results) fuel 0
-    (config_of config))
-    → IsOutcome results fuel r (outcome_on theory f values fuel document)
-ran theory f values fuel document roots config results r begins e q h =
-    let came_out = λ (xs : List ProgVar) (c : machine.Config).
-    IsOutcome xs fuel r (outcome standard_limits (procedures_of theory) xs fuel 0 c) in
-    let a : came_out f.results (config_of config) =
-    subst (λ (z : List ProgVar). came_out z (config_of config)) begins.results h in
-    let b : came_out f.results (machine.start f values roots) =
-    subst (came_out f.results) begins.configuration a in
-    let c : came_out f.results (machine.start f values document) =
-    subst (λ (z : Trees). came_out f.results (machine.start f values z)) e b in
-    subst (λ (z : List ProgVar). IsOutcome z fuel r (outcome_on theory f values fuel document))
-    (sym q) c
+-- what a run on the heap came to
+pub came_out : (run : ℕ → Outcome) (fuel : ℕ) (r : HeapOutcome) (trees : Trees)
+    → Answers run fuel r trees → CameOut r trees (run fuel)
+came_out run fuel (h.Ended steps values) trees a = a
+came_out run fuel (h.Fault kind steps command) trees a = a.0
+came_out run fuel (h.Spent steps) trees a = (a.0, a.1)
+came_out run fuel (h.Limit kind) trees a = a.0
+came_out run fuel h.OutOfMemory trees a = tt
 
 -- the answer of the outcome is the answer on the document, and so is what is refused
 module _ (theory : Theory) (f : ProcedureOf Named) (values : List Value) (fuel : ℕ)

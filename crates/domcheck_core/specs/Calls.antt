@@ -1,12 +1,19 @@
 -- Needn't be believed: what a call of the program stands for, and what a run needs of it.
 use Rattle.std.specs.Prelude.{◌≡◌, ℕ, List, Option, Some, slice_get, map}
-use Rattle.model_shapes.specs.Trees.{WellFormed}
+use Rattle.model_shapes.specs.Sorts.{grove}
+use Rattle.model_shapes.specs.Trees.{Trees}
+use Rattle.model_shapes.specs.Shapes.{SameAt}
+use Rattle.model_machine.specs.Machine.{Config}
+use Rattle.model_machine.specs.Outcomes as model
+use Rattle.model_machine.specs.Outcomes.{Outcome}
 use Rattle.model_machine.specs.Fitting.{ValuesFit}
 use Rattle.model_files.specs.FileFaults.{IsWellFormedTheory}
 use Rattle.dom_terms.specs.Terms.{prog_var_of}
-use Rattle.grove_data.specs.Trees.{forest_of}
-use Rattle.dom_meaning.specs.declared.runs.Outcome.{Outcome}
-use Rattle.dom_meaning.specs.declared.runs.Outcome.TheVariants as o
+use Rattle.dom_terms.specs.Limits.{limit_kind_of}
+use Rattle.dom_meaning.specs.Faults.{fault_kind_of}
+use Rattle.theory_syntax.specs.Commands.{command_of}
+use Rattle.heap_runner.specs.declared.outcomes.HeapOutcome.{HeapOutcome}
+use Rattle.heap_runner.specs.declared.outcomes.HeapOutcome.TheVariants as h
 use Rattle.theory_syntax.specs.declared.theories.Procedure.{Procedure}
 use Rattle.theory_syntax.specs.declared.theories.Theory.{Theory}
 use Rattle.theory_syntax.specs.Theories.{procedure_of, theory_of}
@@ -53,7 +60,14 @@ CallAnswer theory call fuel document s output =
     → DocumentAnswer (theory_of theory) (procedure_of f) (map value_seen call.values) fuel document
     s output
 
--- the grove at the end of a run is well formed
-abbrev pub IsWhole : Outcome → Type 0
-IsWhole (o.Ended steps values grove) = WellFormed (forest_of grove)
-IsWhole outcome = Unit
+-- A run on a heap came out so, by the definitions: with the heap's grove at its end, up to the order
+-- of roots.
+abbrev pub CameOut : HeapOutcome → Trees → Outcome → Type 0
+CameOut (h.Ended steps values) trees came_out =
+    (left : Trees) × (came_out ≡ model.ends steps (map value_seen values) left)
+    × SameAt grove trees left
+CameOut (h.Fault kind steps command) trees came_out =
+    came_out ≡ model.has_fault (fault_kind_of kind) steps (command_of command)
+CameOut (h.Spent steps) trees came_out = (left : Config) × (came_out ≡ model.spends steps left)
+CameOut (h.Limit kind) trees came_out = came_out ≡ model.passes_limit (limit_kind_of kind)
+CameOut h.OutOfMemory trees came_out = Unit

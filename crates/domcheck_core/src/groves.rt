@@ -1,7 +1,7 @@
-// The groves that a run may start on.
+// The groves that a run may start on, and their heaps.
 ghost use Rattle.std.specs.Prelude.{◌≡◌, None, IfOk, IfErr};
 ghost use Rattle.model_shapes.specs.Sorts.{grove, shape};
-ghost use Rattle.model_shapes.specs.Shapes.{Shaped};
+ghost use Rattle.model_shapes.specs.Shapes.{Shaped, SameAt};
 ghost use Rattle.model_documents.specs.Numbers.{first_repeat};
 ghost use Rattle.grove_data.specs.Trees.{forest_of};
 ghost use Rattle.logic_text.specs.RawGroves.{raw_forest_of};
@@ -16,6 +16,7 @@ use dom_terms::{LimitKind, limits};
 use fault_report::Report;
 use grove_data::{Grove, UniqueFault, check_unique, has_at_most};
 use logic_text::{RangeFault, RawGrove, to_grove};
+use node_heap::NodeHeap;
 use std::alloc::Global;
 
 // The grove, unless it has too many nodes.
@@ -49,9 +50,9 @@ fn without_repeats(alloc: Global, grove: Grove) -> Result<Grove, Refused>
     }
 }
 
-/// The grove of a document, unless a number is out of range, a number repeats or it has too many
-/// nodes: the first of these, in this order.
-pub fn fit_grove(alloc: Global, raw: &RawGrove) -> Result<Grove, Refused>
+// The grove of a document, unless a number is out of range, a number repeats or it has too many
+// nodes: the first of these, in this order.
+fn fit_grove(alloc: Global, raw: &RawGrove) -> Result<Grove, Refused>
     ensures same { IfOk result (λ kept. forest_of kept ≡ raw_forest_of raw.now) }
     ensures shaped { IfOk result (λ kept. Shaped (shape grove) (raw_forest_of raw.now)) }
     ensures passes { IfOk result (λ kept. refusal (raw_forest_of raw.now) ≡ None) }
@@ -65,4 +66,15 @@ pub fn fit_grove(alloc: Global, raw: &RawGrove) -> Result<Grove, Refused>
         }
         Err(RangeFault::OutOfMemory) => Err(Refused::OutOfMemory),
     }
+}
+
+/// The heap that stands for the grove of a document, unless a number is out of range, a number
+/// repeats or it has too many nodes: the first of these, in this order. No grove is kept.
+pub fn fit_heap(alloc: Global, raw: &RawGrove) -> Result<NodeHeap, Refused>
+    ensures same { IfOk result (λ heap. SameAt grove (raw_forest_of raw.now) heap.grove) }
+    ensures passes { IfOk result (λ heap. refusal (raw_forest_of raw.now) ≡ None) }
+    ensures told { IfErr result (λ e. IsRefusal e (refusal (raw_forest_of raw.now))) }
+{
+    let grove = fit_grove(alloc, raw)?;
+    Ok(NodeHeap::from_grove(alloc, &grove)?)
 }

@@ -1,29 +1,29 @@
 // Runs of a file's procedure on a document, over the bytes of both.
 ghost use Rattle.std.specs.Prelude.{◌≡◌, ℕ, List, Some, map, slice_get, IfOk};
-ghost use Rattle.model_shapes.specs.Trees.{WellFormed};
+ghost use Rattle.model_shapes.specs.Trees.{Trees};
+ghost use Rattle.model_shapes.specs.Shapes.{SameAt};
+ghost use Rattle.model_shapes.specs.Sorts.{grove};
 ghost use Rattle.model_machine.specs.Outcomes as outcomes;
 ghost use Rattle.dom_terms.specs.Terms.{prog_var_of};
 ghost use Rattle.dom_terms.specs.Values.{value_seen};
-ghost use Rattle.grove_data.specs.Trees.{forest_of};
 ghost use Rattle.theory_syntax.specs.declared.theories.Procedure.{Procedure};
 ghost use Rattle.theory_syntax.specs.Theories.{procedure_of, theory_of};
-ghost use Rattle.dom_meaning.specs.Runs.{IsOutcome};
 ghost use Rattle.logic_text.specs.RawGroves.{raw_forest_of};
 ghost use Rattle.model_answers.specs.Texts.{IsFile};
 ghost use Rattle.domcheck_core.specs.Answers.{outcome_answer, grove_answer, RunAnswer};
-ghost use Rattle.domcheck_core.specs.Calls.{FitsCall, IsWhole, IsOpened, CallAnswer};
+ghost use Rattle.domcheck_core.specs.Calls.{FitsCall, CameOut, IsOpened, CallAnswer};
 
 use crate::calls::{Call, read_call};
 use crate::document::read_document;
 use crate::file::read_file;
-use crate::groves::fit_grove;
+use crate::groves::fit_heap;
 use crate::replies::{Reply, answered, reported};
 use crate::status::Status;
-use dom_meaning::{Outcome, run_plain, start};
 use dom_terms::{OutOfMemory, ProgVar, Text, Texts, Values};
 use fault_report::{Report, ended_text};
-use grove_data::{Grove, sort_roots};
+use heap_runner::{HeapOutcome, run_heap};
 use logic_text::RawGrove;
+use node_heap::NodeHeap;
 use std::alloc::Global;
 use theory_syntax::Theory;
 
@@ -70,45 +70,37 @@ pub fn open_file(
     }
 }
 
-// The answer of a run that ended.
+// The answer of a run that ended and left this heap, in any order of the roots.
 fn ended(
     alloc: Global,
     steps: u32,
     results: &[ProgVar],
     values: &Values,
-    grove: Grove,
+    heap: &NodeHeap,
 ) -> Result<Reply, OutOfMemory>
-    requires { WellFormed (forest_of grove) }
-    ensures { IfOk result (λ r. outcome_answer (map prog_var_of results.now)
-        (outcomes.ends steps (map value_seen values.now) (forest_of grove))
-        ≡ Some (r.status, r.output)) }
+    ensures { (left : Trees) → SameAt grove heap.now.grove left
+        → IfOk result (λ r. outcome_answer (map prog_var_of results.now)
+        (outcomes.ends steps (map value_seen values.now) left) ≡ Some (r.status, r.output)) }
 {
-    let mut sorted = grove;
-    sort_roots(&mut sorted)?;
-    let output = ended_text(alloc, steps, results, values.as_slice(), &sorted)?;
+    let text = heap.write_text(alloc)?;
+    let output = ended_text(alloc, steps, results, values.as_slice(), &text)?;
     let status = Status::Done;
     Ok(Reply { status, output })
 }
 
-// The answer of an outcome of a run with this fuel.
+// The answer of an outcome of a run that left this heap.
 fn outcome_reply(
     alloc: Global,
     results: &[ProgVar],
-    outcome: Outcome,
-    fuel: u32,
+    outcome: HeapOutcome,
+    heap: &NodeHeap,
 ) -> Result<Reply, OutOfMemory>
-    requires { IsWhole outcome }
-    ensures { (o : outcomes.Outcome) → IsOutcome (map prog_var_of results.now) fuel outcome o
-        → IfOk result (λ r.
+    ensures { (o : outcomes.Outcome) → CameOut outcome heap.now.grove o → IfOk result (λ r.
         outcome_answer (map prog_var_of results.now) o ≡ Some (r.status, r.output)) }
 {
     match outcome {
-        Outcome::Ended {
-            steps,
-            values,
-            grove,
-        } => ended(alloc, steps, results, &values, grove),
-        Outcome::Fault {
+        HeapOutcome::Ended { steps, values } => ended(alloc, steps, results, &values, heap),
+        HeapOutcome::Fault {
             kind,
             steps,
             command,
@@ -120,11 +112,11 @@ fn outcome_reply(
             };
             reported(alloc, Status::Faulted, report)
         }
-        Outcome::Spent { .. } => {
-            reported(alloc, Status::FuelSpent, Report::FuelSpent { steps: fuel })
+        HeapOutcome::Spent { steps } => {
+            reported(alloc, Status::FuelSpent, Report::FuelSpent { steps })
         }
-        Outcome::Limit(kind) => reported(alloc, Status::Limit(kind), Report::Limit { kind }),
-        Outcome::OutOfMemory => Err(OutOfMemory),
+        HeapOutcome::Limit(kind) => reported(alloc, Status::Limit(kind), Report::Limit { kind }),
+        HeapOutcome::OutOfMemory => Err(OutOfMemory),
     }
 }
 
@@ -141,15 +133,14 @@ fn run_on(
         → IfOk result (λ r. grove_answer (theory_of theory.now) (procedure_of p)
         (map value_seen call.values) fuel (raw_forest_of raw.now) ≡ Some (r.status, r.output)) }
 {
-    match fit_grove(alloc, raw) {
-        Ok(grove) => {
+    match fit_heap(alloc, raw) {
+        Ok(mut heap) => {
             let Call { procedure, values } = call;
             let Some(called) = theory.procedures.get(procedure) else {
                 unreachable!();
             };
-            let config = start(alloc, theory, procedure, values, grove)?;
-            let outcome = run_plain(alloc, theory, config, fuel);
-            outcome_reply(alloc, called.results.as_slice(), outcome, fuel)
+            let outcome = run_heap(alloc, theory, procedure, &mut heap, values, fuel);
+            outcome_reply(alloc, called.results.as_slice(), outcome, &heap)
         }
         Err(why) => answered(alloc, why),
     }

@@ -2,13 +2,10 @@
 ghost use Rattle.std.specs.Prelude.{◌≡◌, ◌++◌, IfOk, OnOk, map, codes, string_bytes};
 ghost use Rattle.dom_terms.specs.Terms.{prog_var_of};
 ghost use Rattle.dom_terms.specs.Values.{value_seen};
-ghost use Rattle.grove_data.specs.Trees.{forest_of};
 ghost use Rattle.model_answers.specs.Output as output;
 
 use crate::values::value_text;
 use dom_terms::{OutOfMemory, ProgVar, Text, Value};
-use grove_data::Grove;
-use logic_text::write_grove;
 use std::alloc::{AllocError, Global};
 
 // The text of one result.
@@ -59,21 +56,21 @@ fn steps_text(alloc: Global, steps: u32) -> Result<String, AllocError>
     format!(in alloc; "ended after {steps} steps")
 }
 
-/// The lines of a run that ended after so many steps, with these values of its results; the roots
-/// of the grove are printed in the order in which they stand.
+/// The lines of a run that ended after so many steps, with these values of its results and this
+/// text of the grove.
 pub fn ended_text(
     alloc: Global,
     steps: u32,
     results: &[ProgVar],
     values: &[Value],
-    grove: &Grove,
+    grove: &Text,
 ) -> Result<Text, OutOfMemory>
     ensures { IfOk result (λ text. text ≡ output.ended_with steps (map prog_var_of results.now)
-        (map value_seen values.now) (forest_of grove.now)) }
+        (map value_seen values.now) grove.now) }
 {
     let mut text = Text::new(alloc);
     push_line(alloc, &mut text, steps_text(alloc, steps)?.as_str())?;
     push_results(alloc, &mut text, results, values)?;
-    push_line(alloc, &mut text, write_grove(alloc, grove)?.as_str())?;
+    push_line(alloc, &mut text, grove.as_str())?;
     Ok(text)
 }

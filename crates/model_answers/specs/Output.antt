@@ -163,12 +163,12 @@ result_lines (named name s ∷ xs) (value ∷ values) =
     line (name ++ (codes " = " ++ value_text value)) ++ result_lines xs values
 result_lines xs values = []
 
--- `ended after K steps`, the results, and the grove in this order of its roots
-abbrev pub ended_with : ℕ → List ProgVar → List Value → Trees → List ℕ
-ended_with steps results values grove =
-    line (codes "ended" ++ after_text steps)
-    ++ (result_lines results values ++ line (grove_text grove))
+-- `ended after K steps`, the results, and the text of the grove
+abbrev pub ended_with : ℕ → List ProgVar → List Value → List ℕ → List ℕ
+ended_with steps results values text =
+    line (codes "ended" ++ after_text steps) ++ (result_lines results values ++ line text)
 
--- the same with the roots by rising node number
+-- the same with the grove's own text, its roots by rising node number
 abbrev pub ended_lines : ℕ → List ProgVar → List Value → Trees → List ℕ
-ended_lines steps results values grove = ended_with steps results values (sorted_roots grove)
+ended_lines steps results values grove =
+    ended_with steps results values (grove_text (sorted_roots grove))
