@@ -11,11 +11,16 @@ use crate::terms::{LogicVar, ProgVar};
 use crate::text::Text;
 use crate::values::Value;
 
-/// Whether the texts have the same bytes.
+/// Whether the texts have the same bytes. Most names that differ differ in length or in their last
+/// byte.
 pub fn same_text(left: &Text, right: &Text) -> bool
     ensures { result ≡ bytes_eq left.now right.now }
 {
-    left.as_str() == right.as_str()
+    let (left, right) = (left.as_str().as_bytes(), right.as_str().as_bytes());
+    if left.len() != right.len() || left.last() != right.last() {
+        return false;
+    }
+    left == right
 }
 
 /// Whether the sorts of values are the same.
