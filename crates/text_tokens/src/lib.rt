@@ -4,6 +4,8 @@
 //! Stands on the types of terms, on the definition of tokens and on the Unicode tables.
 #![tactic(auto)]
 
+mod fronts;
+mod lexemes;
 mod limits;
 mod lines;
 mod literals;
@@ -15,8 +17,11 @@ mod reserved;
 mod symbols;
 mod tokens;
 mod words;
+mod written;
 
-pub use limits::token_limit;
+pub use fronts::Front;
+pub use lexemes::Lexeme;
+pub use limits::{front_limit, token_limit};
 pub use numbers::number_value;
 pub use reading::token_list;
 pub use reserved::is_reserved;

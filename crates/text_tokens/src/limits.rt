@@ -1,13 +1,15 @@
 // The first token that passes a limit.
-ghost use Rattle.std.specs.Prelude.{◌≡◌, ◌<◌, map};
-ghost use Rattle.model_text.specs.Lexemes.{terminal, lexeme_of};
+ghost use Rattle.std.specs.Prelude.{◌≡◌, ◌<◌, length};
+ghost use Rattle.model_text.specs.Lexemes.{terminal};
 ghost use Rattle.model_text.specs.Nesting as model;
 ghost use Rattle.dom_terms.specs.Limits.{NamesLimit};
-ghost use Rattle.text_tokens.specs.Tokens.{token_of};
-ghost use Rattle.text_tokens.specs.Lexemes.{lexemes_in};
+ghost use Rattle.text_tokens.specs.Lexemes.{lexeme_seen, listed, lexemes_in};
 
+use crate::fronts::Front;
+use crate::lexemes::Lexeme;
 use crate::reserved::is_same;
-use crate::tokens::{Token, TokenKind, Tokens};
+use crate::tokens::{TokenKind, Tokens};
+use crate::written::is_written_within;
 use dom_terms::LimitKind;
 use dom_terms::limits::TEXT_BYTES;
 
@@ -27,17 +29,16 @@ fn closes(text: &str) -> bool
 
 // How many brackets are open behind the token, where so many are open before it.
 #[tactic(auto, using(crate::proofs::BracketLemmas::brackets))]
-fn open_behind(before: u64, token: &Token) -> u64
+fn open_behind(before: u64, token: Lexeme) -> u64
     requires { before < 4_294_967_296 }
-    ensures { result ≡ model.open_behind before (lexeme_of (token_of token.now)) }
+    ensures { result ≡ model.open_behind before (lexeme_seen token.entry) }
 {
     if token.kind != TokenKind::Symbol {
         return before;
     }
-    let text = token.text.as_str();
-    if opens(text) {
+    if opens(token.text) {
         before + 1
-    } else if closes(text) {
+    } else if closes(token.text) {
         before.saturating_sub(1)
     } else {
         before
@@ -45,23 +46,25 @@ fn open_behind(before: u64, token: &Token) -> u64
 }
 
 // Whether a literal stands for no longer text than the most.
-fn is_text_within(token: &Token) -> bool
-    ensures { result ≡ model.text_within (lexeme_of (token_of token.now)) }
+fn is_text_within(token: Lexeme) -> bool
+    ensures { result ≡ model.text_within (lexeme_seen token.entry) }
 {
-    match token.literal() {
-        Some(text) => text.len() <= TEXT_BYTES,
-        None => true,
+    match token.kind {
+        TokenKind::Literal if token.is_written => is_written_within(token.text.as_bytes()),
+        TokenKind::Literal => token.text.len() <= TEXT_BYTES,
+        _ => true,
     }
 }
 
 /// The limit that the first token passes that passes one: Nesting where more brackets are open at
 /// it than the most, and Text where it is a literal for a text of more than 4,096 bytes. None comes
 /// exactly where no token passes one.
-pub fn token_limit(tokens: &Tokens, nesting: u32) -> Option<LimitKind>
-    ensures { NamesLimit result (model.token_limit nesting 0 (lexemes_in tokens.now)) }
+pub fn front_limit(tokens: Front, nesting: u32) -> Option<LimitKind>
+    ensures { NamesLimit result (model.token_limit nesting 0 (lexemes_in tokens.entry)) }
 {
     let mut open = 0u64;
-    for token in tokens.as_slice() {
+    let mut left = tokens;
+    while let Some((token, rest)) = left.split_first() {
         open = open_behind(open, token);
         if open > u64::from(nesting) {
             return Some(LimitKind::Nesting);
@@ -69,6 +72,15 @@ pub fn token_limit(tokens: &Tokens, nesting: u32) -> Option<LimitKind>
         if !is_text_within(token) {
             return Some(LimitKind::Text);
         }
+        left = rest;
     }
     None
+}
+
+/// The same for the tokens of a list.
+#[tactic(auto, unfolding(crate::specs::Lexemes::lexemes_in))]
+pub fn token_limit(tokens: &Tokens, nesting: u32) -> Option<LimitKind>
+    ensures { NamesLimit result (model.token_limit nesting 0 (listed tokens.now)) }
+{
+    front_limit(Front::Listed(tokens.as_slice()), nesting)
 }

@@ -1,0 +1,85 @@
+// The tokens that are left to a reader.
+ghost use Rattle.std.specs.Prelude.{◌≡◌, [], ◌∷◌, length, drop, MatchOption, IsTrue, ◌↔◌};
+ghost use Rattle.text_tokens.specs.Lexemes.{lexeme_seen, listed, lexemes_in};
+
+use crate::lexemes::Lexeme;
+use crate::tokens::Token;
+
+// The first token of a list, if there is one.
+fn first_listed(tokens: &[Token]) -> Option<Lexeme>
+    ensures { MatchOption result (listed tokens.now ≡ [])
+        (λ first. listed tokens.now ≡ lexeme_seen first ∷ drop 1 (listed tokens.now)) }
+{
+    match tokens {
+        [first, ..] => Some(first.seen()),
+        [] => None,
+    }
+}
+
+// The tokens of a list but the first.
+fn behind_listed(tokens: &[Token]) -> &[Token]
+    ensures { listed result.now ≡ drop 1 (listed tokens.now) }
+{
+    match tokens {
+        [_, rest @ ..] => rest,
+        [] => tokens,
+    }
+}
+
+/// The tokens that are left to a reader, as the grammar sees them: those of a list.
+#[derive(Clone, Copy)]
+pub enum Front<'a> {
+    /// Those of a list.
+    Listed(&'a [Token]),
+}
+
+impl<'a> Front<'a> {
+    /// The first token: none exactly where none is left.
+    #[tactic(auto, unfolding(crate::specs::Lexemes::lexemes_in))]
+    pub fn first(self) -> Option<Lexeme<'a>>
+        ensures { MatchOption result (lexemes_in self.entry ≡ [])
+            (λ first. lexemes_in self.entry ≡ lexeme_seen first ∷ drop 1 (lexemes_in self.entry)) }
+    {
+        match self {
+            Front::Listed(tokens) => first_listed(tokens),
+        }
+    }
+
+    /// The tokens behind the first.
+    #[tactic(auto, unfolding(crate::specs::Lexemes::lexemes_in))]
+    pub fn behind(self) -> Front<'a>
+        ensures { lexemes_in result ≡ drop 1 (lexemes_in self.entry) }
+    {
+        match self {
+            Front::Listed(tokens) => Front::Listed(behind_listed(tokens)),
+        }
+    }
+
+    /// The first token and those behind it: none exactly where none is left.
+    pub fn split_first(self) -> Option<(Lexeme<'a>, Front<'a>)>
+        ensures { MatchOption result (lexemes_in self.entry ≡ [])
+            (λ x. lexemes_in self.entry ≡ lexeme_seen x.0 ∷ lexemes_in x.1) }
+    {
+        match self.first() {
+            Some(first) => Some((first, self.behind())),
+            None => None,
+        }
+    }
+
+    /// Whether no token is left.
+    pub fn is_empty(self) -> bool
+        ensures { IsTrue result ↔ (lexemes_in self.entry ≡ []) }
+    {
+        self.first().is_none()
+    }
+
+    /// How many tokens are left. It reads them all.
+    #[tactic(auto, unfolding(crate::specs::Lexemes::lexemes_in))]
+    pub fn count(self) -> usize
+        ensures { result ≡ length (lexemes_in self.entry) }
+    {
+        match self {
+            Front::Listed(tokens) => tokens.len(),
+        }
+    }
+}
