@@ -2,7 +2,7 @@
 use Rattle.model_limits.specs.Limits.{standard_limits}
 use Rattle.std.specs.Prelude.{ℕ, nat_le, cond, List, Option, Some, None, codes}
 use Rattle.model_text.specs.Lexemes.{Lexeme, terminal, step_word, name_lexeme, number_lexeme, is_reserved}
-pub use Rattle.text_tokens.specs.Lexemes.{seen, lexemes_in}
+pub use Rattle.text_tokens.specs.Lexemes.{lexeme_seen, listed, lexemes_in}
 
 -- a name
 abbrev pub leaf_name : Lexeme → Option (List ℕ)

@@ -8,7 +8,7 @@ use crate::fault::ReadFault;
 use crate::terminals::after;
 use dom_terms::{Few, List, OutOfMemory};
 use std::alloc::Global;
-use text_tokens::Token;
+use text_tokens::Front;
 
 /// Something that reads an item at the front of a list of tokens.
 pub trait Reader<T> {
@@ -24,9 +24,9 @@ pub trait Reader<T> {
     ghost reading: { Self → Read Seen };
 
     /// The item and what stands behind it.
-    fn read<'a>(&self, alloc: Global, tokens: &'a [Token]) -> Result<(T, &'a [Token]), ReadFault>
-        ensures { Gives (λ x. (seen x.0, lexemes_in x.1.now)) result
-            (reading self.now (lexemes_in tokens.now)) };
+    fn read<'a>(&self, alloc: Global, tokens: Front<'a>) -> Result<(T, Front<'a>), ReadFault>
+        ensures { Gives (λ x. (seen x.0, lexemes_in x.1)) result
+            (reading self.now (lexemes_in tokens.entry)) };
 }
 
 /// A list that takes items at its end.
@@ -82,10 +82,10 @@ pub fn separated<'a, T: Drop, R: Reader<T>, L: Gathers<T>>(
     alloc: Global,
     reader: &R,
     mark: &str,
-    tokens: &'a [Token],
-) -> Result<(L, &'a [Token]), ReadFault>
-    ensures { Gives (λ x. (map R.seen (L.items x.0), lexemes_in x.1.now)) result
-        (sep_list mark.now (R.reading reader.now) u32.MAX (lexemes_in tokens.now)) }
+    tokens: Front<'a>,
+) -> Result<(L, Front<'a>), ReadFault>
+    ensures { Gives (λ x. (map R.seen (L.items x.0), lexemes_in x.1)) result
+        (sep_list mark.now (R.reading reader.now) u32.MAX (lexemes_in tokens.entry)) }
 {
     let mut found = L::empty(alloc);
     let mut rest = tokens;
@@ -106,11 +106,11 @@ pub fn repeated<'a, T: Drop, R: Reader<T>, L: Gathers<T>>(
     reader: &R,
     word: &str,
     before: L,
-    tokens: &'a [Token],
-) -> Result<(L, &'a [Token]), ReadFault>
-    ensures { Gives (λ x. (map R.seen (L.items x.0), lexemes_in x.1.now)) result
+    tokens: Front<'a>,
+) -> Result<(L, Front<'a>), ReadFault>
+    ensures { Gives (λ x. (map R.seen (L.items x.0), lexemes_in x.1)) result
         (with_front (map R.seen (L.items before)) (many (the_terminal word.now)
-        (λ _. R.reading reader.now) u32.MAX (lexemes_in tokens.now))) }
+        (λ _. R.reading reader.now) u32.MAX (lexemes_in tokens.entry))) }
 {
     let mut found = before;
     let mut rest = tokens;

@@ -12,15 +12,15 @@ returns-in_err-item-in-Some g c =
     rw (p.1, p.2) (many_breaks (the_terminal c.args.word.now)
     (λ x. g.R.Reader.reading c.args.reader.now) c.in_err-item-in-Some.field-0.0
     (map g.R.Reader.seen (g.L.Gathers.items c.loop.found)) 4294967295 c.loop.counter _ true _ _
-    c.loop-test.true (first_after c.args.word.now (lexemes_in c.loop.rest.now)
-    (Some (lexemes_in c.in-Some.behind.now)) c.in-Some.ensures) c.in_err-item-in-Some.ensures
+    c.loop-test.true (first_after c.args.word.now (lexemes_in c.loop.rest)
+    (Some (lexemes_in c.in-Some.behind)) c.in-Some.ensures) c.in_err-item-in-Some.ensures
     c.loop.invariant)
 
 pub returns-in-None : goal.returns-in-None
 returns-in-None g c =
     many_done (the_terminal c.args.word.now) (λ x. g.R.Reader.reading c.args.reader.now)
     (map g.R.Reader.seen (g.L.Gathers.items c.loop.found)) 4294967295 c.loop.counter _ _
-    c.loop-test.true (first_after c.args.word.now (lexemes_in c.loop.rest.now) None
+    c.loop-test.true (first_after c.args.word.now (lexemes_in c.loop.rest) None
     c.in-None.ensures) c.loop.invariant
 
 pub loop-preserved : goal.loop-preserved
@@ -32,6 +32,6 @@ loop-preserved g c =
     (map_push _ (g.L.Gathers.items c.loop.found) c.in_ok-item-in-Some.item) in
     rw e (many_goes_on (the_terminal c.args.word.now) (λ x. g.R.Reader.reading c.args.reader.now)
     (map g.R.Reader.seen (g.L.Gathers.items c.loop.found)) 4294967295 c.loop.counter _ true _ _ _ _
-    c.loop-test.true (first_after c.args.word.now (lexemes_in c.loop.rest.now)
-    (Some (lexemes_in c.in-Some.behind.now)) c.in-Some.ensures) c.in_ok-item-in-Some.ensures
+    c.loop-test.true (first_after c.args.word.now (lexemes_in c.loop.rest)
+    (Some (lexemes_in c.in-Some.behind)) c.in-Some.ensures) c.in_ok-item-in-Some.ensures
     c.loop.invariant)
