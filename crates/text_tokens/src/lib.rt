@@ -4,6 +4,7 @@
 //! Stands on the types of terms, on the definition of tokens and on the Unicode tables.
 #![tactic(auto)]
 
+mod letters;
 mod limits;
 mod lines;
 mod literals;
