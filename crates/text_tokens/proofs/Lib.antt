@@ -1,4 +1,5 @@
 pub mod LexemeLemmas
+pub mod LetterLemmas
 pub mod LineLemmas
 pub mod NumberLemmas
 pub mod PositionLemmas

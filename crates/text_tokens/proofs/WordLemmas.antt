@@ -7,7 +7,7 @@ use Rattle.std.specs.List.{list_all, prefix_len}
 use Rattle.unicode_ident.specs.Ident.{is_xid_continue}
 use Rattle.unicode_ident.proofs.IdentLemmas.{is_xid_start-ascii}
 use Rattle.model_text.specs.Tokens.{TokenKind, word_token, logic_token, literal_token, symbol_token, symbols, longest_at_front, starts_word, word_length, logic_length, literal_end, literal_length, Piece, token_piece, no_piece, piece_length, longer_token, longest_token}
-use Rattle.text_tokens.proofs.SymbolLemmas.{letter_begins_none, no_length}
+use Rattle.text_tokens.proofs.SymbolLemmas.{letter_begins_none, none_from}
 
 -- a letter is no other character
 is_other : (c k : ℕ) → is_ascii_alphabetic c ≡ true → is_ascii_alphabetic k ≡ false
@@ -53,30 +53,15 @@ abbrev begins_only_symbols : ℕ → Bool
 begins_only_symbols c = (c == 111) || (nat_lt c 128 && (not (is_ascii_alphabetic c)
     && (not (c == 95) && (not (c == 34) && not (c == 36)))))
 
-abbrev begins_so : List ℕ → Bool
-begins_so [] = true
-begins_so (c ∷ symbol) = begins_only_symbols c
-
--- where one of the symbols stands at the front, one of them begins with the character
-first_of_symbol : (c : ℕ) (rest : List ℕ) (all : List (List ℕ)) → list_all begins_so all ≡ true
-    → 0 < longest_at_front all (c ∷ rest) → begins_only_symbols c ≡ true
-first_of_symbol c rest [] h some = absurd (omega (arith, some))
-first_of_symbol c rest ([] ∷ all) h some =
-    first_of_symbol c rest all h (omega (arith, some))
-first_of_symbol c rest ((x ∷ symbol) ∷ all) h some =
-    let parts = and_parts (begins_only_symbols x) (list_all begins_so all) h in
-    by_test (nat_eq x c) refl parts.0 (first_of_symbol c rest all parts.1)
-  where
-    by_test : (b : Bool) → nat_eq x c ≡ b → begins_only_symbols x ≡ true
-        → (0 < longest_at_front all (c ∷ rest) → begins_only_symbols c ≡ true)
-        → begins_only_symbols c ≡ true
-    by_test true e so others = ap begins_only_symbols (sym (eqb-true x c e)) ∙ so
-    by_test false e so others = others (omega (arith, some, no_length c x rest symbol e))
-
 begins_symbol : (c : ℕ) (rest : List ℕ) → 0 < longest_at_front symbols (c ∷ rest)
     → begins_only_symbols c ≡ true
 unfolding symbols
-begins_symbol c rest some = first_of_symbol c rest symbols refl some
+begins_symbol c rest some = by_test (begins_only_symbols c) refl
+  where
+    by_test : (b : Bool) → begins_only_symbols c ≡ b → begins_only_symbols c ≡ true
+    by_test true e = e
+    by_test false e =
+        absurd (omega (arith, some, none_from begins_only_symbols c e symbols refl rest))
 
 -- it begins no word, literal or logic name
 only_symbol : (c : ℕ) (rest : List ℕ) → begins_only_symbols c ≡ true → (c ≡ 111 → ⊥)

@@ -1,13 +1,8 @@
--- How a symbol begins; nothing here is to be believed.
-use Rattle.std.specs.Prelude.{ℕ, Bool, true, false, not, ◌||◌, List, [], ◌∷◌, nat_eq}
-use Rattle.std.specs.Char.{is_ascii_alphabetic}
+-- How a symbol goes on; nothing here is to be believed.
+use Rattle.std.specs.Prelude.{ℕ, Bool, false, List, [], ◌∷◌, nat_eq}
+use Rattle.std.specs.List.{list_any}
 
--- whether the symbol begins with the character
-abbrev pub begins_with : ℕ → List ℕ → Bool
-begins_with first [] = false
-begins_with first (c ∷ symbol) = nat_eq c first
-
--- whether the symbol begins with no letter but o
-abbrev pub begins_no_word : List ℕ → Bool
-begins_no_word [] = true
-begins_no_word (c ∷ symbol) = not (is_ascii_alphabetic c) || nat_eq c 111
+-- whether one of the marks stands at the front of the text
+abbrev pub comes_next : List ℕ → List ℕ → Bool
+comes_next marks [] = false
+comes_next marks (next ∷ rest) = list_any (λ mark. nat_eq mark next) marks

@@ -5,6 +5,7 @@
 #![tactic(auto)]
 
 mod fronts;
+mod letters;
 mod lexemes;
 mod limits;
 mod lines;

@@ -1,7 +1,8 @@
 // The text literal at the front of a text, and the text that it stands for.
-ghost use Rattle.std.specs.Prelude.{◌≡◌, ◌+◌, ◌≤◌, ◌++◌, false, length, encode_utf8_all, OnOk};
+ghost use Rattle.std.specs.Prelude.{◌≡◌, ◌+◌, ◌≤◌, ◌++◌, false, length, drop, map, encode_utf8_all, OnOk};
 ghost use Rattle.model_text.specs.Tokens.{is_escape, literal_end, literal_length, unescaped};
 
+use crate::letters::Letter;
 use dom_terms::{OutOfMemory, Text};
 
 /// Whether the character may stand after a backslash.
@@ -11,56 +12,58 @@ fn is_escape(character: char) -> bool
     character == '"' || character == '\\' || character == 'n'
 }
 
-/// How many characters a literal has that goes on with the text after its first quote; 0 where it
-/// isn't finished, has a raw newline or another escape.
-fn literal_end(rest: &[char]) -> usize
-    ensures value { result ≡ literal_end false 1 rest.now }
-    ensures within { result ≤ 1 + length rest.now }
+/// How many characters the literal has whose first quote begins the text; 0 where it isn't
+/// finished, has a raw newline or another escape.
+fn literal_end<C: Letter>(text: &[C]) -> usize
+    ensures value { result ≡ literal_end false 1 (map C.code (drop 1 text.now)) }
+    ensures within { result ≤ length text.now }
 {
     let mut escaped = false;
-    for (place, character) in rest.iter().enumerate() {
+    for place in 1..text.len() {
+        let character = text[place].character();
         if escaped {
-            if !is_escape(*character) {
+            if !is_escape(character) {
                 return 0;
             }
             escaped = false;
-        } else if *character == '"' {
-            return place + 2;
-        } else if *character == '\n' {
+        } else if character == '"' {
+            return place + 1;
+        } else if character == '\n' {
             return 0;
         } else {
-            escaped = *character == '\\';
+            escaped = character == '\\';
         }
     }
     0
 }
 
 /// How many characters the literal at the front of the text has; 0 where none stands there.
-pub fn literal_length(text: &[char]) -> usize
-    ensures value { result ≡ literal_length text.now }
+pub fn literal_length<C: Letter>(text: &[C]) -> usize
+    ensures value { result ≡ literal_length (map C.code text.now) }
     ensures within { result ≤ length text.now }
 {
     match text {
-        ['"', rest @ ..] => literal_end(rest),
+        [first, ..] if first.character() == '"' => literal_end(text),
         _ => 0,
     }
 }
 
 /// Puts what the characters between the quotes of a literal stand for at the end of the text.
-pub fn unescape(inside: &[char], text: &mut Text) -> Result<(), OutOfMemory>
+pub fn unescape<C: Letter>(inside: &[C], text: &mut Text) -> Result<(), OutOfMemory>
     ensures { OnOk result
-        (text.new ≡ text.old ++ encode_utf8_all (unescaped false inside.now)) }
+        (text.new ≡ text.old ++ encode_utf8_all (unescaped false (map C.code inside.now))) }
 {
     let mut escaped = false;
-    for character in inside {
-        if *character == '\\' && !escaped {
+    for letter in inside {
+        let character = letter.character();
+        if character == '\\' && !escaped {
             escaped = true;
             continue;
         }
-        let meant = if escaped && *character == 'n' {
+        let meant = if escaped && character == 'n' {
             '\n'
         } else {
-            *character
+            character
         };
         text.push(meant)?;
         escaped = false;
@@ -69,11 +72,11 @@ pub fn unescape(inside: &[char], text: &mut Text) -> Result<(), OutOfMemory>
 }
 
 /// Puts the characters at the end of the text.
-pub fn spell(characters: &[char], text: &mut Text) -> Result<(), OutOfMemory>
-    ensures { OnOk result (text.new ≡ text.old ++ encode_utf8_all characters.now) }
+pub fn spell<C: Letter>(letters: &[C], text: &mut Text) -> Result<(), OutOfMemory>
+    ensures { OnOk result (text.new ≡ text.old ++ encode_utf8_all (map C.code letters.now)) }
 {
-    for character in characters {
-        text.push(*character)?;
+    for letter in letters {
+        text.push(letter.character())?;
     }
     Ok(())
 }

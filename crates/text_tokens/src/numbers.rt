@@ -1,18 +1,20 @@
 // The digits at the front of a text, and the numbers that they write.
-ghost use Rattle.std.specs.Prelude.{◌≡◌, ◌≤◌, if◌then◌else◌};
+ghost use Rattle.std.specs.Prelude.{◌≡◌, ◌≤◌, map, if◌then◌else◌};
 ghost use Rattle.std.specs.Str.Parse.{digits_value};
 ghost use Rattle.model_text.specs.Tokens.{leading_zero, digits_fit, is_number};
 ghost use Rattle.text_tokens.specs.Digits.{with_digit};
+
+use crate::letters::Letter;
 
 /// The greatest number.
 const GREATEST: u64 = 9_223_372_036_854_775_807;
 
 /// Whether a 0 stands before another character.
-fn leading_zero(run: &[char]) -> bool
-    ensures { result ≡ leading_zero run.now }
+fn leading_zero<C: Letter>(run: &[C]) -> bool
+    ensures { result ≡ leading_zero (map C.code run.now) }
 {
     match run {
-        [first, _, ..] => *first == '0',
+        [first, _, ..] => first.character() == '0',
         _ => false,
     }
 }
@@ -34,12 +36,12 @@ fn with_digit(value: u64, code: u32) -> Option<u64>
 }
 
 /// Whether these are digits, and the number that they write is at most the greatest.
-fn digits_fit(run: &[char]) -> bool
-    ensures { result ≡ digits_fit run.now }
+fn digits_fit<C: Letter>(run: &[C]) -> bool
+    ensures { result ≡ digits_fit (map C.code run.now) }
 {
     let mut value = 0;
-    for character in run {
-        let Some(next) = with_digit(value, *character as u32) else {
+    for letter in run {
+        let Some(next) = with_digit(value, letter.character() as u32) else {
             return false;
         };
         value = next;
@@ -59,8 +61,8 @@ pub fn number_value(digits: &[u8]) -> Option<u64>
 }
 
 /// Whether the run is a number.
-pub fn is_number(run: &[char]) -> bool
-    ensures { result ≡ is_number run.now }
+pub fn is_number<C: Letter>(run: &[C]) -> bool
+    ensures { result ≡ is_number (map C.code run.now) }
 {
     !leading_zero(run) && digits_fit(run)
 }

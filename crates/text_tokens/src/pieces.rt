@@ -1,9 +1,10 @@
 // What stands at the front of a text: a gap, a token or neither.
-ghost use Rattle.std.specs.Prelude.{◌≡◌};
+ghost use Rattle.std.specs.Prelude.{◌≡◌, ◌||◌, map, bytes_eq, codes};
 ghost use Rattle.model_text.specs.Tokens.{is_blank, digits_piece, longer_token, longest_token, piece_at, piece_length};
 ghost use Rattle.text_tokens.specs.Pieces.{piece_of};
 ghost use Rattle.text_tokens.specs.Tokens.{kind_of};
 
+use crate::letters::Letter;
 use crate::literals::literal_length;
 use crate::numbers::is_number;
 use crate::symbols::symbol_length;
@@ -23,6 +24,7 @@ pub enum Piece {
 
 impl Piece {
     /// How many characters the piece has.
+    #[inline(always)]
     pub fn len(self) -> usize
         ensures { result ≡ piece_length (piece_of self) }
     {
@@ -34,17 +36,31 @@ impl Piece {
 }
 
 /// Whether the character only separates tokens.
+#[inline(always)]
 fn is_blank(character: char) -> bool
     ensures { result ≡ is_blank character }
 {
     character == ' ' || character == '\t' || character == '\r' || character == '\n'
 }
 
-/// The token that the run is, of digits and characters of XID_Continue.
-fn digits_piece(run: &[char]) -> Piece
-    ensures { piece_of result ≡ digits_piece run.now }
+/// Whether the run is `0f` or `0g`.
+fn is_empty_shape<C: Letter>(run: &[C]) -> bool
+    ensures { result ≡ (bytes_eq (map C.code run.now) (codes "0f")
+        || bytes_eq (map C.code run.now) (codes "0g")) }
 {
-    if run == ['0', 'f'].as_slice() || run == ['0', 'g'].as_slice() {
+    match run {
+        [zero, shape] => {
+            zero.character() == '0' && (shape.character() == 'f' || shape.character() == 'g')
+        }
+        _ => false,
+    }
+}
+
+/// The token that the run is, of digits and characters of XID_Continue.
+fn digits_piece<C: Letter>(run: &[C]) -> Piece
+    ensures { piece_of result ≡ digits_piece (map C.code run.now) }
+{
+    if is_empty_shape(run) {
         Piece::Token(TokenKind::Symbol, run.len())
     } else if is_number(run) {
         Piece::Token(TokenKind::Number, run.len())
@@ -54,6 +70,7 @@ fn digits_piece(run: &[char]) -> Piece
 }
 
 /// A token of the kind and the length, if it is longer than the other piece.
+#[inline(always)]
 fn longer_token(kind: TokenKind, length: usize, other: Piece) -> Piece
     ensures { piece_of result ≡ longer_token (kind_of kind) length (piece_of other) }
 {
@@ -66,12 +83,12 @@ fn longer_token(kind: TokenKind, length: usize, other: Piece) -> Piece
 
 /// The longest token at the front of a text that begins with no digit. A letter but `o` begins
 /// nothing but a word, and another character that begins a symbol nothing else.
-fn longest_token(text: &[char]) -> Piece
-    ensures { piece_of result ≡ longest_token text.now }
+fn longest_token<C: Letter>(text: &[C]) -> Piece
+    ensures { piece_of result ≡ longest_token (map C.code text.now) }
 {
     if let [first, ..] = text
-        && first.is_ascii_alphabetic()
-        && *first != 'o'
+        && first.character().is_ascii_alphabetic()
+        && first.character() != 'o'
     {
         return longer_token(TokenKind::Word, word_length(text), Piece::Nothing);
     }
@@ -79,7 +96,7 @@ fn longest_token(text: &[char]) -> Piece
     let symbol = longer_token(TokenKind::Symbol, length, Piece::Nothing);
     if let [first, ..] = text
         && length > 0
-        && *first != 'o'
+        && first.character() != 'o'
     {
         return symbol;
     }
@@ -90,14 +107,18 @@ fn longest_token(text: &[char]) -> Piece
 
 /// What stands at the front of the text.
 #[tactic(auto, unfolding(model_text::specs::Tokens::piece_at))]
-pub fn piece_at(text: &[char]) -> Piece
-    ensures { piece_of result ≡ piece_at text.now }
+pub fn piece_at<C: Letter>(text: &[C]) -> Piece
+    ensures { piece_of result ≡ piece_at (map C.code text.now) }
 {
     match text {
         [] => Piece::Nothing,
-        [first, ..] if is_blank(*first) => Piece::Gap(1),
-        ['/', '/', ..] => Piece::Gap(comment_length(text)),
-        [first, ..] if first.is_ascii_digit() => digits_piece(&text[..run_length(text)]),
+        [first, ..] if is_blank(first.character()) => Piece::Gap(1),
+        [first, second, ..] if first.character() == '/' && second.character() == '/' => {
+            Piece::Gap(comment_length(text))
+        }
+        [first, ..] if first.character().is_ascii_digit() => {
+            digits_piece(&text[..run_length(text)])
+        }
         _ => longest_token(text),
     }
 }

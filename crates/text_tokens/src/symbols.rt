@@ -1,115 +1,79 @@
 // The symbol at the front of a text.
-ghost use Rattle.std.specs.Prelude.{◌≡◌, ℕ, List, ◌∷◌, map, length};
-ghost use Rattle.model_text.specs.Tokens.{symbols, length_at_front, longest_at_front};
+ghost use Rattle.std.specs.Prelude.{◌≡◌, ◌∷◌, [], ◌&&◌, map, drop, if◌then◌else◌};
+ghost use Rattle.model_text.specs.Tokens.{symbols, longest_at_front};
+ghost use Rattle.text_tokens.specs.Symbols.{comes_next};
 
-/// The symbols that begin with no digit.
-const SYMBOLS: [&[char]; 35] = [
-    &['('],
-    &[')'],
-    &['['],
-    &[']'],
-    &['{'],
-    &['}'],
-    &['<'],
-    &['>'],
-    &[','],
-    &[';'],
-    &[':'],
-    &['.'],
-    &[':', '='],
-    &['='],
-    &['<', '='],
-    &['#'],
-    &['%'],
-    &['+'],
-    &['+', '+'],
-    &['-'],
-    &['-', 'o'],
-    &['-', '>'],
-    &['*'],
-    &['.', '*'],
-    &['*', '.'],
-    &['.', '+'],
-    &['@', 't'],
-    &['@', 'f'],
-    &['@', 'g'],
-    &['o', '-', 't'],
-    &['o', '-', 'f'],
-    &['o', '-', 'g'],
-    &['?', 't'],
-    &['?', 'f'],
-    &['?', 'g'],
-];
+use crate::letters::Letter;
 
-/// The symbols that decide which one stands at the front of a text that begins with the character:
-/// those that begin with it, and all for one that is rare and begins none.
-fn symbols_from(first: char) -> &'static [&'static [char]]
-    ensures { (rest : List ℕ) → longest_at_front (map (λ s. s.now) result.now) (first ∷ rest)
-        ≡ longest_at_front symbols (first ∷ rest) }
+/// The characters that end a symbol for a tree, a forest or a grove.
+const SHAPES: [char; 3] = ['t', 'f', 'g'];
+
+/// Whether one of the marks stands at the front of the text.
+#[inline(always)]
+fn comes_next<C: Letter>(marks: &[char], text: &[C]) -> bool
+    ensures { result ≡ comes_next marks.now (map C.code text.now) }
 {
-    if first.is_ascii_alphabetic() && first != 'o' {
-        return &[];
-    }
-    match first {
-        '(' => &[&['(']],
-        ')' => &[&[')']],
-        '[' => &[&['[']],
-        ']' => &[&[']']],
-        '{' => &[&['{']],
-        '}' => &[&['}']],
-        '<' => &[&['<'], &['<', '=']],
-        '>' => &[&['>']],
-        ',' => &[&[',']],
-        ';' => &[&[';']],
-        ':' => &[&[':'], &[':', '=']],
-        '.' => &[&['.'], &['.', '*'], &['.', '+']],
-        '=' => &[&['=']],
-        '#' => &[&['#']],
-        '%' => &[&['%']],
-        '+' => &[&['+'], &['+', '+']],
-        '-' => &[&['-'], &['-', 'o'], &['-', '>']],
-        '*' => &[&['*'], &['*', '.']],
-        '@' => &[&['@', 't'], &['@', 'f'], &['@', 'g']],
-        'o' => &[&['o', '-', 't'], &['o', '-', 'f'], &['o', '-', 'g']],
-        '?' => &[&['?', 't'], &['?', 'f'], &['?', 'g']],
-        '$' => &[],
-        '"' => &[],
-        _ => &SYMBOLS,
+    match text {
+        [next, ..] => marks.contains(&next.character()),
+        [] => false,
     }
 }
 
-/// The length of the symbol, if it stands at the front of the text.
-fn length_at_front(text: &[char], symbol: &[char]) -> usize
-    ensures { result ≡ length_at_front text.now symbol.now }
+/// The length of a symbol of one character, or of two where one of the marks comes next.
+#[inline(always)]
+fn one_or_two<C: Letter>(marks: &[char], rest: &[C]) -> usize
+    ensures { result ≡ (if comes_next marks.now (map C.code rest.now) then 2 else 1) }
 {
-    match (text, symbol) {
-        ([first, ..], [wanted, ..]) if *first != *wanted => 0,
-        ([_, ..], [_]) => 1,
-        _ if text.starts_with(symbol) => symbol.len(),
+    if comes_next(marks, rest) { 2 } else { 1 }
+}
+
+/// The length of a symbol of two characters, whose second is that of a shape.
+#[inline(always)]
+fn none_or_two<C: Letter>(rest: &[C]) -> usize
+    ensures { result ≡ (if comes_next SHAPES (map C.code rest.now) then 2 else 0) }
+{
+    if comes_next(&SHAPES, rest) { 2 } else { 0 }
+}
+
+/// The length of a symbol of three characters, whose second is `-` and whose third that of a shape.
+fn none_or_three<C: Letter>(rest: &[C]) -> usize
+    ensures { result ≡ (if comes_next (45 ∷ []) (map C.code rest.now)
+        && comes_next SHAPES (drop 1 (map C.code rest.now)) then 3 else 0) }
+{
+    match rest {
+        [dash, behind @ ..] if dash.character() == '-' && comes_next(&SHAPES, behind) => 3,
         _ => 0,
     }
 }
 
-/// The length of the longest of the symbols that stands at the front of the text.
-fn longest_at_front(symbols: &[&[char]], text: &[char]) -> usize
-    ensures { result ≡ longest_at_front (map (λ s. s.now) symbols.now) text.now }
+/// The length of the longest symbol that begins with the character and goes on with the rest.
+#[inline]
+fn length_from<C: Letter>(first: char, rest: &[C]) -> usize
+    ensures { result ≡ longest_at_front symbols (first ∷ map C.code rest.now) }
 {
-    let mut longest = 0;
-    for symbol in symbols {
-        let length = length_at_front(text, symbol);
-        if length > longest {
-            longest = length;
-        }
+    match first {
+        '(' | '[' | '{' => 1,
+        ')' | ']' | '}' | '>' => 1,
+        ',' | ';' | '=' | '#' | '%' => 1,
+        '<' | ':' => one_or_two(&['='], rest),
+        '.' => one_or_two(&['*', '+'], rest),
+        '+' => one_or_two(&['+'], rest),
+        '-' => one_or_two(&['o', '>'], rest),
+        '*' => one_or_two(&['.'], rest),
+        '@' => none_or_two(rest),
+        '?' => none_or_two(rest),
+        'o' => none_or_three(rest),
+        _ => 0,
     }
-    longest
 }
 
 /// How many characters the longest symbol at the front of the text has; 0 where none stands there.
-pub fn symbol_length(text: &[char]) -> usize
-    ensures { result ≡ longest_at_front symbols text.now }
+#[inline]
+pub fn symbol_length<C: Letter>(text: &[C]) -> usize
+    ensures { result ≡ longest_at_front symbols (map C.code text.now) }
 {
     match text {
-        [first, ..] => longest_at_front(symbols_from(*first), text),
+        [first, rest @ ..] => length_from(first.character(), rest),
         [] => 0,
     }
 }

@@ -1,14 +1,15 @@
 // The words, logic names and comments at the front of a text.
-ghost use Rattle.std.specs.Prelude.{◌≡◌, ◌≤◌, not, ◌||◌, ◌==◌, length};
+ghost use Rattle.std.specs.Prelude.{◌≡◌, ◌≤◌, ℕ, Bool, not, ◌||◌, ◌==◌, length, map};
 ghost use Rattle.std.specs.Char.{is_ascii_digit};
 ghost use Rattle.std.specs.List.{prefix_len};
 ghost use Rattle.unicode_ident.specs.Ident.{is_xid_continue};
-ghost use Rattle.model_text.specs.Tokens.{comment_length, in_digit_run, starts_word, word_length, logic_length};
+ghost use Rattle.model_text.specs.Tokens.{newline, comment_length, in_digit_run, starts_word, word_length, logic_length};
 
+use crate::letters::Letter;
 use unicode_ident::{is_xid_continue, is_xid_start};
 
-// Whether the character has the property XID_Continue, found without the table where it is ASCII.
-fn continues_word(character: char) -> bool
+// The same of a character that is no ASCII letter, found without the table where it is ASCII.
+fn continues_word_otherwise(character: char) -> bool
     ensures { result ≡ is_xid_continue character }
 {
     if character.is_ascii() {
@@ -18,33 +19,92 @@ fn continues_word(character: char) -> bool
     }
 }
 
-// How many characters of XID_Continue stand at the front of the text.
-fn continued_length(text: &[char]) -> usize
-    ensures value { result ≡ prefix_len is_xid_continue text.now }
+// Whether the character has the property XID_Continue. Most that are asked for are ASCII letters.
+#[inline(always)]
+fn continues_word(character: char) -> bool
+    ensures { result ≡ is_xid_continue character }
+{
+    character.is_ascii_alphabetic() || continues_word_otherwise(character)
+}
+
+/// A test that characters at the front of a text pass.
+trait Test {
+    // whether the character of the code passes
+    ghost passes: { ℕ → Bool };
+
+    /// Whether the character passes.
+    fn passes(character: char) -> bool
+        ensures { result ≡ passes character };
+}
+
+/// The test of the characters of a word behind its first.
+struct InWord;
+
+impl Test for InWord {
+    ghost passes = { is_xid_continue };
+
+    #[inline(always)]
+    fn passes(character: char) -> bool {
+        continues_word(character)
+    }
+}
+
+/// The test of the characters of a run that a digit begins.
+struct InDigitRun;
+
+impl Test for InDigitRun {
+    ghost passes = { in_digit_run };
+
+    #[inline(always)]
+    fn passes(character: char) -> bool {
+        character.is_ascii_digit() || continues_word(character)
+    }
+}
+
+/// The test of the characters of a comment.
+struct InComment;
+
+impl Test for InComment {
+    ghost passes = { λ character. not (character == newline) };
+
+    #[inline(always)]
+    fn passes(character: char) -> bool {
+        character != '\n'
+    }
+}
+
+// How many characters that pass the test stand at the front of the text.
+#[inline(always)]
+fn passing_length<C: Letter, T: Test>(text: &[C]) -> usize
+    ensures value { result ≡ prefix_len T.passes (map C.code text.now) }
     ensures within { result ≤ length text.now }
 {
-    text.iter().take_while(|c| continues_word(**c)).count()
+    for (place, letter) in text.iter().enumerate() {
+        if !T::passes(letter.character()) {
+            return place;
+        }
+    }
+    text.len()
 }
 
 /// How many digits and characters of XID_Continue stand at the front of the text.
-pub fn run_length(text: &[char]) -> usize
-    ensures value { result ≡ prefix_len in_digit_run text.now }
+pub fn run_length<C: Letter>(text: &[C]) -> usize
+    ensures value { result ≡ prefix_len in_digit_run (map C.code text.now) }
     ensures within { result ≤ length text.now }
 {
-    text.iter()
-        .take_while(|c| c.is_ascii_digit() || continues_word(**c))
-        .count()
+    passing_length::<C, InDigitRun>(text)
 }
 
 /// How many characters stand before the next newline, or the end of the text.
-pub fn comment_length(text: &[char]) -> usize
-    ensures value { result ≡ comment_length text.now }
+pub fn comment_length<C: Letter>(text: &[C]) -> usize
+    ensures value { result ≡ comment_length (map C.code text.now) }
     ensures within { result ≤ length text.now }
 {
-    text.iter().take_while(|c| **c != '\n').count()
+    passing_length::<C, InComment>(text)
 }
 
 /// Whether a word may begin with the character.
+#[inline]
 fn starts_word(character: char) -> bool
     ensures { result ≡ starts_word character }
 {
@@ -56,23 +116,24 @@ fn starts_word(character: char) -> bool
 }
 
 /// How many characters the word at the front of the text has; 0 where none stands there.
-pub fn word_length(text: &[char]) -> usize
-    ensures value { result ≡ word_length text.now }
+#[inline]
+pub fn word_length<C: Letter>(text: &[C]) -> usize
+    ensures value { result ≡ word_length (map C.code text.now) }
     ensures within { result ≤ length text.now }
 {
     match text {
-        [first, rest @ ..] if starts_word(*first) => 1 + continued_length(rest),
+        [first, rest @ ..] if starts_word(first.character()) => 1 + passing_length::<C, InWord>(rest),
         _ => 0,
     }
 }
 
 /// How many characters the logic name at the front of the text has; 0 where none stands there.
-pub fn logic_length(text: &[char]) -> usize
-    ensures value { result ≡ logic_length text.now }
+pub fn logic_length<C: Letter>(text: &[C]) -> usize
+    ensures value { result ≡ logic_length (map C.code text.now) }
     ensures within { result ≤ length text.now }
 {
     match text {
-        ['$', rest @ ..] => {
+        [first, rest @ ..] if first.character() == '$' => {
             let word = word_length(rest);
             if word > 0 { 1 + word } else { 0 }
         }

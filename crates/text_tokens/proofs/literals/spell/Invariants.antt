@@ -1,8 +1,8 @@
-use Rattle.std.proofs.Common.{◌≡◌, ◌++◌, drop, encode_utf8_all}
+use Rattle.std.proofs.Common.{◌≡◌, ◌++◌, map, drop, encode_utf8_all}
 use Rattle.text_tokens.proofs.literals.spell.Given as goal
 
 -- with the characters that are left, the whole text
-abbrev pub invariant-loop-character : goal.invariant-loop-character
-invariant-loop-character l =
-    l.text ++ encode_utf8_all (drop l.character-index l.characters)
-    ≡ l.fn.text ++ encode_utf8_all l.characters
+abbrev pub invariant-loop-letter : goal.invariant-loop-letter
+invariant-loop-letter g l =
+    l.text ++ encode_utf8_all (map g.C.Letter.code (drop l.letter-index l.letters))
+    ≡ l.fn.text ++ encode_utf8_all (map g.C.Letter.code l.letters)

@@ -1,11 +1,12 @@
-use Rattle.std.proofs.Common.{◌≡◌, ◌≤◌, drop}
+use Rattle.std.proofs.Common.{◌≡◌, ◌≤◌, map, drop}
 use Rattle.model_text.specs.Tokens.{digits_fit}
 use Rattle.text_tokens.proofs.NumberLemmas.{fits_after}
 use Rattle.text_tokens.proofs.numbers.digits_fit.Given as goal
 
 -- the characters that are left decide, after a number that fits
-abbrev pub invariant-loop-character : goal.invariant-loop-character
-invariant-loop-character l = record {
-  left : fits_after l.value (drop l.character-index l.run) ≡ digits_fit l.run;
+abbrev pub invariant-loop-letter : goal.invariant-loop-letter
+invariant-loop-letter g l = record {
+  left : fits_after l.value (map g.C.Letter.code (drop l.letter-index l.run))
+      ≡ digits_fit (map g.C.Letter.code l.run);
   fits : l.value ≤ 9223372036854775807;
 }
