@@ -1,3 +1,4 @@
+pub mod AsciiLemmas
 pub mod LexemeLemmas
 pub mod LetterLemmas
 pub mod LineLemmas

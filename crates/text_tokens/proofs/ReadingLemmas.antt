@@ -52,7 +52,7 @@ fewer bytes text n k some within =
     (omega arith) (omega arith)
 
 -- after a gap
-left_gap : (bytes text : List ℕ) (n k : ℕ) → gap_piece k ≡ piece_at (drop n text) → 0 < k
+pub left_gap : (bytes text : List ℕ) (n k : ℕ) → gap_piece k ≡ piece_at (drop n text) → 0 < k
     → n + k ≤ length text → tokens_left bytes text n ≡ tokens_left bytes text (n + k)
 unfolding tokens_from
 left_gap bytes text n k e some within =
@@ -60,7 +60,7 @@ left_gap bytes text n k e some within =
     ∙ fewer bytes text n k some within
 
 -- after a token
-left_token : (bytes text : List ℕ) (n k : ℕ) (kind : TokenKind)
+pub left_token : (bytes text : List ℕ) (n k : ℕ) (kind : TokenKind)
     → token_piece kind k ≡ piece_at (drop n text) → 0 < k → n + k ≤ length text
     → tokens_left bytes text n
     ≡ token_from bytes text n kind k ∷ tokens_left bytes text (n + k)
@@ -70,7 +70,7 @@ left_token bytes text n k kind e some within =
     ∙ ap (λ ts. token_from bytes text n kind k ∷ ts) (fewer bytes text n k some within)
 
 -- where no token begins
-left_none : (bytes text : List ℕ) (n : ℕ) (b : Bool) → no_piece ≡ piece_at (drop n text)
+pub left_none : (bytes text : List ℕ) (n : ℕ) (b : Bool) → no_piece ≡ piece_at (drop n text)
     → (place_of text n == length bytes) ≡ b
     → tokens_left bytes text n ≡ (if b then [] else bad_token_at bytes text n ∷ [])
 unfolding tokens_from

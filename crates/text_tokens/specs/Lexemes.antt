@@ -1,23 +1,16 @@
 -- What the grammar sees of tokens of the program, and of the tokens that are left to a reader.
-use Rattle.std.specs.Prelude.{ℕ, Bool, List, map, cond, encode_utf8_all, false}
+use Rattle.std.specs.Prelude.{ℕ, Bool, List, cond, encode_utf8_all, false}
 use Rattle.model_text.specs.Tokens.{unescaped}
 use Rattle.model_text.specs.Lexemes as model
-use Rattle.model_text.specs.Lexemes.{lexeme_at, lexeme_of}
+use Rattle.model_text.specs.Lexemes.{lexeme_at}
 use Rattle.text_tokens.specs.declared.fronts.Front.{Front}
-use Rattle.text_tokens.specs.declared.fronts.Front.TheVariants.{Listed}
+use Rattle.text_tokens.specs.declared.fronts.Front.TheVariants.{Listed, Ascii}
 use Rattle.text_tokens.specs.declared.lexemes.Lexeme.{Lexeme}
-use Rattle.text_tokens.specs.declared.tokens.Token.{Token}
 use Rattle.text_tokens.specs.declared.tokens.TokenKind.{TokenKind}
 use Rattle.text_tokens.specs.declared.tokens.TokenKind.TheVariants.{Word, LogicName, Number, Literal, Symbol, Bad}
-use Rattle.text_tokens.specs.Tokens.{kind_of, token_of}
-
--- of one token
-abbrev pub seen : Token → model.Lexeme
-seen token = lexeme_of (token_of token)
-
--- and of a list of them
-abbrev pub listed : List Token → List model.Lexeme
-listed = map seen
+use Rattle.text_tokens.specs.Ascii.{left_at}
+use Rattle.text_tokens.specs.Tokens.{kind_of}
+pub use Rattle.text_tokens.specs.Listed.{seen, listed}
 
 -- the text of a token that is handed to a reader: for a literal that is written what it stands for
 abbrev pub meant : TokenKind → Bool → List ℕ → List ℕ
@@ -36,3 +29,4 @@ lexeme_seen x = lexeme_at (kind_of x.kind) (meant x.kind x.is_written x.text.now
 -- and of the tokens that are left to a reader
 unfoldable pub lexemes_in : Front → List model.Lexeme
 lexemes_in (Listed tokens) = listed tokens.now
+lexemes_in (Ascii front) = left_at front

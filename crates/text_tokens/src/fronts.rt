@@ -1,7 +1,10 @@
 // The tokens that are left to a reader.
-ghost use Rattle.std.specs.Prelude.{◌≡◌, [], ◌∷◌, length, drop, MatchOption, IsTrue, ◌↔◌};
+ghost use Rattle.std.specs.Prelude.{◌≡◌, [], ◌∷◌, ◌<◌, length, drop, MatchOption, IsTrue, ◌↔◌};
+ghost use Rattle.std.specs.Str.{IsNotAscii};
+ghost use Rattle.model_text.specs.Nesting.{lexemes_of};
 ghost use Rattle.text_tokens.specs.Lexemes.{lexeme_seen, listed, lexemes_in};
 
+use crate::ascii::AsciiFront;
 use crate::lexemes::Lexeme;
 use crate::tokens::Token;
 
@@ -26,14 +29,29 @@ fn behind_listed(tokens: &[Token]) -> &[Token]
     }
 }
 
-/// The tokens that are left to a reader, as the grammar sees them: those of a list.
+/// The tokens that are left to a reader, as the grammar sees them.
 #[derive(Clone, Copy)]
 pub enum Front<'a> {
     /// Those of a list.
     Listed(&'a [Token]),
+    /// Those of ASCII bytes, each read where it is asked for.
+    Ascii(AsciiFront<'a>),
 }
 
 impl<'a> Front<'a> {
+    /// The tokens of bytes: none exactly where these aren't ASCII.
+    #[tactic(auto, unfolding(crate::specs::Lexemes::lexemes_in))]
+    pub fn of_ascii(bytes: &'a [u8]) -> Option<Front<'a>>
+        requires { length bytes.now < 4294967295 }
+        ensures { MatchOption result (IsNotAscii bytes.now)
+            (λ front. lexemes_in front ≡ lexemes_of bytes.now) }
+    {
+        match AsciiFront::of_bytes(bytes) {
+            Some(front) => Some(Front::Ascii(front)),
+            None => None,
+        }
+    }
+
     /// The first token: none exactly where none is left.
     #[tactic(auto, unfolding(crate::specs::Lexemes::lexemes_in))]
     pub fn first(self) -> Option<Lexeme<'a>>
@@ -42,6 +60,7 @@ impl<'a> Front<'a> {
     {
         match self {
             Front::Listed(tokens) => first_listed(tokens),
+            Front::Ascii(front) => front.first(),
         }
     }
 
@@ -52,6 +71,7 @@ impl<'a> Front<'a> {
     {
         match self {
             Front::Listed(tokens) => Front::Listed(behind_listed(tokens)),
+            Front::Ascii(front) => Front::Ascii(front.behind()),
         }
     }
 
@@ -74,12 +94,15 @@ impl<'a> Front<'a> {
     }
 
     /// How many tokens are left. It reads them all.
-    #[tactic(auto, unfolding(crate::specs::Lexemes::lexemes_in))]
     pub fn count(self) -> usize
         ensures { result ≡ length (lexemes_in self.entry) }
     {
-        match self {
-            Front::Listed(tokens) => tokens.len(),
+        let mut left = self;
+        let mut found = 0;
+        while !left.is_empty() {
+            left = left.behind();
+            found += 1;
         }
+        found
     }
 }

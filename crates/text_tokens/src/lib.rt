@@ -4,6 +4,8 @@
 //! Stands on the types of terms, on the definition of tokens and on the Unicode tables.
 #![tactic(auto)]
 
+mod ascii;
+mod ascii_reading;
 mod fronts;
 mod letters;
 mod lexemes;
@@ -15,6 +17,8 @@ mod pieces;
 mod positions;
 mod reading;
 mod reserved;
+mod source_reading;
+mod sources;
 mod symbols;
 mod tokens;
 mod words;
@@ -26,4 +30,5 @@ pub use limits::{front_limit, token_limit};
 pub use numbers::number_value;
 pub use reading::token_list;
 pub use reserved::is_reserved;
+pub use sources::Source;
 pub use tokens::{Token, TokenKind, Tokens};

@@ -11,6 +11,7 @@ use crate::literals::{spell, unescape};
 use crate::pieces::{Piece, piece_at};
 use crate::positions::{Position, advanced, first_position};
 use crate::tokens::{Token, TokenKind, Tokens};
+use crate::written::between_quotes;
 use dom_terms::{OutOfMemory, Text};
 use std::alloc::Global;
 use std::str;
@@ -22,16 +23,6 @@ fn valid_prefix(bytes: &[u8]) -> &str
     match str::from_utf8(bytes) {
         Ok(text) => text,
         Err(fault) => str::from_utf8(&bytes[..fault.valid_up_to()]).unwrap(),
-    }
-}
-
-/// What stands between the quotes of a literal.
-fn between_quotes(own: &[char]) -> &[char]
-    ensures { result.now ≡ take (length own.now - 2) (drop 1 own.now) }
-{
-    match own {
-        [_, inside @ .., _] => inside,
-        _ => &[],
     }
 }
 

@@ -1,9 +1,19 @@
 // The texts that literals stand for, from those that are written.
-ghost use Rattle.std.specs.Prelude.{◌≡◌, ◌++◌, false, length, encode_utf8_all, nat_le, OnOk};
+ghost use Rattle.std.specs.Prelude.{◌≡◌, ◌-◌, ◌++◌, take, drop, false, length, encode_utf8_all, nat_le, OnOk};
 ghost use Rattle.model_text.specs.Tokens.{unescaped};
 
 use dom_terms::limits::TEXT_BYTES;
 use dom_terms::{OutOfMemory, Text};
+
+/// What stands between the quotes of a literal.
+pub fn between_quotes<C>(own: &[C]) -> &[C]
+    ensures { result.now ≡ take (length own.now - 2) (drop 1 own.now) }
+{
+    match own {
+        [_, inside @ .., _] => inside,
+        _ => &[],
+    }
+}
 
 /// Puts what the bytes between the quotes of a literal stand for at the end of the text, each as
 /// the character of its number.

@@ -1,0 +1,11 @@
+use Rattle.std.proofs.Common.{◌≡◌, sym, ◌∙◌}
+use Rattle.text_tokens.proofs.AsciiLemmas.{of_none, none_left, bad_first}
+use Rattle.text_tokens.proofs.ascii.AsciiFront.first.Goals as goal
+
+pub returns-in-None : goal.returns-in-None
+returns-in-None c =
+    none_left _ _ _ _ (of_none _ _ _ _ _ c.args.self.settled c.in-None.is) c.if-self.true
+
+pub returns-in-None-2 : goal.returns-in-None-2
+returns-in-None-2 c =
+    bad_first _ _ _ _ (of_none _ _ _ _ _ c.args.self.settled c.in-None-2.is) c.if-self.false
