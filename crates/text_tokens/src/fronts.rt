@@ -3,7 +3,7 @@ ghost use Rattle.std.specs.Prelude.{◌≡◌, [], ◌∷◌, length, drop, Matc
 ghost use Rattle.text_tokens.specs.Lexemes.{lexeme_seen, listed, lexemes_in};
 
 use crate::lexemes::Lexeme;
-use crate::tokens::Token;
+use crate::tokens::{Token, Tokens};
 
 // The first token of a list, if there is one.
 fn first_listed(tokens: &[Token]) -> Option<Lexeme>
@@ -34,6 +34,14 @@ pub enum Front<'a> {
 }
 
 impl<'a> Front<'a> {
+    /// The tokens of a list.
+    #[tactic(auto, unfolding(crate::specs::Lexemes::lexemes_in))]
+    pub fn of_list(tokens: &'a Tokens) -> Front<'a>
+        ensures { lexemes_in result ≡ listed tokens.now }
+    {
+        Front::Listed(tokens.as_slice())
+    }
+
     /// The first token: none exactly where none is left.
     #[tactic(auto, unfolding(crate::specs::Lexemes::lexemes_in))]
     pub fn first(self) -> Option<Lexeme<'a>>
