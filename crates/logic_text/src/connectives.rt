@@ -4,18 +4,18 @@ ghost use Rattle.std.specs.Option.{option_map};
 ghost use Rattle.formula_syntax.specs.Formulas.{formula_of};
 ghost use Rattle.token_readers.specs.Reading.{leaf, first};
 ghost use Rattle.token_readers.specs.Giving.{Gives};
-ghost use Rattle.token_readers.specs.Leaves.{seen, lexemes_in};
+ghost use Rattle.token_readers.specs.Leaves.{lexeme_seen, lexemes_in};
 ghost use Rattle.logic_text.specs.FormulaReaders.{leaf_word, leaf_joining, leaf_connective};
 ghost use Rattle.logic_text.specs.Operators.{connective_of};
 
 use dom_terms::DataSort;
 use formula_syntax::{Formula, Side};
-use text_tokens::Token;
+use text_tokens::{Front, Lexeme};
 use token_readers::{ReadFault, is_this};
 
 // A formula of one word.
-fn word_of(token: &Token) -> Option<Formula>
-    ensures { option_map formula_of result ≡ leaf_word (seen token.now) }
+fn word_of(token: Lexeme) -> Option<Formula>
+    ensures { option_map formula_of result ≡ leaf_word (lexeme_seen token.entry) }
 {
     if is_this(token, "true") {
         return Some(Formula::True);
@@ -42,11 +42,11 @@ fn word_of(token: &Token) -> Option<Formula>
 }
 
 /// A formula of one word and what stands behind it, where it comes first.
-pub fn word(tokens: &[Token]) -> Option<(Formula, &[Token])>
-    ensures { option_map (λ x. (formula_of x.0, lexemes_in x.1.now)) result
-        ≡ first leaf_word (lexemes_in tokens.now) }
+pub fn word(tokens: Front) -> Option<(Formula, Front)>
+    ensures { option_map (λ x. (formula_of x.0, lexemes_in x.1)) result
+        ≡ first leaf_word (lexemes_in tokens.entry) }
 {
-    let [first, rest @ ..] = tokens else {
+    let Some((first, rest)) = tokens.split_first() else {
         return None;
     };
     match word_of(first) {
@@ -70,8 +70,8 @@ pub enum Connective {
 }
 
 // A connective of shapes and contexts.
-fn joining_of(token: &Token) -> Option<Connective>
-    ensures { option_map connective_of result ≡ leaf_joining (seen token.now) }
+fn joining_of(token: Lexeme) -> Option<Connective>
+    ensures { option_map connective_of result ≡ leaf_joining (lexeme_seen token.entry) }
 {
     if is_this(token, "*") {
         return Some(Connective::Join(Side::Whole));
@@ -101,8 +101,8 @@ fn joining_of(token: &Token) -> Option<Connective>
 }
 
 // A connective.
-fn joint_of(token: &Token) -> Option<Connective>
-    ensures { option_map connective_of result ≡ leaf_connective (seen token.now) }
+fn joint_of(token: Lexeme) -> Option<Connective>
+    ensures { option_map connective_of result ≡ leaf_connective (lexeme_seen token.entry) }
 {
     if is_this(token, "and") {
         return Some(Connective::And);
@@ -129,16 +129,16 @@ fn joint_of(token: &Token) -> Option<Connective>
 }
 
 /// A connective and what stands behind it.
-pub fn joint(tokens: &[Token]) -> Result<(Connective, &[Token]), ReadFault>
-    ensures { Gives (λ x. (connective_of x.0, lexemes_in x.1.now)) result
-        (leaf leaf_connective (lexemes_in tokens.now)) }
+pub fn joint(tokens: Front) -> Result<(Connective, Front), ReadFault>
+    ensures { Gives (λ x. (connective_of x.0, lexemes_in x.1)) result
+        (leaf leaf_connective (lexemes_in tokens.entry)) }
 {
-    let [first, rest @ ..] = tokens else {
+    let Some((first, rest)) = tokens.split_first() else {
         return Err(ReadFault::Text(0));
     };
     match joint_of(first) {
         Some(connective) => Ok((connective, rest)),
-        None => Err(ReadFault::Text(tokens.len())),
+        None => Err(ReadFault::Text(tokens.count())),
     }
 }
 

@@ -10,7 +10,7 @@ ghost use Rattle.dom_terms.specs.Terms.{prog_var_of, logic_var_of};
 ghost use Rattle.formula_syntax.specs.Formulas.{formula_of};
 ghost use Rattle.token_readers.specs.Faults.{IfBadText};
 ghost use Rattle.token_readers.specs.Giving.{Gives};
-ghost use Rattle.token_readers.specs.Leaves.{lexemes_in};
+ghost use Rattle.token_readers.specs.Leaves.{listed, lexemes_in};
 ghost use Rattle.token_readers.specs.Spelling.{whole};
 ghost use Rattle.logic_text.specs.FormulaReaders.{formula_at};
 ghost use Rattle.logic_text.specs.DeclaredFormulas.{declared_vars, SpellsFormulaWith};
@@ -21,18 +21,18 @@ use declared_sorts::{Declared, Names, Sorted, names_of};
 use dom_terms::{Copied, LogicVar, LogicVars, OutOfMemory, ProgVar, Sort, Vars};
 use formula_syntax::{AnyVar, Formula};
 use std::alloc::Global;
-use text_tokens::{Token, Tokens};
+use text_tokens::{Front, Lexeme, Tokens};
 use token_readers::{ReadFault, TextFault};
 
 // A formula that ends where the tokens do; its variables don't have their sorts yet.
-fn whole_formula(alloc: Global, tokens: &[Token]) -> Result<Formula, ReadFault>
-    ensures { Gives formula_of result (whole (formula_at MOST_DEPTH) (lexemes_in tokens.now)) }
+fn whole_formula(alloc: Global, tokens: Front) -> Result<Formula, ReadFault>
+    ensures { Gives formula_of result (whole (formula_at MOST_DEPTH) (lexemes_in tokens.entry)) }
 {
     let (found, rest) = formula(alloc, MOST_DEPTH, tokens)?;
     if rest.is_empty() {
         Ok(found)
     } else {
-        Err(ReadFault::Text(rest.len()))
+        Err(ReadFault::Text(rest.count()))
     }
 }
 
@@ -101,20 +101,20 @@ fn set_declared(alloc: Global, formula: &mut Formula, vars: &[AnyVar]) -> Result
 /// and `OutOfMemory` also where the formula nests more than `MOST_DEPTH` deep.
 pub fn read_formula(alloc: Global, tokens: &Tokens, vars: &[AnyVar]) -> Result<Formula, TextFault>
     ensures found { IfOk result (λ p. SpellsFormulaWith (declared_vars vars.now) (formula_of p)
-        (lexemes_in tokens.now)) }
+        (listed tokens.now)) }
     ensures bad_text { IfBadText result (λ token.
-        (p : Named) → SpellsFormula p (lexemes_in tokens.now) → ⊥) }
-    ensures fault_token { AreOfTokens (lexemes_in tokens.now)
-        → IfBadText result (IsFaultToken SpellsFormula (lexemes_in tokens.now)) }
+        (p : Named) → SpellsFormula p (listed tokens.now) → ⊥) }
+    ensures fault_token { AreOfTokens (listed tokens.now)
+        → IfBadText result (IsFaultToken SpellsFormula (listed tokens.now)) }
 {
-    let tokens = tokens.as_slice();
+    let tokens = Front::of_list(tokens);
     match whole_formula(alloc, tokens) {
         Ok(found) => {
             let mut formula = found;
             set_declared(alloc, &mut formula, vars)?;
             Ok(formula)
         }
-        Err(fault) => Err(fault.of_whole(tokens.len())),
+        Err(fault) => Err(fault.of_whole(tokens.count())),
     }
 }
 

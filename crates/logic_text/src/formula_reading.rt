@@ -16,7 +16,7 @@ use crate::term_reading::{Place, term};
 use dom_terms::{Copied, LogicVar, Sort, Term, Text, ValueSort};
 use formula_syntax::Formula;
 use std::alloc::Global;
-use text_tokens::Token;
+use text_tokens::Front;
 use token_readers::{ReadFault, after, expect};
 
 /// A quantifier.
@@ -39,13 +39,13 @@ fn bound(quantifier: Quantifier, name: Text, inner: Box<Formula>) -> Formula
 }
 
 // A term of a formula that is a logic variable, as a formula.
-fn lone<'a>(left: Term, tokens: &'a [Token]) -> Result<(Formula, &'a [Token]), ReadFault>
-    ensures { Gives (λ x. (formula_of x.0, lexemes_in x.1.now)) result
-        (lone_variable (term_of left) (lexemes_in tokens.now)) }
+fn lone<'a>(left: Term, tokens: Front<'a>) -> Result<(Formula, Front<'a>), ReadFault>
+    ensures { Gives (λ x. (formula_of x.0, lexemes_in x.1)) result
+        (lone_variable (term_of left) (lexemes_in tokens.entry)) }
 {
     match left {
         Term::Logic(variable) => Ok((Formula::Var(variable), tokens)),
-        _ => Err(ReadFault::Text(tokens.len())),
+        _ => Err(ReadFault::Text(tokens.count())),
     }
 }
 
@@ -54,10 +54,10 @@ fn lone<'a>(left: Term, tokens: &'a [Token]) -> Result<(Formula, &'a [Token]), R
 fn boxed<'a>(
     alloc: Global,
     depth: u32,
-    tokens: &'a [Token],
-) -> Result<(Box<Formula>, &'a [Token]), ReadFault>
-    ensures { Gives (λ x. (formula_of x.0.value, lexemes_in x.1.now)) result
-        (formula_at depth (lexemes_in tokens.now)) }
+    tokens: Front<'a>,
+) -> Result<(Box<Formula>, Front<'a>), ReadFault>
+    ensures { Gives (λ x. (formula_of x.0.value, lexemes_in x.1)) result
+        (formula_at depth (lexemes_in tokens.entry)) }
 {
     let (inner, rest) = formula(alloc, depth, tokens)?;
     let inner = Box::new(alloc, inner)?;
@@ -71,10 +71,10 @@ fn quantified<'a>(
     alloc: Global,
     depth: u32,
     quantifier: Quantifier,
-    tokens: &'a [Token],
-) -> Result<(Formula, &'a [Token]), ReadFault>
-    ensures { Gives (λ x. (formula_of x.0, lexemes_in x.1.now)) result
-        (quantified_at (formula_at depth) (quantifier_of quantifier) (lexemes_in tokens.now)) }
+    tokens: Front<'a>,
+) -> Result<(Formula, Front<'a>), ReadFault>
+    ensures { Gives (λ x. (formula_of x.0, lexemes_in x.1)) result
+        (quantified_at (formula_at depth) (quantifier_of quantifier) (lexemes_in tokens.entry)) }
 {
     let (name, rest) = logic_name(alloc, tokens)?;
     let rest = expect(rest, ".")?;
@@ -90,10 +90,10 @@ fn connected<'a>(
     alloc: Global,
     depth: u32,
     left: Box<Formula>,
-    tokens: &'a [Token],
-) -> Result<(Formula, &'a [Token]), ReadFault>
-    ensures { Gives (λ x. (formula_of x.0, lexemes_in x.1.now)) result
-        (joined_at (formula_at depth) (formula_of left.value) (lexemes_in tokens.now)) }
+    tokens: Front<'a>,
+) -> Result<(Formula, Front<'a>), ReadFault>
+    ensures { Gives (λ x. (formula_of x.0, lexemes_in x.1)) result
+        (joined_at (formula_at depth) (formula_of left.value) (lexemes_in tokens.entry)) }
 {
     let (connective, rest) = joint(tokens)?;
     let (right, rest) = boxed(alloc, depth, rest)?;
@@ -107,10 +107,10 @@ fn connected_or_is<'a>(
     alloc: Global,
     depth: u32,
     left: Box<Formula>,
-    tokens: &'a [Token],
-) -> Result<(Formula, &'a [Token]), ReadFault>
-    ensures { Gives (λ x. (formula_of x.0, lexemes_in x.1.now)) result
-        (joined_or_is (formula_at depth) (formula_of left.value) (lexemes_in tokens.now)) }
+    tokens: Front<'a>,
+) -> Result<(Formula, Front<'a>), ReadFault>
+    ensures { Gives (λ x. (formula_of x.0, lexemes_in x.1)) result
+        (joined_or_is (formula_at depth) (formula_of left.value) (lexemes_in tokens.entry)) }
 {
     if let Formula::Var(variable) = &*left {
         if let Some(rest) = after(tokens, "is") {
@@ -130,10 +130,10 @@ fn connected_or_is<'a>(
 fn bracket<'a>(
     alloc: Global,
     depth: u32,
-    tokens: &'a [Token],
-) -> Result<(Formula, &'a [Token]), ReadFault>
-    ensures { Gives (λ x. (formula_of x.0, lexemes_in x.1.now)) result
-        (bracket_at (formula_at depth) (lexemes_in tokens.now)) }
+    tokens: Front<'a>,
+) -> Result<(Formula, Front<'a>), ReadFault>
+    ensures { Gives (λ x. (formula_of x.0, lexemes_in x.1)) result
+        (bracket_at (formula_at depth) (lexemes_in tokens.entry)) }
 {
     if let Some(rest) = after(tokens, "not") {
         let (inner, rest) = boxed(alloc, depth, rest)?;
@@ -157,11 +157,11 @@ fn node<'a>(
     alloc: Global,
     depth: u32,
     name: Term,
-    tokens: &'a [Token],
-) -> Result<(Formula, &'a [Token]), ReadFault>
-    ensures { Gives (λ x. (formula_of x.0, lexemes_in x.1.now)) result
+    tokens: Front<'a>,
+) -> Result<(Formula, Front<'a>), ReadFault>
+    ensures { Gives (λ x. (formula_of x.0, lexemes_in x.1)) result
         (node_at (term_at in_formula depth) (formula_at depth) (term_of name)
-        (lexemes_in tokens.now)) }
+        (lexemes_in tokens.entry)) }
 {
     let (number, rest) = term(alloc, Place::Formula, depth, tokens)?;
     let rest = expect(rest, "[")?;
@@ -179,11 +179,11 @@ fn compared<'a>(
     alloc: Global,
     depth: u32,
     left: Term,
-    tokens: &'a [Token],
-) -> Result<(Formula, &'a [Token]), ReadFault>
-    ensures { Gives (λ x. (formula_of x.0, lexemes_in x.1.now)) result
+    tokens: Front<'a>,
+) -> Result<(Formula, Front<'a>), ReadFault>
+    ensures { Gives (λ x. (formula_of x.0, lexemes_in x.1)) result
         (compared_at (term_at in_formula depth) (formula_at depth) (term_of left)
-        (lexemes_in tokens.now)) }
+        (lexemes_in tokens.entry)) }
 {
     if let Some(rest) = after(tokens, "=") {
         let (right, rest) = term(alloc, Place::Formula, depth, rest)?;
@@ -205,10 +205,10 @@ fn compared<'a>(
 pub fn formula<'a>(
     alloc: Global,
     depth: u32,
-    tokens: &'a [Token],
-) -> Result<(Formula, &'a [Token]), ReadFault>
-    ensures { Gives (λ x. (formula_of x.0, lexemes_in x.1.now)) result
-        (formula_at depth (lexemes_in tokens.now)) }
+    tokens: Front<'a>,
+) -> Result<(Formula, Front<'a>), ReadFault>
+    ensures { Gives (λ x. (formula_of x.0, lexemes_in x.1)) result
+        (formula_at depth (lexemes_in tokens.entry)) }
 {
     if depth == 0 {
         return Err(ReadFault::Memory);

@@ -8,15 +8,15 @@ ghost use Rattle.token_readers.specs.Reading.{leaf, sep_list};
 ghost use Rattle.token_readers.specs.Faults.{IfBadText};
 ghost use Rattle.token_readers.specs.Giving.{Gives};
 ghost use Rattle.token_readers.specs.Spelling.{whole};
-ghost use Rattle.token_readers.specs.Leaves.{lexemes_in};
+ghost use Rattle.token_readers.specs.Leaves.{listed, lexemes_in};
 ghost use Rattle.logic_text.specs.RawGroves.{raw_tree_of, raw_forest_of};
 ghost use Rattle.logic_text.specs.TreeReaders.{leaf_literal, leaf_number};
 ghost use Rattle.logic_text.specs.TreeReaders.{marked_at, forest_at, tree_at, grove_at};
 
 use crate::raw_groves::{RawForest, RawGrove, RawTree};
-use dom_terms::{Copied, Text};
+use dom_terms::Text;
 use std::alloc::Global;
-use text_tokens::{Token, Tokens};
+use text_tokens::{Front, Lexeme, Tokens};
 use token_readers::{ReadFault, TextFault, after, expect};
 
 /// The deepest nesting of trees, terms and formulas that is read; a deeper one is answered as want
@@ -25,30 +25,30 @@ use token_readers::{ReadFault, TextFault, after, expect};
 pub const MOST_DEPTH: u32 = 128;
 
 // A text literal.
-fn literal(alloc: Global, tokens: &[Token]) -> Result<(Text, &[Token]), ReadFault>
-    ensures { Gives (λ x. (x.0, lexemes_in x.1.now)) result
-        (leaf leaf_literal (lexemes_in tokens.now)) }
+fn literal(alloc: Global, tokens: Front) -> Result<(Text, Front), ReadFault>
+    ensures { Gives (λ x. (x.0, lexemes_in x.1)) result
+        (leaf leaf_literal (lexemes_in tokens.entry)) }
 {
-    let [first, rest @ ..] = tokens else {
+    let Some((first, rest)) = tokens.split_first() else {
         return Err(ReadFault::Text(0));
     };
-    match first.literal() {
-        Some(text) => Ok((text.copy(alloc)?, rest)),
-        None => Err(ReadFault::Text(tokens.len())),
+    match first.literal(alloc)? {
+        Some(text) => Ok((text, rest)),
+        None => Err(ReadFault::Text(tokens.count())),
     }
 }
 
 // A number as large as a token can be.
-fn number(tokens: &[Token]) -> Result<(u64, &[Token]), ReadFault>
-    ensures { Gives (λ x. (x.0, lexemes_in x.1.now)) result
-        (leaf leaf_number (lexemes_in tokens.now)) }
+fn number(tokens: Front) -> Result<(u64, Front), ReadFault>
+    ensures { Gives (λ x. (x.0, lexemes_in x.1)) result
+        (leaf leaf_number (lexemes_in tokens.entry)) }
 {
-    let [first, rest @ ..] = tokens else {
+    let Some((first, rest)) = tokens.split_first() else {
         return Err(ReadFault::Text(0));
     };
     match first.number() {
         Some(number) => Ok((number, rest)),
-        None => Err(ReadFault::Text(tokens.len())),
+        None => Err(ReadFault::Text(tokens.count())),
     }
 }
 
@@ -60,10 +60,10 @@ fn marked<'a>(
     left: &str,
     right: &str,
     depth: u32,
-    tokens: &'a [Token],
-) -> Result<(RawTree, &'a [Token]), ReadFault>
-    ensures { Gives (λ x. (raw_tree_of x.0, lexemes_in x.1.now)) result
-        (marked_at left.now right.now (tree_at u32.MAX depth) (lexemes_in tokens.now)) }
+    tokens: Front<'a>,
+) -> Result<(RawTree, Front<'a>), ReadFault>
+    ensures { Gives (λ x. (raw_tree_of x.0, lexemes_in x.1)) result
+        (marked_at left.now right.now (tree_at u32.MAX depth) (lexemes_in tokens.entry)) }
 {
     let rest = expect(tokens, left)?;
     let (found, rest) = tree(alloc, depth, rest)?;
@@ -79,11 +79,11 @@ fn trees<'a>(
     right: &str,
     between: &str,
     depth: u32,
-    tokens: &'a [Token],
-) -> Result<(RawForest, &'a [Token]), ReadFault>
-    ensures { Gives (λ x. (map raw_tree_of x.0, lexemes_in x.1.now)) result
+    tokens: Front<'a>,
+) -> Result<(RawForest, Front<'a>), ReadFault>
+    ensures { Gives (λ x. (map raw_tree_of x.0, lexemes_in x.1)) result
         (sep_list between.now (marked_at left.now right.now (tree_at u32.MAX depth)) u32.MAX
-        (lexemes_in tokens.now)) }
+        (lexemes_in tokens.entry)) }
 {
     let mut found = RawForest::new(alloc);
     let mut rest = tokens;
@@ -104,10 +104,10 @@ fn trees<'a>(
 fn forest<'a>(
     alloc: Global,
     depth: u32,
-    tokens: &'a [Token],
-) -> Result<(RawForest, &'a [Token]), ReadFault>
-    ensures { Gives (λ x. (raw_forest_of x.0, lexemes_in x.1.now)) result
-        (forest_at u32.MAX (tree_at u32.MAX depth) (lexemes_in tokens.now)) }
+    tokens: Front<'a>,
+) -> Result<(RawForest, Front<'a>), ReadFault>
+    ensures { Gives (λ x. (raw_forest_of x.0, lexemes_in x.1)) result
+        (forest_at u32.MAX (tree_at u32.MAX depth) (lexemes_in tokens.entry)) }
 {
     if let Some(rest) = after(tokens, "0f") {
         return Ok((RawForest::new(alloc), rest));
@@ -118,13 +118,9 @@ fn forest<'a>(
 // A tree, nested at most so deep.
 #[cycle(tree)]
 #[tactic(auto, unfolding(crate::specs::TreeReaders::tree_at, crate::specs::TreeReaders::node_at))]
-fn tree<'a>(
-    alloc: Global,
-    depth: u32,
-    tokens: &'a [Token],
-) -> Result<(RawTree, &'a [Token]), ReadFault>
-    ensures { Gives (λ x. (raw_tree_of x.0, lexemes_in x.1.now)) result
-        (tree_at u32.MAX depth (lexemes_in tokens.now)) }
+fn tree<'a>(alloc: Global, depth: u32, tokens: Front<'a>) -> Result<(RawTree, Front<'a>), ReadFault>
+    ensures { Gives (λ x. (raw_tree_of x.0, lexemes_in x.1)) result
+        (tree_at u32.MAX depth (lexemes_in tokens.entry)) }
 {
     if depth == 0 {
         return Err(ReadFault::Memory);
@@ -148,9 +144,9 @@ fn tree<'a>(
 
 // A grove, at the front of the tokens.
 #[tactic(auto, unfolding(crate::specs::TreeReaders::grove_at, crate::specs::TreeReaders::some_at))]
-fn grove(alloc: Global, tokens: &[Token]) -> Result<(RawGrove, &[Token]), ReadFault>
-    ensures { Gives (λ x. (raw_forest_of x.0, lexemes_in x.1.now)) result
-        (grove_at u32.MAX MOST_DEPTH (lexemes_in tokens.now)) }
+fn grove(alloc: Global, tokens: Front) -> Result<(RawGrove, Front), ReadFault>
+    ensures { Gives (λ x. (raw_forest_of x.0, lexemes_in x.1)) result
+        (grove_at u32.MAX MOST_DEPTH (lexemes_in tokens.entry)) }
 {
     if let Some(rest) = after(tokens, "0g") {
         return Ok((RawGrove::new(alloc), rest));
@@ -159,33 +155,43 @@ fn grove(alloc: Global, tokens: &[Token]) -> Result<(RawGrove, &[Token]), ReadFa
 }
 
 // A grove that ends where the tokens do.
-fn whole_grove(alloc: Global, tokens: &[Token]) -> Result<RawGrove, ReadFault>
+fn whole_grove(alloc: Global, tokens: Front) -> Result<RawGrove, ReadFault>
     ensures { Gives raw_forest_of result
-        (whole (grove_at u32.MAX MOST_DEPTH) (lexemes_in tokens.now)) }
+        (whole (grove_at u32.MAX MOST_DEPTH) (lexemes_in tokens.entry)) }
 {
     let (found, rest) = grove(alloc, tokens)?;
     if rest.is_empty() {
         Ok(found)
     } else {
-        Err(ReadFault::Text(rest.len()))
+        Err(ReadFault::Text(rest.count()))
     }
 }
 
 /// The grove that the tokens spell, all of them. `BadText` comes exactly where they spell none,
 /// with the fault token where they are those of a text, and `OutOfMemory` also where trees nest
 /// more than `MOST_DEPTH` deep.
-pub fn read_grove(alloc: Global, tokens: &Tokens) -> Result<RawGrove, TextFault>
-    ensures found { IfOk result (λ g. SpellsGrove (raw_forest_of g) (lexemes_in tokens.now)) }
+pub fn grove_from(alloc: Global, tokens: Front) -> Result<RawGrove, TextFault>
+    ensures found { IfOk result (λ g. SpellsGrove (raw_forest_of g) (lexemes_in tokens.entry)) }
     ensures bad_text { IfBadText result (λ token.
-        (g : Trees) → SpellsGrove g (lexemes_in tokens.now) → ⊥) }
-    ensures fault_token { AreOfTokens (lexemes_in tokens.now)
-        → IfBadText result (IsFaultToken SpellsGrove (lexemes_in tokens.now)) }
+        (g : Trees) → SpellsGrove g (lexemes_in tokens.entry) → ⊥) }
+    ensures fault_token { AreOfTokens (lexemes_in tokens.entry)
+        → IfBadText result (IsFaultToken SpellsGrove (lexemes_in tokens.entry)) }
 {
-    let tokens = tokens.as_slice();
     match whole_grove(alloc, tokens) {
         Ok(found) => Ok(found),
-        Err(fault) => Err(fault.of_whole(tokens.len())),
+        Err(fault) => Err(fault.of_whole(tokens.count())),
     }
+}
+
+/// The same of the tokens of a list.
+pub fn read_grove(alloc: Global, tokens: &Tokens) -> Result<RawGrove, TextFault>
+    ensures found { IfOk result (λ g. SpellsGrove (raw_forest_of g) (listed tokens.now)) }
+    ensures bad_text { IfBadText result (λ token.
+        (g : Trees) → SpellsGrove g (listed tokens.now) → ⊥) }
+    ensures fault_token { AreOfTokens (listed tokens.now)
+        → IfBadText result (IsFaultToken SpellsGrove (listed tokens.now)) }
+{
+    grove_from(alloc, Front::of_list(tokens))
 }
 
 /// A list of lexemes spells at most one grove.

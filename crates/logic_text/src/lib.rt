@@ -23,7 +23,7 @@ mod tokens;
 pub use declared_formulas::{one_formula, read_formula};
 pub use formula_reading::formula;
 pub use formula_writing::{push_compared, push_formula, write_formula};
-pub use grove_reading::{MOST_DEPTH, one_grove, read_grove};
+pub use grove_reading::{MOST_DEPTH, grove_from, one_grove, read_grove};
 pub use grove_writing::{push_str, write_grove, write_literal};
 pub use logic_names::LogicNameReader;
 pub use ranges::{RangeFault, to_grove};

@@ -11,9 +11,9 @@ ghost use Rattle.logic_text.specs.TermReaders.{leaf_term, negated, leaf_negative
 ghost use Rattle.logic_text.specs.Operators.{operator_of};
 ghost use Rattle.logic_text.specs.Places.{place_of};
 
-use dom_terms::{Copied, LogicVar, ProgVar, Sort, Term, ValueSort};
+use dom_terms::{LogicVar, ProgVar, Sort, Term, Text, ValueSort};
 use std::alloc::Global;
-use text_tokens::Token;
+use text_tokens::Front;
 use token_readers::{ReadFault, after, expect};
 
 /// Where a term stands.
@@ -29,37 +29,37 @@ pub enum Place {
 fn leaf_term<'a>(
     alloc: Global,
     place: Place,
-    tokens: &'a [Token],
-) -> Result<(Term, &'a [Token]), ReadFault>
-    ensures { Gives (λ x. (term_of x.0, lexemes_in x.1.now)) result
-        (leaf (leaf_term (place_of place)) (lexemes_in tokens.now)) }
+    tokens: Front<'a>,
+) -> Result<(Term, Front<'a>), ReadFault>
+    ensures { Gives (λ x. (term_of x.0, lexemes_in x.1)) result
+        (leaf (leaf_term (place_of place)) (lexemes_in tokens.entry)) }
 {
-    let [first, rest @ ..] = tokens else {
+    let Some((first, rest)) = tokens.split_first() else {
         return Err(ReadFault::Text(0));
     };
     if let Some(name) = first.name() {
-        let name = name.copy(alloc)?;
+        let name = Text::from_str(alloc, name)?;
         let sort = ValueSort::Node;
         return Ok((Term::Prog(ProgVar { name, sort }), rest));
     }
     if let Some(name) = first.logic_name() {
         return match place {
             Place::Formula => {
-                let name = name.copy(alloc)?;
+                let name = Text::from_str(alloc, name)?;
                 let sort = Sort::Value(ValueSort::Node);
                 Ok((Term::Logic(LogicVar { name, sort }), rest))
             }
-            Place::Command => Err(ReadFault::Text(tokens.len())),
+            Place::Command => Err(ReadFault::Text(tokens.count())),
         };
     }
-    if let Some(text) = first.literal() {
-        return Ok((Term::Str(text.copy(alloc)?), rest));
+    if let Some(text) = first.literal(alloc)? {
+        return Ok((Term::Str(text), rest));
     }
     match first.number() {
         Some(number) if number <= 9_223_372_036_854_775_807 => {
             Ok((Term::Int(number as i64), rest))
         }
-        _ => Err(ReadFault::Text(tokens.len())),
+        _ => Err(ReadFault::Text(tokens.count())),
     }
 }
 
@@ -74,11 +74,11 @@ fn negative(number: u64) -> Option<i64>
 }
 
 // What stands behind the sign of a negative literal.
-fn leaf_negative(tokens: &[Token]) -> Result<(Term, &[Token]), ReadFault>
-    ensures { Gives (λ x. (term_of x.0, lexemes_in x.1.now)) result
-        (leaf leaf_negative (lexemes_in tokens.now)) }
+fn leaf_negative(tokens: Front) -> Result<(Term, Front), ReadFault>
+    ensures { Gives (λ x. (term_of x.0, lexemes_in x.1)) result
+        (leaf leaf_negative (lexemes_in tokens.entry)) }
 {
-    let [first, rest @ ..] = tokens else {
+    let Some((first, rest)) = tokens.split_first() else {
         return Err(ReadFault::Text(0));
     };
     if let Some(number) = first.number() {
@@ -86,7 +86,7 @@ fn leaf_negative(tokens: &[Token]) -> Result<(Term, &[Token]), ReadFault>
             return Ok((Term::Int(integer), rest));
         }
     }
-    Err(ReadFault::Text(tokens.len()))
+    Err(ReadFault::Text(tokens.count()))
 }
 
 // How two terms are put together.
@@ -98,9 +98,9 @@ enum Operator {
 }
 
 #[tactic(auto, unfolding(crate::specs::TermReaders::operator_at))]
-fn sign(tokens: &[Token]) -> Result<(Operator, &[Token]), ReadFault>
-    ensures { Gives (λ x. (operator_of x.0, lexemes_in x.1.now)) result
-        (operator_at (lexemes_in tokens.now)) }
+fn sign(tokens: Front) -> Result<(Operator, Front), ReadFault>
+    ensures { Gives (λ x. (operator_of x.0, lexemes_in x.1)) result
+        (operator_at (lexemes_in tokens.entry)) }
 {
     if let Some(rest) = after(tokens, "+") {
         return Ok((Operator::Add, rest));
@@ -111,7 +111,7 @@ fn sign(tokens: &[Token]) -> Result<(Operator, &[Token]), ReadFault>
     if let Some(rest) = after(tokens, "++") {
         return Ok((Operator::Cat, rest));
     }
-    Err(ReadFault::Text(tokens.len()))
+    Err(ReadFault::Text(tokens.count()))
 }
 
 fn operated(operator: Operator, left: Box<Term>, right: Box<Term>) -> Term
@@ -126,13 +126,9 @@ fn operated(operator: Operator, left: Box<Term>, right: Box<Term>) -> Term
 
 // A term that doesn't begin with a brace.
 #[tactic(auto, unfolding(crate::specs::TermReaders::word_at))]
-fn word<'a>(
-    alloc: Global,
-    place: Place,
-    tokens: &'a [Token],
-) -> Result<(Term, &'a [Token]), ReadFault>
-    ensures { Gives (λ x. (term_of x.0, lexemes_in x.1.now)) result
-        (word_at (leaf (leaf_term (place_of place))) (lexemes_in tokens.now)) }
+fn word<'a>(alloc: Global, place: Place, tokens: Front<'a>) -> Result<(Term, Front<'a>), ReadFault>
+    ensures { Gives (λ x. (term_of x.0, lexemes_in x.1)) result
+        (word_at (leaf (leaf_term (place_of place))) (lexemes_in tokens.entry)) }
 {
     if let Some(rest) = after(tokens, "-") {
         return leaf_negative(rest);
@@ -158,10 +154,10 @@ fn boxed<'a>(
     alloc: Global,
     place: Place,
     depth: u32,
-    tokens: &'a [Token],
-) -> Result<(Box<Term>, &'a [Token]), ReadFault>
-    ensures { Gives (λ x. (term_of x.0.value, lexemes_in x.1.now)) result
-        (term_at (place_of place) depth (lexemes_in tokens.now)) }
+    tokens: Front<'a>,
+) -> Result<(Box<Term>, Front<'a>), ReadFault>
+    ensures { Gives (λ x. (term_of x.0.value, lexemes_in x.1)) result
+        (term_at (place_of place) depth (lexemes_in tokens.entry)) }
 {
     let (inner, rest) = term(alloc, place, depth, tokens)?;
     let inner = Box::new(alloc, inner)?;
@@ -175,10 +171,10 @@ fn operation<'a>(
     alloc: Global,
     place: Place,
     depth: u32,
-    tokens: &'a [Token],
-) -> Result<(Term, &'a [Token]), ReadFault>
-    ensures { Gives (λ x. (term_of x.0, lexemes_in x.1.now)) result
-        (operation_at (term_at (place_of place) depth) (lexemes_in tokens.now)) }
+    tokens: Front<'a>,
+) -> Result<(Term, Front<'a>), ReadFault>
+    ensures { Gives (λ x. (term_of x.0, lexemes_in x.1)) result
+        (operation_at (term_at (place_of place) depth) (lexemes_in tokens.entry)) }
 {
     let (left, rest) = boxed(alloc, place, depth, tokens)?;
     let (operator, rest) = sign(rest)?;
@@ -194,10 +190,10 @@ pub fn term<'a>(
     alloc: Global,
     place: Place,
     depth: u32,
-    tokens: &'a [Token],
-) -> Result<(Term, &'a [Token]), ReadFault>
-    ensures { Gives (λ x. (term_of x.0, lexemes_in x.1.now)) result
-        (term_at (place_of place) depth (lexemes_in tokens.now)) }
+    tokens: Front<'a>,
+) -> Result<(Term, Front<'a>), ReadFault>
+    ensures { Gives (λ x. (term_of x.0, lexemes_in x.1)) result
+        (term_at (place_of place) depth (lexemes_in tokens.entry)) }
 {
     if depth == 0 {
         return Err(ReadFault::Memory);

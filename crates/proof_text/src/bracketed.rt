@@ -12,7 +12,7 @@ use crate::sorts::VariableReader;
 use dom_terms::{Term, Terms, Vars};
 use logic_text::{Place, term};
 use std::alloc::Global;
-use text_tokens::Token;
+use text_tokens::Front;
 use token_readers::{Gathers, ReadFault, Reader, after, expect, separated};
 
 /// Items in brackets, with commas between each two.
@@ -20,10 +20,10 @@ use token_readers::{Gathers, ReadFault, Reader, after, expect, separated};
 pub fn bracketed<'a, T: Drop, R: Reader<T>, L: Gathers<T>>(
     alloc: Global,
     reader: &R,
-    tokens: &'a [Token],
-) -> Result<(L, &'a [Token]), ReadFault>
-    ensures { Gives (λ x. (map R.seen (L.items x.0), lexemes_in x.1.now)) result
-        (bracketed_at (R.reading reader.now) u32.MAX (lexemes_in tokens.now)) }
+    tokens: Front<'a>,
+) -> Result<(L, Front<'a>), ReadFault>
+    ensures { Gives (λ x. (map R.seen (L.items x.0), lexemes_in x.1)) result
+        (bracketed_at (R.reading reader.now) u32.MAX (lexemes_in tokens.entry)) }
 {
     let rest = expect(tokens, "(")?;
     if let Some(behind) = after(rest, ")") {
@@ -35,9 +35,9 @@ pub fn bracketed<'a, T: Drop, R: Reader<T>, L: Gathers<T>>(
 }
 
 /// The variables in brackets.
-pub fn variables(alloc: Global, tokens: &[Token]) -> Result<(Vars, &[Token]), ReadFault>
-    ensures { Gives (λ x. (map prog_var_of x.0, lexemes_in x.1.now)) result
-        (bracketed_at (leaf leaf_variable) u32.MAX (lexemes_in tokens.now)) }
+pub fn variables(alloc: Global, tokens: Front) -> Result<(Vars, Front), ReadFault>
+    ensures { Gives (λ x. (map prog_var_of x.0, lexemes_in x.1)) result
+        (bracketed_at (leaf leaf_variable) u32.MAX (lexemes_in tokens.entry)) }
 {
     bracketed(alloc, &VariableReader, tokens)
 }
@@ -60,9 +60,9 @@ impl Reader<Term> for TermReader {
 
     ghost reading = { λ reader. term_at (place_of reader.place) reader.depth };
 
-    fn read<'a>(&self, alloc: Global, tokens: &'a [Token]) -> Result<(Term, &'a [Token]), ReadFault>
-        ensures { Gives (λ x. (term_of x.0, lexemes_in x.1.now)) result
-            (term_at (place_of self.now.place) self.now.depth (lexemes_in tokens.now)) }
+    fn read<'a>(&self, alloc: Global, tokens: Front<'a>) -> Result<(Term, Front<'a>), ReadFault>
+        ensures { Gives (λ x. (term_of x.0, lexemes_in x.1)) result
+            (term_at (place_of self.now.place) self.now.depth (lexemes_in tokens.entry)) }
     {
         term(alloc, self.place, self.depth, tokens)
     }
@@ -73,10 +73,10 @@ pub fn terms<'a>(
     alloc: Global,
     place: Place,
     depth: u32,
-    tokens: &'a [Token],
-) -> Result<(Terms, &'a [Token]), ReadFault>
-    ensures { Gives (λ x. (map term_of x.0, lexemes_in x.1.now)) result
-        (bracketed_at (term_at (place_of place) depth) u32.MAX (lexemes_in tokens.now)) }
+    tokens: Front<'a>,
+) -> Result<(Terms, Front<'a>), ReadFault>
+    ensures { Gives (λ x. (map term_of x.0, lexemes_in x.1)) result
+        (bracketed_at (term_at (place_of place) depth) u32.MAX (lexemes_in tokens.entry)) }
 {
     bracketed(alloc, &TermReader { place, depth }, tokens)
 }
@@ -86,10 +86,10 @@ pub fn listed_terms<'a>(
     alloc: Global,
     place: Place,
     depth: u32,
-    tokens: &'a [Token],
-) -> Result<(Terms, &'a [Token]), ReadFault>
-    ensures { Gives (λ x. (map term_of x.0, lexemes_in x.1.now)) result
-        (sep_list comma (term_at (place_of place) depth) u32.MAX (lexemes_in tokens.now)) }
+    tokens: Front<'a>,
+) -> Result<(Terms, Front<'a>), ReadFault>
+    ensures { Gives (λ x. (map term_of x.0, lexemes_in x.1)) result
+        (sep_list comma (term_at (place_of place) depth) u32.MAX (lexemes_in tokens.entry)) }
 {
     separated(alloc, &TermReader { place, depth }, ",", tokens)
 }

@@ -16,7 +16,7 @@ use crate::sorts::{value_sort, variable};
 use dom_terms::{ProgVar, Term};
 use logic_text::{Place, term};
 use std::alloc::Global;
-use text_tokens::Token;
+use text_tokens::Front;
 use theory_syntax::{Block, Command};
 use token_readers::{ReadFault, after, expect, name};
 
@@ -47,11 +47,11 @@ fn one<'a>(
     depth: u32,
     query: Query,
     x: ProgVar,
-    tokens: &'a [Token],
-) -> Result<(Command, &'a [Token]), ReadFault>
+    tokens: Front<'a>,
+) -> Result<(Command, Front<'a>), ReadFault>
     ensures { Gives (λ y. (command_of y.0, lexemes_in y.1.now)) result
         (one_at (term_at in_command depth) (query_of query (prog_var_of x))
-        (lexemes_in tokens.now)) }
+        (lexemes_in tokens.entry)) }
 {
     let rest = expect(tokens, "(")?;
     let (argument, rest) = term(alloc, Place::Command, depth, rest)?;
@@ -83,10 +83,10 @@ fn two<'a>(
     alloc: Global,
     depth: u32,
     change: Change,
-    tokens: &'a [Token],
-) -> Result<(Command, &'a [Token]), ReadFault>
-    ensures { Gives (λ x. (command_of x.0, lexemes_in x.1.now)) result
-        (two_at (term_at in_command depth) (change_of change) (lexemes_in tokens.now)) }
+    tokens: Front<'a>,
+) -> Result<(Command, Front<'a>), ReadFault>
+    ensures { Gives (λ x. (command_of x.0, lexemes_in x.1)) result
+        (two_at (term_at in_command depth) (change_of change) (lexemes_in tokens.entry)) }
 {
     let rest = expect(tokens, "(")?;
     let (first, rest) = term(alloc, Place::Command, depth, rest)?;
@@ -102,10 +102,10 @@ fn setting<'a>(
     alloc: Global,
     depth: u32,
     x: ProgVar,
-    tokens: &'a [Token],
-) -> Result<(Command, &'a [Token]), ReadFault>
+    tokens: Front<'a>,
+) -> Result<(Command, Front<'a>), ReadFault>
     ensures { Gives (λ y. (command_of y.0, lexemes_in y.1.now)) result
-        (setting_at (term_at in_command depth) (prog_var_of x) (lexemes_in tokens.now)) }
+        (setting_at (term_at in_command depth) (prog_var_of x) (lexemes_in tokens.entry)) }
 {
     if let Some(rest) = after(tokens, "createNode") {
         return one(alloc, depth, Query::Create, x, rest);
@@ -131,10 +131,10 @@ fn setting<'a>(
 fn other_command<'a>(
     alloc: Global,
     depth: u32,
-    tokens: &'a [Token],
-) -> Result<(Command, &'a [Token]), ReadFault>
-    ensures { Gives (λ x. (command_of x.0, lexemes_in x.1.now)) result
-        (change_at (term_at in_command depth) (lexemes_in tokens.now)) }
+    tokens: Front<'a>,
+) -> Result<(Command, Front<'a>), ReadFault>
+    ensures { Gives (λ x. (command_of x.0, lexemes_in x.1)) result
+        (change_at (term_at in_command depth) (lexemes_in tokens.entry)) }
 {
     if let Some(rest) = after(tokens, "appendChild") {
         return two(alloc, depth, Change::Append, rest);
@@ -152,10 +152,10 @@ fn other_command<'a>(
 fn called<'a>(
     alloc: Global,
     depth: u32,
-    tokens: &'a [Token],
-) -> Result<(Command, &'a [Token]), ReadFault>
-    ensures { Gives (λ x. (command_of x.0, lexemes_in x.1.now)) result
-        (call_at u32.MAX (term_at in_command depth) (lexemes_in tokens.now)) }
+    tokens: Front<'a>,
+) -> Result<(Command, Front<'a>), ReadFault>
+    ensures { Gives (λ x. (command_of x.0, lexemes_in x.1)) result
+        (call_at u32.MAX (term_at in_command depth) (lexemes_in tokens.entry)) }
 {
     let (results, rest) = variables(alloc, tokens)?;
     let rest = expect(rest, ":=")?;
@@ -169,10 +169,10 @@ fn called<'a>(
 fn commands<'a>(
     alloc: Global,
     depth: u32,
-    tokens: &'a [Token],
-) -> Result<(Block, &'a [Token]), ReadFault>
-    ensures { Gives (λ x. (map command_of x.0, lexemes_in x.1.now)) result
-        (sep_list semicolon (command_at u32.MAX depth) u32.MAX (lexemes_in tokens.now)) }
+    tokens: Front<'a>,
+) -> Result<(Block, Front<'a>), ReadFault>
+    ensures { Gives (λ x. (map command_of x.0, lexemes_in x.1)) result
+        (sep_list semicolon (command_at u32.MAX depth) u32.MAX (lexemes_in tokens.entry)) }
 {
     let mut found = Block::new(alloc);
     let mut rest = tokens;
@@ -193,10 +193,10 @@ fn commands<'a>(
 fn rest_of_block<'a>(
     alloc: Global,
     depth: u32,
-    tokens: &'a [Token],
-) -> Result<(Block, &'a [Token]), ReadFault>
-    ensures { Gives (λ x. (block_of x.0, lexemes_in x.1.now)) result
-        (block_rest u32.MAX (command_at u32.MAX depth) (lexemes_in tokens.now)) }
+    tokens: Front<'a>,
+) -> Result<(Block, Front<'a>), ReadFault>
+    ensures { Gives (λ x. (block_of x.0, lexemes_in x.1)) result
+        (block_rest u32.MAX (command_at u32.MAX depth) (lexemes_in tokens.entry)) }
 {
     let (block, rest) = commands(alloc, depth, tokens)?;
     let rest = expect(rest, "}")?;
@@ -206,13 +206,9 @@ fn rest_of_block<'a>(
 // A block.
 #[cycle(command)]
 #[tactic(auto, unfolding(crate::specs::Commands::block_at))]
-fn block<'a>(
-    alloc: Global,
-    depth: u32,
-    tokens: &'a [Token],
-) -> Result<(Block, &'a [Token]), ReadFault>
-    ensures { Gives (λ x. (block_of x.0, lexemes_in x.1.now)) result
-        (block_at u32.MAX (command_at u32.MAX depth) (lexemes_in tokens.now)) }
+fn block<'a>(alloc: Global, depth: u32, tokens: Front<'a>) -> Result<(Block, Front<'a>), ReadFault>
+    ensures { Gives (λ x. (block_of x.0, lexemes_in x.1)) result
+        (block_at u32.MAX (command_at u32.MAX depth) (lexemes_in tokens.entry)) }
 {
     let rest = expect(tokens, "{")?;
     rest_of_block(alloc, depth, rest)
@@ -224,11 +220,11 @@ fn block<'a>(
 fn choice<'a>(
     alloc: Global,
     depth: u32,
-    tokens: &'a [Token],
-) -> Result<(Command, &'a [Token]), ReadFault>
-    ensures { Gives (λ x. (command_of x.0, lexemes_in x.1.now)) result
+    tokens: Front<'a>,
+) -> Result<(Command, Front<'a>), ReadFault>
+    ensures { Gives (λ x. (command_of x.0, lexemes_in x.1)) result
         (choice_at (cond_at depth) (block_at u32.MAX (command_at u32.MAX depth))
-        (lexemes_in tokens.now)) }
+        (lexemes_in tokens.entry)) }
 {
     let (test, rest) = condition(alloc, depth, tokens)?;
     let (first, rest) = block(alloc, depth, rest)?;
@@ -243,11 +239,11 @@ fn choice<'a>(
 fn repeated<'a>(
     alloc: Global,
     depth: u32,
-    tokens: &'a [Token],
-) -> Result<(Command, &'a [Token]), ReadFault>
-    ensures { Gives (λ x. (command_of x.0, lexemes_in x.1.now)) result
+    tokens: Front<'a>,
+) -> Result<(Command, Front<'a>), ReadFault>
+    ensures { Gives (λ x. (command_of x.0, lexemes_in x.1)) result
         (loop_at (cond_at depth) (block_at u32.MAX (command_at u32.MAX depth))
-        (lexemes_in tokens.now)) }
+        (lexemes_in tokens.entry)) }
 {
     let (test, rest) = condition(alloc, depth, tokens)?;
     let (body, rest) = block(alloc, depth, rest)?;
@@ -260,10 +256,10 @@ fn repeated<'a>(
 fn with_local<'a>(
     alloc: Global,
     depth: u32,
-    tokens: &'a [Token],
-) -> Result<(Command, &'a [Token]), ReadFault>
-    ensures { Gives (λ x. (command_of x.0, lexemes_in x.1.now)) result
-        (local_at (block_at u32.MAX (command_at u32.MAX depth)) (lexemes_in tokens.now)) }
+    tokens: Front<'a>,
+) -> Result<(Command, Front<'a>), ReadFault>
+    ensures { Gives (λ x. (command_of x.0, lexemes_in x.1)) result
+        (local_at (block_at u32.MAX (command_at u32.MAX depth)) (lexemes_in tokens.entry)) }
 {
     let (name, rest) = name(alloc, tokens)?;
     let rest = expect(rest, ":")?;
@@ -278,10 +274,10 @@ fn with_local<'a>(
 pub fn command<'a>(
     alloc: Global,
     depth: u32,
-    tokens: &'a [Token],
-) -> Result<(Command, &'a [Token]), ReadFault>
-    ensures { Gives (λ x. (command_of x.0, lexemes_in x.1.now)) result
-        (command_at u32.MAX depth (lexemes_in tokens.now)) }
+    tokens: Front<'a>,
+) -> Result<(Command, Front<'a>), ReadFault>
+    ensures { Gives (λ x. (command_of x.0, lexemes_in x.1)) result
+        (command_at u32.MAX depth (lexemes_in tokens.entry)) }
 {
     if depth == 0 {
         return Err(ReadFault::Memory);

@@ -11,17 +11,17 @@ ghost use Rattle.proof_text.specs.Commands.{cond_joined_at, cond_bracket_at, lon
 use dom_terms::{Cond, Term};
 use logic_text::{Place, term};
 use std::alloc::Global;
-use text_tokens::Token;
+use text_tokens::Front;
 use token_readers::{ReadFault, after, expect};
 
 // A term of a command that is a variable, as a condition.
-fn lone<'a>(left: Term, tokens: &'a [Token]) -> Result<(Cond, &'a [Token]), ReadFault>
-    ensures { Gives (λ x. (cond_of x.0, lexemes_in x.1.now)) result
-        (lone_name (term_of left) (lexemes_in tokens.now)) }
+fn lone<'a>(left: Term, tokens: Front<'a>) -> Result<(Cond, Front<'a>), ReadFault>
+    ensures { Gives (λ x. (cond_of x.0, lexemes_in x.1)) result
+        (lone_name (term_of left) (lexemes_in tokens.entry)) }
 {
     match left {
         Term::Prog(variable) => Ok((Cond::Holds(variable), tokens)),
-        _ => Err(ReadFault::Text(tokens.len())),
+        _ => Err(ReadFault::Text(tokens.count())),
     }
 }
 
@@ -31,10 +31,10 @@ fn compared<'a>(
     alloc: Global,
     depth: u32,
     left: Term,
-    tokens: &'a [Token],
-) -> Result<(Cond, &'a [Token]), ReadFault>
-    ensures { Gives (λ x. (cond_of x.0, lexemes_in x.1.now)) result
-        (cond_compared_at (term_at in_command depth) (term_of left) (lexemes_in tokens.now)) }
+    tokens: Front<'a>,
+) -> Result<(Cond, Front<'a>), ReadFault>
+    ensures { Gives (λ x. (cond_of x.0, lexemes_in x.1)) result
+        (cond_compared_at (term_at in_command depth) (term_of left) (lexemes_in tokens.entry)) }
 {
     if let Some(rest) = after(tokens, "=") {
         let (right, rest) = term(alloc, Place::Command, depth, rest)?;
@@ -52,10 +52,10 @@ fn compared<'a>(
 fn boxed<'a>(
     alloc: Global,
     depth: u32,
-    tokens: &'a [Token],
-) -> Result<(Box<Cond>, &'a [Token]), ReadFault>
-    ensures { Gives (λ x. (cond_of x.0.value, lexemes_in x.1.now)) result
-        (cond_at depth (lexemes_in tokens.now)) }
+    tokens: Front<'a>,
+) -> Result<(Box<Cond>, Front<'a>), ReadFault>
+    ensures { Gives (λ x. (cond_of x.0.value, lexemes_in x.1)) result
+        (cond_at depth (lexemes_in tokens.entry)) }
 {
     let (inner, rest) = condition(alloc, depth, tokens)?;
     let inner = Box::new(alloc, inner)?;
@@ -69,10 +69,10 @@ fn connected<'a>(
     alloc: Global,
     depth: u32,
     left: Box<Cond>,
-    tokens: &'a [Token],
-) -> Result<(Cond, &'a [Token]), ReadFault>
-    ensures { Gives (λ x. (cond_of x.0, lexemes_in x.1.now)) result
-        (cond_joined_at (cond_at depth) (cond_of left.value) (lexemes_in tokens.now)) }
+    tokens: Front<'a>,
+) -> Result<(Cond, Front<'a>), ReadFault>
+    ensures { Gives (λ x. (cond_of x.0, lexemes_in x.1)) result
+        (cond_joined_at (cond_at depth) (cond_of left.value) (lexemes_in tokens.entry)) }
 {
     if let Some(rest) = after(tokens, "and") {
         let (right, rest) = boxed(alloc, depth, rest)?;
@@ -84,19 +84,15 @@ fn connected<'a>(
         let rest = expect(rest, ")")?;
         return Ok((Cond::Or(left, right), rest));
     }
-    Err(ReadFault::Text(tokens.len()))
+    Err(ReadFault::Text(tokens.count()))
 }
 
 // What stands behind an open bracket.
 #[cycle(condition)]
 #[tactic(auto, unfolding(crate::specs::Commands::cond_bracket_at))]
-fn bracket<'a>(
-    alloc: Global,
-    depth: u32,
-    tokens: &'a [Token],
-) -> Result<(Cond, &'a [Token]), ReadFault>
-    ensures { Gives (λ x. (cond_of x.0, lexemes_in x.1.now)) result
-        (cond_bracket_at (cond_at depth) (lexemes_in tokens.now)) }
+fn bracket<'a>(alloc: Global, depth: u32, tokens: Front<'a>) -> Result<(Cond, Front<'a>), ReadFault>
+    ensures { Gives (λ x. (cond_of x.0, lexemes_in x.1)) result
+        (cond_bracket_at (cond_at depth) (lexemes_in tokens.entry)) }
 {
     if let Some(rest) = after(tokens, "not") {
         let (inner, rest) = boxed(alloc, depth, rest)?;
@@ -113,10 +109,10 @@ fn bracket<'a>(
 pub fn condition<'a>(
     alloc: Global,
     depth: u32,
-    tokens: &'a [Token],
-) -> Result<(Cond, &'a [Token]), ReadFault>
-    ensures { Gives (λ x. (cond_of x.0, lexemes_in x.1.now)) result
-        (cond_at depth (lexemes_in tokens.now)) }
+    tokens: Front<'a>,
+) -> Result<(Cond, Front<'a>), ReadFault>
+    ensures { Gives (λ x. (cond_of x.0, lexemes_in x.1)) result
+        (cond_at depth (lexemes_in tokens.entry)) }
 {
     if depth == 0 {
         return Err(ReadFault::Memory);

@@ -5,7 +5,7 @@ ghost use Rattle.dom_terms.specs.Sorts.{sort_of};
 ghost use Rattle.dom_terms.specs.Terms.{prog_var_of};
 ghost use Rattle.token_readers.specs.Reading.{leaf};
 ghost use Rattle.token_readers.specs.Giving.{Gives};
-ghost use Rattle.token_readers.specs.Leaves.{seen, lexemes_in};
+ghost use Rattle.token_readers.specs.Leaves.{lexeme_seen, lexemes_in};
 ghost use Rattle.proof_text.specs.Lists.{bracketed_at};
 ghost use Rattle.proof_text.specs.Theories.{shape_sort_called, leaf_shape_sort, sort_called, leaf_sort, declaration_at};
 
@@ -13,7 +13,7 @@ use crate::bracketed::bracketed;
 use crate::sorts::value_sort;
 use dom_terms::{DataSort, ProgVar, Sort, ValueSort, Vars};
 use std::alloc::Global;
-use text_tokens::Token;
+use text_tokens::{Front, Lexeme};
 use token_readers::{ReadFault, Reader, expect, name};
 
 fn shape_sort_called(name: &str) -> Option<Sort>
@@ -34,26 +34,26 @@ fn shape_sort_called(name: &str) -> Option<Sort>
     }
 }
 
-fn shape_sort_of(token: &Token) -> Option<Sort>
-    ensures { option_map sort_of result ≡ leaf_shape_sort (seen token.now) }
+fn shape_sort_of(token: Lexeme) -> Option<Sort>
+    ensures { option_map sort_of result ≡ leaf_shape_sort (lexeme_seen token.entry) }
 {
     match token.name() {
-        Some(name) => shape_sort_called(name.as_str()),
+        Some(name) => shape_sort_called(name),
         None => None,
     }
 }
 
 /// A sort of shapes or contexts.
-pub fn shape_sort(tokens: &[Token]) -> Result<(Sort, &[Token]), ReadFault>
-    ensures { Gives (λ x. (sort_of x.0, lexemes_in x.1.now)) result
-        (leaf leaf_shape_sort (lexemes_in tokens.now)) }
+pub fn shape_sort(tokens: Front) -> Result<(Sort, Front), ReadFault>
+    ensures { Gives (λ x. (sort_of x.0, lexemes_in x.1)) result
+        (leaf leaf_shape_sort (lexemes_in tokens.entry)) }
 {
-    let [first, rest @ ..] = tokens else {
+    let Some((first, rest)) = tokens.split_first() else {
         return Err(ReadFault::Text(0));
     };
     match shape_sort_of(first) {
         Some(sort) => Ok((sort, rest)),
-        None => Err(ReadFault::Text(tokens.len())),
+        None => Err(ReadFault::Text(tokens.count())),
     }
 }
 
@@ -70,34 +70,34 @@ fn sort_called(name: &str) -> Option<Sort>
     }
 }
 
-fn sort_of(token: &Token) -> Option<Sort>
-    ensures { option_map sort_of result ≡ leaf_sort (seen token.now) }
+fn sort_of(token: Lexeme) -> Option<Sort>
+    ensures { option_map sort_of result ≡ leaf_sort (lexeme_seen token.entry) }
 {
     match token.name() {
-        Some(name) => sort_called(name.as_str()),
+        Some(name) => sort_called(name),
         None => None,
     }
 }
 
 /// A sort.
-pub fn any_sort(tokens: &[Token]) -> Result<(Sort, &[Token]), ReadFault>
-    ensures { Gives (λ x. (sort_of x.0, lexemes_in x.1.now)) result
-        (leaf leaf_sort (lexemes_in tokens.now)) }
+pub fn any_sort(tokens: Front) -> Result<(Sort, Front), ReadFault>
+    ensures { Gives (λ x. (sort_of x.0, lexemes_in x.1)) result
+        (leaf leaf_sort (lexemes_in tokens.entry)) }
 {
-    let [first, rest @ ..] = tokens else {
+    let Some((first, rest)) = tokens.split_first() else {
         return Err(ReadFault::Text(0));
     };
     match sort_of(first) {
         Some(sort) => Ok((sort, rest)),
-        None => Err(ReadFault::Text(tokens.len())),
+        None => Err(ReadFault::Text(tokens.count())),
     }
 }
 
 // A name and its sort.
 #[tactic(auto, unfolding(crate::specs::Theories::declaration_at))]
-fn declaration(alloc: Global, tokens: &[Token]) -> Result<(ProgVar, &[Token]), ReadFault>
-    ensures { Gives (λ x. (prog_var_of x.0, lexemes_in x.1.now)) result
-        (declaration_at (lexemes_in tokens.now)) }
+fn declaration(alloc: Global, tokens: Front) -> Result<(ProgVar, Front), ReadFault>
+    ensures { Gives (λ x. (prog_var_of x.0, lexemes_in x.1)) result
+        (declaration_at (lexemes_in tokens.entry)) }
 {
     let (name, rest) = name(alloc, tokens)?;
     let rest = expect(rest, ":")?;
@@ -118,22 +118,18 @@ impl Reader<ProgVar> for DeclarationReader {
 
     ghost reading = { λ _. declaration_at };
 
-    fn read<'a>(
-        &self,
-        alloc: Global,
-        tokens: &'a [Token],
-    ) -> Result<(ProgVar, &'a [Token]), ReadFault>
-        ensures { Gives (λ x. (prog_var_of x.0, lexemes_in x.1.now)) result
-            (declaration_at (lexemes_in tokens.now)) }
+    fn read<'a>(&self, alloc: Global, tokens: Front<'a>) -> Result<(ProgVar, Front<'a>), ReadFault>
+        ensures { Gives (λ x. (prog_var_of x.0, lexemes_in x.1)) result
+            (declaration_at (lexemes_in tokens.entry)) }
     {
         declaration(alloc, tokens)
     }
 }
 
 /// The declarations in brackets.
-pub fn declarations(alloc: Global, tokens: &[Token]) -> Result<(Vars, &[Token]), ReadFault>
-    ensures { Gives (λ x. (map prog_var_of x.0, lexemes_in x.1.now)) result
-        (bracketed_at declaration_at u32.MAX (lexemes_in tokens.now)) }
+pub fn declarations(alloc: Global, tokens: Front) -> Result<(Vars, Front), ReadFault>
+    ensures { Gives (λ x. (map prog_var_of x.0, lexemes_in x.1)) result
+        (bracketed_at declaration_at u32.MAX (lexemes_in tokens.entry)) }
 {
     bracketed(alloc, &DeclarationReader, tokens)
 }

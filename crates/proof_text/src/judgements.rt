@@ -11,7 +11,7 @@ use crate::sorts::data_sort;
 use formula_syntax::Entailment;
 use logic_text::formula;
 use std::alloc::Global;
-use text_tokens::Token;
+use text_tokens::Front;
 use theory_syntax::{Judgement, Triple};
 use token_readers::{ReadFault, after, expect};
 
@@ -20,10 +20,10 @@ use token_readers::{ReadFault, after, expect};
 fn triple<'a>(
     alloc: Global,
     depth: u32,
-    tokens: &'a [Token],
-) -> Result<(Judgement, &'a [Token]), ReadFault>
-    ensures { Gives (λ x. (judgement_of x.0, lexemes_in x.1.now)) result
-        (triple_at depth u32.MAX (lexemes_in tokens.now)) }
+    tokens: Front<'a>,
+) -> Result<(Judgement, Front<'a>), ReadFault>
+    ensures { Gives (λ x. (judgement_of x.0, lexemes_in x.1)) result
+        (triple_at depth u32.MAX (lexemes_in tokens.entry)) }
 {
     let (pre, rest) = formula(alloc, depth, tokens)?;
     let rest = expect(rest, "do")?;
@@ -45,10 +45,10 @@ fn triple<'a>(
 fn entailment<'a>(
     alloc: Global,
     depth: u32,
-    tokens: &'a [Token],
-) -> Result<(Judgement, &'a [Token]), ReadFault>
-    ensures { Gives (λ x. (judgement_of x.0, lexemes_in x.1.now)) result
-        (entailment_at depth (lexemes_in tokens.now)) }
+    tokens: Front<'a>,
+) -> Result<(Judgement, Front<'a>), ReadFault>
+    ensures { Gives (λ x. (judgement_of x.0, lexemes_in x.1)) result
+        (entailment_at depth (lexemes_in tokens.entry)) }
 {
     let (left, rest) = formula(alloc, depth, tokens)?;
     let rest = expect(rest, "entails")?;
@@ -64,10 +64,10 @@ fn entailment<'a>(
 pub fn judgement<'a>(
     alloc: Global,
     depth: u32,
-    tokens: &'a [Token],
-) -> Result<(Judgement, &'a [Token]), ReadFault>
-    ensures { Gives (λ x. (judgement_of x.0, lexemes_in x.1.now)) result
-        (judgement_at depth u32.MAX (lexemes_in tokens.now)) }
+    tokens: Front<'a>,
+) -> Result<(Judgement, Front<'a>), ReadFault>
+    ensures { Gives (λ x. (judgement_of x.0, lexemes_in x.1)) result
+        (judgement_at depth u32.MAX (lexemes_in tokens.entry)) }
 {
     if let Some(rest) = after(tokens, "pre") {
         return triple(alloc, depth, rest);

@@ -21,5 +21,5 @@ mod writing;
 mod written;
 
 pub use lines::write_theory;
-pub use theories::{MOST_DEPTH, one_theory, read_theory};
+pub use theories::{MOST_DEPTH, one_theory, read_theory, theory_from};
 pub use writing::{push_command, write_command};

@@ -14,13 +14,13 @@ use crate::declarations::any_sort;
 use dom_terms::{Copied, List, LogicVar, LogicVars, OutOfMemory, Sort, Text};
 use logic_text::LogicNameReader;
 use std::alloc::Global;
-use text_tokens::Token;
+use text_tokens::Front;
 use token_readers::{ReadFault, Reader, expect, repeated, separated};
 
 // One or more logic names with commas between them.
-fn names(alloc: Global, tokens: &[Token]) -> Result<(List<Text>, &[Token]), ReadFault>
-    ensures { Gives (λ x. (x.0, lexemes_in x.1.now)) result
-        (sep_list comma (leaf leaf_logic) u32.MAX (lexemes_in tokens.now)) }
+fn names(alloc: Global, tokens: Front) -> Result<(List<Text>, Front), ReadFault>
+    ensures { Gives (λ x. (x.0, lexemes_in x.1)) result
+        (sep_list comma (leaf leaf_logic) u32.MAX (lexemes_in tokens.entry)) }
 {
     separated(alloc, &LogicNameReader, ",", tokens)
 }
@@ -40,9 +40,9 @@ fn of_sort(alloc: Global, names: &[Text], sort: Sort) -> Result<LogicVars, OutOf
 
 // What stands behind the word `logic`.
 #[tactic(auto, unfolding(crate::specs::Theories::logic_tail))]
-fn line(alloc: Global, tokens: &[Token]) -> Result<(LogicVars, &[Token]), ReadFault>
-    ensures { Gives (λ x. (map logic_var_of x.0, lexemes_in x.1.now)) result
-        (logic_tail u32.MAX (lexemes_in tokens.now)) }
+fn line(alloc: Global, tokens: Front) -> Result<(LogicVars, Front), ReadFault>
+    ensures { Gives (λ x. (map logic_var_of x.0, lexemes_in x.1)) result
+        (logic_tail u32.MAX (lexemes_in tokens.entry)) }
 {
     let (sort, rest) = any_sort(tokens)?;
     let (names, rest) = names(alloc, rest)?;
@@ -68,10 +68,10 @@ impl Reader<LogicVars> for LineReader {
     fn read<'a>(
         &self,
         alloc: Global,
-        tokens: &'a [Token],
-    ) -> Result<(LogicVars, &'a [Token]), ReadFault>
-        ensures { Gives (λ x. (map logic_var_of x.0, lexemes_in x.1.now)) result
-            (logic_tail 4294967295 (lexemes_in tokens.now)) }
+        tokens: Front<'a>,
+    ) -> Result<(LogicVars, Front<'a>), ReadFault>
+        ensures { Gives (λ x. (map logic_var_of x.0, lexemes_in x.1)) result
+            (logic_tail 4294967295 (lexemes_in tokens.entry)) }
     {
         line(alloc, tokens)
     }
@@ -79,9 +79,9 @@ impl Reader<LogicVars> for LineReader {
 
 /// The lines, as long as one begins.
 #[tactic(auto, unfolding(crate::specs::Theories::logic_lines_at))]
-pub fn lines(alloc: Global, tokens: &[Token]) -> Result<(List<LogicVars>, &[Token]), ReadFault>
-    ensures { Gives (λ x. (map (map logic_var_of) x.0, lexemes_in x.1.now)) result
-        (logic_lines_at u32.MAX (lexemes_in tokens.now)) }
+pub fn lines(alloc: Global, tokens: Front) -> Result<(List<LogicVars>, Front), ReadFault>
+    ensures { Gives (λ x. (map (map logic_var_of) x.0, lexemes_in x.1)) result
+        (logic_lines_at u32.MAX (lexemes_in tokens.entry)) }
 {
     repeated(alloc, &LineReader, "logic", List::new(alloc), tokens)
 }

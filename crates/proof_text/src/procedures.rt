@@ -15,7 +15,7 @@ use crate::steps::steps;
 use dom_terms::{DataSort, Text, Vars};
 use logic_text::formula;
 use std::alloc::Global;
-use text_tokens::Token;
+use text_tokens::Front;
 use theory_syntax::{Procedure, Procedures};
 use token_readers::{ReadFault, Reader, expect, name, repeated};
 
@@ -34,12 +34,12 @@ fn contents<'a>(
     alloc: Global,
     header: Header,
     depth: u32,
-    tokens: &'a [Token],
-) -> Result<(Procedure, &'a [Token]), ReadFault>
-    ensures { Gives (λ x. (procedure_of x.0, lexemes_in x.1.now)) result
+    tokens: Front<'a>,
+) -> Result<(Procedure, Front<'a>), ReadFault>
+    ensures { Gives (λ x. (procedure_of x.0, lexemes_in x.1)) result
         (contents_at depth u32.MAX header.name (map prog_var_of header.params)
         (map prog_var_of header.results)
-        (data_sort_of header.sort) (lexemes_in tokens.now)) }
+        (data_sort_of header.sort) (lexemes_in tokens.entry)) }
 {
     let rest = expect(tokens, "requires")?;
     let (pre, rest) = formula(alloc, depth, rest)?;
@@ -71,13 +71,9 @@ fn contents<'a>(
 
 // What stands behind the word `proc`.
 #[tactic(auto, unfolding(crate::specs::Theories::procedure_tail))]
-fn procedure(
-    alloc: Global,
-    depth: u32,
-    tokens: &[Token],
-) -> Result<(Procedure, &[Token]), ReadFault>
-    ensures { Gives (λ x. (procedure_of x.0, lexemes_in x.1.now)) result
-        (procedure_tail depth u32.MAX (lexemes_in tokens.now)) }
+fn procedure(alloc: Global, depth: u32, tokens: Front) -> Result<(Procedure, Front), ReadFault>
+    ensures { Gives (λ x. (procedure_of x.0, lexemes_in x.1)) result
+        (procedure_tail depth u32.MAX (lexemes_in tokens.entry)) }
 {
     let (name, rest) = name(alloc, tokens)?;
     let (params, rest) = declarations(alloc, rest)?;
@@ -113,10 +109,10 @@ impl Reader<Procedure> for ProcedureReader {
     fn read<'a>(
         &self,
         alloc: Global,
-        tokens: &'a [Token],
-    ) -> Result<(Procedure, &'a [Token]), ReadFault>
-        ensures { Gives (λ x. (procedure_of x.0, lexemes_in x.1.now)) result
-            (procedure_tail self.now.depth 4294967295 (lexemes_in tokens.now)) }
+        tokens: Front<'a>,
+    ) -> Result<(Procedure, Front<'a>), ReadFault>
+        ensures { Gives (λ x. (procedure_of x.0, lexemes_in x.1)) result
+            (procedure_tail self.now.depth 4294967295 (lexemes_in tokens.entry)) }
     {
         procedure(alloc, self.depth, tokens)
     }
@@ -127,11 +123,11 @@ fn more_procedures<'a>(
     alloc: Global,
     first: Procedure,
     depth: u32,
-    tokens: &'a [Token],
-) -> Result<(Procedures, &'a [Token]), ReadFault>
-    ensures { Gives (λ x. (map procedure_of x.0, lexemes_in x.1.now)) result
+    tokens: Front<'a>,
+) -> Result<(Procedures, Front<'a>), ReadFault>
+    ensures { Gives (λ x. (map procedure_of x.0, lexemes_in x.1)) result
         (with_front (procedure_of first ∷ [])
-        (more_procedures_at depth u32.MAX (lexemes_in tokens.now))) }
+        (more_procedures_at depth u32.MAX (lexemes_in tokens.entry))) }
 {
     let mut found = Procedures::new(alloc);
     found.push(first)?;
@@ -143,10 +139,10 @@ fn more_procedures<'a>(
 pub fn procedures(
     alloc: Global,
     depth: u32,
-    tokens: &[Token],
-) -> Result<(Procedures, &[Token]), ReadFault>
-    ensures { Gives (λ x. (map procedure_of x.0, lexemes_in x.1.now)) result
-        (procedures_at depth u32.MAX (lexemes_in tokens.now)) }
+    tokens: Front,
+) -> Result<(Procedures, Front), ReadFault>
+    ensures { Gives (λ x. (map procedure_of x.0, lexemes_in x.1)) result
+        (procedures_at depth u32.MAX (lexemes_in tokens.entry)) }
 {
     let rest = expect(tokens, "proc")?;
     let (first, rest) = procedure(alloc, depth, rest)?;

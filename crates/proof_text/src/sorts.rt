@@ -5,12 +5,12 @@ ghost use Rattle.dom_terms.specs.Sorts.{value_sort_of, data_sort_of};
 ghost use Rattle.dom_terms.specs.Terms.{prog_var_of};
 ghost use Rattle.token_readers.specs.Reading.{leaf};
 ghost use Rattle.token_readers.specs.Giving.{Gives};
-ghost use Rattle.token_readers.specs.Leaves.{seen, lexemes_in};
+ghost use Rattle.token_readers.specs.Leaves.{lexeme_seen, lexemes_in};
 ghost use Rattle.proof_text.specs.Lists.{value_sort_called, leaf_value_sort, data_sort_called, leaf_data_sort, leaf_variable};
 
 use dom_terms::{Copied, DataSort, ProgVar, ValueSort};
 use std::alloc::Global;
-use text_tokens::Token;
+use text_tokens::{Front, Lexeme};
 use token_readers::{ReadFault, Reader};
 
 fn value_sort_called(name: &str) -> Option<ValueSort>
@@ -26,26 +26,26 @@ fn value_sort_called(name: &str) -> Option<ValueSort>
     }
 }
 
-fn value_sort_of(token: &Token) -> Option<ValueSort>
-    ensures { option_map value_sort_of result ≡ leaf_value_sort (seen token.now) }
+fn value_sort_of(token: Lexeme) -> Option<ValueSort>
+    ensures { option_map value_sort_of result ≡ leaf_value_sort (lexeme_seen token.entry) }
 {
     match token.name() {
-        Some(name) => value_sort_called(name.as_str()),
+        Some(name) => value_sort_called(name),
         None => None,
     }
 }
 
 /// A sort of values.
-pub fn value_sort(tokens: &[Token]) -> Result<(ValueSort, &[Token]), ReadFault>
-    ensures { Gives (λ x. (value_sort_of x.0, lexemes_in x.1.now)) result
-        (leaf leaf_value_sort (lexemes_in tokens.now)) }
+pub fn value_sort(tokens: Front) -> Result<(ValueSort, Front), ReadFault>
+    ensures { Gives (λ x. (value_sort_of x.0, lexemes_in x.1)) result
+        (leaf leaf_value_sort (lexemes_in tokens.entry)) }
 {
-    let [first, rest @ ..] = tokens else {
+    let Some((first, rest)) = tokens.split_first() else {
         return Err(ReadFault::Text(0));
     };
     match value_sort_of(first) {
         Some(sort) => Ok((sort, rest)),
-        None => Err(ReadFault::Text(tokens.len())),
+        None => Err(ReadFault::Text(tokens.count())),
     }
 }
 
@@ -60,44 +60,44 @@ fn data_sort_called(name: &str) -> Option<DataSort>
     }
 }
 
-fn data_sort_of(token: &Token) -> Option<DataSort>
-    ensures { option_map data_sort_of result ≡ leaf_data_sort (seen token.now) }
+fn data_sort_of(token: Lexeme) -> Option<DataSort>
+    ensures { option_map data_sort_of result ≡ leaf_data_sort (lexeme_seen token.entry) }
 {
     match token.name() {
-        Some(name) => data_sort_called(name.as_str()),
+        Some(name) => data_sort_called(name),
         None => None,
     }
 }
 
 /// A sort of data.
-pub fn data_sort(tokens: &[Token]) -> Result<(DataSort, &[Token]), ReadFault>
-    ensures { Gives (λ x. (data_sort_of x.0, lexemes_in x.1.now)) result
-        (leaf leaf_data_sort (lexemes_in tokens.now)) }
+pub fn data_sort(tokens: Front) -> Result<(DataSort, Front), ReadFault>
+    ensures { Gives (λ x. (data_sort_of x.0, lexemes_in x.1)) result
+        (leaf leaf_data_sort (lexemes_in tokens.entry)) }
 {
-    let [first, rest @ ..] = tokens else {
+    let Some((first, rest)) = tokens.split_first() else {
         return Err(ReadFault::Text(0));
     };
     match data_sort_of(first) {
         Some(sort) => Ok((sort, rest)),
-        None => Err(ReadFault::Text(tokens.len())),
+        None => Err(ReadFault::Text(tokens.count())),
     }
 }
 
 /// A variable as it is used, before it has its sort.
-pub fn variable(alloc: Global, tokens: &[Token]) -> Result<(ProgVar, &[Token]), ReadFault>
-    ensures { Gives (λ x. (prog_var_of x.0, lexemes_in x.1.now)) result
-        (leaf leaf_variable (lexemes_in tokens.now)) }
+pub fn variable(alloc: Global, tokens: Front) -> Result<(ProgVar, Front), ReadFault>
+    ensures { Gives (λ x. (prog_var_of x.0, lexemes_in x.1)) result
+        (leaf leaf_variable (lexemes_in tokens.entry)) }
 {
-    let [first, rest @ ..] = tokens else {
+    let Some((first, rest)) = tokens.split_first() else {
         return Err(ReadFault::Text(0));
     };
     match first.name() {
         Some(name) => {
-            let name = name.copy(alloc)?;
+            let name = Text::from_str(alloc, name)?;
             let sort = ValueSort::Node;
             Ok((ProgVar { name, sort }, rest))
         }
-        None => Err(ReadFault::Text(tokens.len())),
+        None => Err(ReadFault::Text(tokens.count())),
     }
 }
 
@@ -114,13 +114,9 @@ impl Reader<ProgVar> for VariableReader {
 
     ghost reading = { λ _. leaf leaf_variable };
 
-    fn read<'a>(
-        &self,
-        alloc: Global,
-        tokens: &'a [Token],
-    ) -> Result<(ProgVar, &'a [Token]), ReadFault>
-        ensures { Gives (λ x. (prog_var_of x.0, lexemes_in x.1.now)) result
-            (leaf leaf_variable (lexemes_in tokens.now)) }
+    fn read<'a>(&self, alloc: Global, tokens: Front<'a>) -> Result<(ProgVar, Front<'a>), ReadFault>
+        ensures { Gives (λ x. (prog_var_of x.0, lexemes_in x.1)) result
+            (leaf leaf_variable (lexemes_in tokens.entry)) }
     {
         variable(alloc, tokens)
     }

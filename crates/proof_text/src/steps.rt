@@ -13,7 +13,7 @@ use crate::judgements::judgement;
 use dom_terms::{Numbers, Terms};
 use logic_text::Place;
 use std::alloc::Global;
-use text_tokens::Token;
+use text_tokens::Front;
 use theory_syntax::{Reason, Step, Steps};
 use token_readers::{ReadFault, Reader, after, expect, number, step_line, word};
 
@@ -30,18 +30,18 @@ impl Reader<u32> for NumberReader {
 
     ghost reading = { λ _. leaf leaf_number };
 
-    fn read<'a>(&self, _alloc: Global, tokens: &'a [Token]) -> Result<(u32, &'a [Token]), ReadFault>
-        ensures { Gives (λ x. (x.0, lexemes_in x.1.now)) result
-            (leaf leaf_number (lexemes_in tokens.now)) }
+    fn read<'a>(&self, _alloc: Global, tokens: Front<'a>) -> Result<(u32, Front<'a>), ReadFault>
+        ensures { Gives (λ x. (x.0, lexemes_in x.1)) result
+            (leaf leaf_number (lexemes_in tokens.entry)) }
     {
         number(tokens)
     }
 }
 
 // The numbers of the steps that a step cites, in brackets.
-fn premises(alloc: Global, tokens: &[Token]) -> Result<(Numbers, &[Token]), ReadFault>
-    ensures { Gives (λ x. (x.0, lexemes_in x.1.now)) result
-        (bracketed_at (leaf leaf_number) u32.MAX (lexemes_in tokens.now)) }
+fn premises(alloc: Global, tokens: Front) -> Result<(Numbers, Front), ReadFault>
+    ensures { Gives (λ x. (x.0, lexemes_in x.1)) result
+        (bracketed_at (leaf leaf_number) u32.MAX (lexemes_in tokens.entry)) }
 {
     bracketed(alloc, &NumberReader, tokens)
 }
@@ -51,10 +51,10 @@ fn premises(alloc: Global, tokens: &[Token]) -> Result<(Numbers, &[Token]), Read
 fn arguments<'a>(
     alloc: Global,
     depth: u32,
-    tokens: &'a [Token],
-) -> Result<(Terms, &'a [Token]), ReadFault>
-    ensures { Gives (λ x. (map term_of x.0, lexemes_in x.1.now)) result
-        (arguments_at depth u32.MAX (lexemes_in tokens.now)) }
+    tokens: Front<'a>,
+) -> Result<(Terms, Front<'a>), ReadFault>
+    ensures { Gives (λ x. (map term_of x.0, lexemes_in x.1)) result
+        (arguments_at depth u32.MAX (lexemes_in tokens.entry)) }
 {
     let Some(rest) = after(tokens, "with") else {
         return Ok((Terms::new(alloc), tokens));
@@ -70,10 +70,10 @@ fn arguments<'a>(
 fn reason<'a>(
     alloc: Global,
     depth: u32,
-    tokens: &'a [Token],
-) -> Result<(Reason, &'a [Token]), ReadFault>
-    ensures { Gives (λ x. (reason_of x.0, lexemes_in x.1.now)) result
-        (reason_at depth u32.MAX (lexemes_in tokens.now)) }
+    tokens: Front<'a>,
+) -> Result<(Reason, Front<'a>), ReadFault>
+    ensures { Gives (λ x. (reason_of x.0, lexemes_in x.1)) result
+        (reason_at depth u32.MAX (lexemes_in tokens.entry)) }
 {
     if let Some(rest) = after(tokens, "auto") {
         return Ok((Reason::Auto, rest));
@@ -96,10 +96,10 @@ fn step<'a>(
     alloc: Global,
     depth: u32,
     line: u32,
-    tokens: &'a [Token],
-) -> Result<(Step, &'a [Token]), ReadFault>
-    ensures { Gives (λ x. (step_of x.0, lexemes_in x.1.now)) result
-        (step_tail depth u32.MAX line (lexemes_in tokens.now)) }
+    tokens: Front<'a>,
+) -> Result<(Step, Front<'a>), ReadFault>
+    ensures { Gives (λ x. (step_of x.0, lexemes_in x.1)) result
+        (step_tail depth u32.MAX line (lexemes_in tokens.entry)) }
 {
     let (number, rest) = number(tokens)?;
     let (reason, rest) = reason(alloc, depth, rest)?;
@@ -119,10 +119,10 @@ fn step<'a>(
 pub fn steps<'a>(
     alloc: Global,
     depth: u32,
-    tokens: &'a [Token],
-) -> Result<(Steps, &'a [Token]), ReadFault>
-    ensures { Gives (λ x. (map step_of x.0, lexemes_in x.1.now)) result
-        (many leaf_step (step_tail depth u32.MAX) u32.MAX (lexemes_in tokens.now)) }
+    tokens: Front<'a>,
+) -> Result<(Steps, Front<'a>), ReadFault>
+    ensures { Gives (λ x. (map step_of x.0, lexemes_in x.1)) result
+        (many leaf_step (step_tail depth u32.MAX) u32.MAX (lexemes_in tokens.entry)) }
 {
     let mut found = Steps::new(alloc);
     let mut rest = tokens;

@@ -7,7 +7,7 @@ ghost use Rattle.model_grammar.specs.Theories.{SpellsTheory};
 ghost use Rattle.theory_syntax.specs.Theories.{theory_of};
 ghost use Rattle.token_readers.specs.Faults.{IfBadText};
 ghost use Rattle.token_readers.specs.Giving.{Gives};
-ghost use Rattle.token_readers.specs.Leaves.{lexemes_in};
+ghost use Rattle.token_readers.specs.Leaves.{listed, lexemes_in};
 ghost use Rattle.token_readers.specs.Spelling.{whole};
 ghost use Rattle.proof_text.specs.Theories.{theory_at};
 
@@ -15,7 +15,7 @@ use crate::logics::{flat, lines};
 use crate::procedures::procedures;
 use declared_sorts::set_theory;
 use std::alloc::Global;
-use text_tokens::{Token, Tokens};
+use text_tokens::{Front, Lexeme, Tokens};
 use theory_syntax::Theory;
 use token_readers::{ReadFault, TextFault, expect, number};
 
@@ -25,9 +25,9 @@ pub const MOST_DEPTH: u32 = 128;
 
 // A theory at the front of the tokens; its variables don't have their sorts yet.
 #[tactic(auto, unfolding(crate::specs::Theories::theory_at))]
-fn theory(alloc: Global, tokens: &[Token]) -> Result<(Theory, &[Token]), ReadFault>
-    ensures { Gives (λ x. (theory_of x.0, lexemes_in x.1.now)) result
-        (theory_at MOST_DEPTH u32.MAX (lexemes_in tokens.now)) }
+fn theory(alloc: Global, tokens: Front) -> Result<(Theory, Front), ReadFault>
+    ensures { Gives (λ x. (theory_of x.0, lexemes_in x.1)) result
+        (theory_at MOST_DEPTH u32.MAX (lexemes_in tokens.entry)) }
 {
     let rest = expect(tokens, "domlogic")?;
     let (version, rest) = number(rest)?;
@@ -43,37 +43,47 @@ fn theory(alloc: Global, tokens: &[Token]) -> Result<(Theory, &[Token]), ReadFau
 }
 
 // A theory that ends where the tokens do.
-fn whole_theory(alloc: Global, tokens: &[Token]) -> Result<Theory, ReadFault>
+fn whole_theory(alloc: Global, tokens: Front) -> Result<Theory, ReadFault>
     ensures { Gives theory_of result
-        (whole (theory_at MOST_DEPTH u32.MAX) (lexemes_in tokens.now)) }
+        (whole (theory_at MOST_DEPTH u32.MAX) (lexemes_in tokens.entry)) }
 {
     let (found, rest) = theory(alloc, tokens)?;
     if rest.is_empty() {
         Ok(found)
     } else {
-        Err(ReadFault::Text(rest.len()))
+        Err(ReadFault::Text(rest.count()))
     }
 }
 
 /// The theory that the tokens spell, all of them, each variable with the sort of its declaration.
 /// `BadText` comes exactly where they spell none, with the fault token where they are those of a
 /// text, and `OutOfMemory` also where the theory nests more than `MOST_DEPTH` deep.
-pub fn read_theory(alloc: Global, tokens: &Tokens) -> Result<Theory, TextFault>
-    ensures found { IfOk result (λ t. SpellsTheory (theory_of t) (lexemes_in tokens.now)) }
+pub fn theory_from(alloc: Global, tokens: Front) -> Result<Theory, TextFault>
+    ensures found { IfOk result (λ t. SpellsTheory (theory_of t) (lexemes_in tokens.entry)) }
     ensures bad_text { IfBadText result (λ token.
-        (t : Spelled) → SpellsTheory t (lexemes_in tokens.now) → ⊥) }
-    ensures fault_token { AreOfTokens (lexemes_in tokens.now)
-        → IfBadText result (IsFaultToken SpellsTheory (lexemes_in tokens.now)) }
+        (t : Spelled) → SpellsTheory t (lexemes_in tokens.entry) → ⊥) }
+    ensures fault_token { AreOfTokens (lexemes_in tokens.entry)
+        → IfBadText result (IsFaultToken SpellsTheory (lexemes_in tokens.entry)) }
 {
-    let tokens = tokens.as_slice();
     match whole_theory(alloc, tokens) {
         Ok(found) => {
             let mut theory = found;
             set_theory(alloc, &mut theory)?;
             Ok(theory)
         }
-        Err(fault) => Err(fault.of_whole(tokens.len())),
+        Err(fault) => Err(fault.of_whole(tokens.count())),
     }
+}
+
+/// The same of the tokens of a list.
+pub fn read_theory(alloc: Global, tokens: &Tokens) -> Result<Theory, TextFault>
+    ensures found { IfOk result (λ t. SpellsTheory (theory_of t) (listed tokens.now)) }
+    ensures bad_text { IfBadText result (λ token.
+        (t : Spelled) → SpellsTheory t (listed tokens.now) → ⊥) }
+    ensures fault_token { AreOfTokens (listed tokens.now)
+        → IfBadText result (IsFaultToken SpellsTheory (listed tokens.now)) }
+{
+    theory_from(alloc, Front::of_list(tokens))
 }
 
 /// A list of lexemes spells at most one theory.

@@ -6,7 +6,7 @@ ghost use Rattle.text_tokens.specs.Lexemes.{lexeme_seen, listed, lexemes_in};
 
 use crate::ascii::AsciiFront;
 use crate::lexemes::Lexeme;
-use crate::tokens::Token;
+use crate::tokens::{Token, Tokens};
 
 // The first token of a list, if there is one.
 fn first_listed(tokens: &[Token]) -> Option<Lexeme>
@@ -50,6 +50,14 @@ impl<'a> Front<'a> {
             Some(front) => Some(Front::Ascii(front)),
             None => None,
         }
+    }
+
+    /// The tokens of a list.
+    #[tactic(auto, unfolding(crate::specs::Lexemes::lexemes_in))]
+    pub fn of_list(tokens: &'a Tokens) -> Front<'a>
+        ensures { lexemes_in result ≡ listed tokens.now }
+    {
+        Front::Listed(tokens.as_slice())
     }
 
     /// The first token: none exactly where none is left.

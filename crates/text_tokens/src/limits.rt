@@ -78,9 +78,8 @@ pub fn front_limit(tokens: Front, nesting: u32) -> Option<LimitKind>
 }
 
 /// The same for the tokens of a list.
-#[tactic(auto, unfolding(crate::specs::Lexemes::lexemes_in))]
 pub fn token_limit(tokens: &Tokens, nesting: u32) -> Option<LimitKind>
     ensures { NamesLimit result (model.token_limit nesting 0 (listed tokens.now)) }
 {
-    front_limit(Front::Listed(tokens.as_slice()), nesting)
+    front_limit(Front::of_list(tokens), nesting)
 }

@@ -1,24 +1,23 @@
-use Rattle.std.proofs.lemmas.List.{length-map}
-use Rattle.token_readers.specs.Leaves.{seen}
+use Rattle.std.proofs.Common.{sym}
 use Rattle.proof_text.proofs.Exact.{found, within, none, fault_token}
-use Rattle.proof_text.proofs.theories.read_theory.Goals as goal
+use Rattle.proof_text.proofs.theories.theory_from.Goals as goal
 
 pub of_whole-requires : goal.of_whole-requires
 of_whole-requires c =
-    within 128 _ _ c.in-Err.ensures _ (length-map c.as_slice-tokens.result.now seen)
+    within 128 _ _ c.in-Err.ensures _ (sym c.count.ensures)
 
 pub returns-in_ok-set_theory-in-Ok-clause-found : goal.returns-in_ok-set_theory-in-Ok-clause-found
 returns-in_ok-set_theory-in-Ok-clause-found c = record {
   raw = _;
-  spelled = found 128 _ _ (rw c.as_slice-tokens.ensures at c.in-Ok.ensures);
+  spelled = found 128 _ _ c.in-Ok.ensures;
   sorted = c.in_ok-set_theory-in-Ok.ensures;
 }
 
 pub returns-in-Err-clause-bad_text : goal.returns-in-Err-clause-bad_text
 returns-in-Err-clause-bad_text c =
-    none 128 _ _ (rw c.as_slice-tokens.ensures at c.in-Err.ensures) _ _ c.of_whole.ensures
+    none 128 _ _ c.in-Err.ensures _ _ c.of_whole.ensures
 
 pub returns-in-Err-clause-fault_token : goal.returns-in-Err-clause-fault_token
 returns-in-Err-clause-fault_token c each =
-    fault_token 128 _ _ (rw c.as_slice-tokens.ensures at c.in-Err.ensures) _
-    (length-map c.args.tokens.now seen) _ (rw c.as_slice-tokens.ensures at c.of_whole.ensures) each
+    fault_token 128 _ _ c.in-Err.ensures _
+    (sym c.count.ensures) _ c.of_whole.ensures each
