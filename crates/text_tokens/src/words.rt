@@ -122,7 +122,8 @@ pub fn word_length<C: Letter>(text: &[C]) -> usize
     ensures within { result ≤ length text.now }
 {
     match text {
-        [first, rest @ ..] if starts_word(first.character()) => 1 + passing_length::<C, InWord>(rest),
+        [first, rest @ ..] if starts_word(first.character()) => 1
+            + passing_length::<C, InWord>(rest),
         _ => 0,
     }
 }
