@@ -1,5 +1,5 @@
 -- The longest symbol at the front of a text, by the character that begins it.
-use Rattle.std.proofs.Common.{◌≡◌, ℕ, ◌+◌, ◌<◌, max, List, map, length, arith, [], ◌∷◌, ◌==◌, nat_eq, Bool, true, false, not, ◌||◌, ◌&&◌, take, drop, get_or, refl, sym, ap, ◌∙◌, eq-eqb}
+use Rattle.std.proofs.Common.{◌≡◌, ℕ, ◌<◌, max, List, map, length, arith, [], ◌∷◌, ◌==◌, nat_eq, Bool, true, false, not, ◌||◌, ◌&&◌, take, drop, get_or, refl, sym, ap, ◌∙◌, eq-eqb}
 use Rattle.std.specs.Prelude.{if◌then◌else◌}
 use Rattle.std.specs.Cmp.Lexicographic.{pointwise}
 use Rattle.std.proofs.lemmas.Bool.{and_parts, eqb-true}

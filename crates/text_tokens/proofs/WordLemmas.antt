@@ -1,9 +1,9 @@
 -- A letter other than o begins nothing but a word, and what begins a symbol nothing else.
-use Rattle.std.proofs.Common.{◌≡◌, ℕ, ◌+◌, ◌≤◌, ◌==◌, ◌<◌, ◌&&◌, ◌||◌, Bool, true, false, not, nat_eq, List, [], ◌∷◌, length, get_or, nat_lt, refl, sym, ap, ◌∙◌, arith}
+use Rattle.std.proofs.Common.{◌≡◌, ℕ, ◌+◌, ◌≤◌, ◌==◌, ◌<◌, ◌&&◌, ◌||◌, Bool, true, false, not, List, [], ◌∷◌, map, length, get_or, nat_lt, refl, sym, ap, ◌∙◌, arith}
 use Rattle.std.specs.Prelude.{if◌then◌else◌}
 use Rattle.std.proofs.lemmas.Bool.{eqb-true, ltb-true, and_parts}
 use Rattle.std.specs.Char.{is_ascii_alphabetic}
-use Rattle.std.specs.List.{list_all, prefix_len}
+use Rattle.std.specs.List.{prefix_len}
 use Rattle.unicode_ident.specs.Ident.{is_xid_continue}
 use Rattle.unicode_ident.proofs.IdentLemmas.{is_xid_start-ascii}
 use Rattle.model_text.specs.Tokens.{TokenKind, word_token, logic_token, literal_token, symbol_token, symbols, longest_at_front, starts_word, word_length, logic_length, literal_end, literal_length, Piece, token_piece, no_piece, piece_length, longer_token, longest_token}
@@ -120,3 +120,10 @@ symbol_is_longest [] first d piece n some is found other count e = absurd (omega
 symbol_is_longest (c ∷ rest) first d piece n some is found other count e =
     e ∙ ap (λ k. longer_token symbol_token k no_piece) count
     ∙ symbol_only c rest (omega (arith, found, count)) (λ same. other (is ∙ same))
+
+-- and at the front of no text stands none
+pub none_is_longest : {X : Type 0} (code : X → ℕ) (text : List X) → length text < 1
+    → no_piece ≡ longest_token (map code text)
+unfolding symbols
+none_is_longest code [] h = refl
+none_is_longest code (x ∷ text) h = absurd (omega (arith, h))

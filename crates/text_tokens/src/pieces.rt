@@ -1,6 +1,7 @@
 // What stands at the front of a text: a gap, a token or neither.
-ghost use Rattle.std.specs.Prelude.{◌≡◌, ◌||◌, map, bytes_eq, codes};
-ghost use Rattle.model_text.specs.Tokens.{is_blank, digits_piece, longer_token, longest_token, piece_at, piece_length};
+ghost use Rattle.std.specs.Prelude.{◌≡◌, ◌||◌, map, bytes_eq, codes, nat_eq};
+ghost use Rattle.std.specs.List.{starts_with};
+ghost use Rattle.model_text.specs.Tokens.{is_blank, digit_run, digits_piece, longer_token, longest_token, piece_at, piece_length};
 ghost use Rattle.text_tokens.specs.Pieces.{piece_of};
 ghost use Rattle.text_tokens.specs.Tokens.{kind_of};
 
@@ -69,6 +70,13 @@ fn digits_piece<C: Letter>(run: &[C]) -> Piece
     }
 }
 
+/// The token at the front of a text that a digit begins.
+fn digits_token<C: Letter>(text: &[C]) -> Piece
+    ensures { piece_of result ≡ digits_piece (digit_run (map C.code text.now)) }
+{
+    digits_piece(&text[..run_length(text)])
+}
+
 /// A token of the kind and the length, if it is longer than the other piece.
 #[inline(always)]
 fn longer_token(kind: TokenKind, length: usize, other: Piece) -> Piece
@@ -86,18 +94,16 @@ fn longer_token(kind: TokenKind, length: usize, other: Piece) -> Piece
 fn longest_token<C: Letter>(text: &[C]) -> Piece
     ensures { piece_of result ≡ longest_token (map C.code text.now) }
 {
-    if let [first, ..] = text
-        && first.character().is_ascii_alphabetic()
-        && first.character() != 'o'
-    {
+    let [first, ..] = text else {
+        return Piece::Nothing;
+    };
+    let first = first.character();
+    if first.is_ascii_alphabetic() && first != 'o' {
         return longer_token(TokenKind::Word, word_length(text), Piece::Nothing);
     }
     let length = symbol_length(text);
     let symbol = longer_token(TokenKind::Symbol, length, Piece::Nothing);
-    if let [first, ..] = text
-        && length > 0
-        && first.character() != 'o'
-    {
+    if length > 0 && first != 'o' {
         return symbol;
     }
     let literal = longer_token(TokenKind::Literal, literal_length(text), symbol);
@@ -105,20 +111,33 @@ fn longest_token<C: Letter>(text: &[C]) -> Piece
     longer_token(TokenKind::Word, word_length(text), logic)
 }
 
+/// Whether a comment stands at the front of the text.
+#[inline(always)]
+fn begins_comment<C: Letter>(text: &[C]) -> bool
+    ensures { result ≡ starts_with nat_eq (map C.code text.now) (codes "//") }
+{
+    match text {
+        [first, second, ..] => first.character() == '/' && second.character() == '/',
+        _ => false,
+    }
+}
+
 /// What stands at the front of the text.
 #[tactic(auto, unfolding(model_text::specs::Tokens::piece_at))]
 pub fn piece_at<C: Letter>(text: &[C]) -> Piece
     ensures { piece_of result ≡ piece_at (map C.code text.now) }
 {
-    match text {
-        [] => Piece::Nothing,
-        [first, ..] if is_blank(first.character()) => Piece::Gap(1),
-        [first, second, ..] if first.character() == '/' && second.character() == '/' => {
-            Piece::Gap(comment_length(text))
-        }
-        [first, ..] if first.character().is_ascii_digit() => {
-            digits_piece(&text[..run_length(text)])
-        }
-        _ => longest_token(text),
+    let [first, ..] = text else {
+        return Piece::Nothing;
+    };
+    let first = first.character();
+    if is_blank(first) {
+        Piece::Gap(1)
+    } else if begins_comment(text) {
+        Piece::Gap(comment_length(text))
+    } else if first.is_ascii_digit() {
+        digits_token(text)
+    } else {
+        longest_token(text)
     }
 }
