@@ -1,15 +1,15 @@
 -- The tokens of ASCII bytes from a place on, piece by piece.
-use Rattle.std.proofs.Common.{◌≡◌, ◌≢◌, ℕ, suc, ◌+◌, ◌-◌, ◌<◌, ◌≤◌, ◌==◌, Bool, true, false, List, [], ◌∷◌, length, take, drop, count_by, map, refl, sym, ap, ◌∙◌, subst, arith, length-drop, eq-eqb}
-use Rattle.std.specs.Prelude.{Option, Some, None}
+use Rattle.std.proofs.Common.{◌≡◌, ◌≢◌, ℕ, zero, suc, ◌+◌, ◌-◌, ◌<◌, ◌≤◌, ◌==◌, Bool, true, false, List, [], ◌∷◌, length, take, drop, count_by, map, refl, sym, ap, ◌∙◌, subst, arith, length-drop, eq-eqb}
+use Rattle.std.specs.Prelude.{Option, Some, None, if◌then◌else◌}
 use Rattle.std.specs.Str.{IsAscii, chars}
 use Rattle.std.proofs.lemmas.Bool.{eqb-true}
-use Rattle.std.proofs.lemmas.List.{length-take-le}
+use Rattle.std.proofs.lemmas.List.{length-take-le, length-map}
 use Rattle.std.proofs.lemmas.Str.{IsAscii-take, IsAscii-drop, IsUtf8-from_ascii, chars-IsAscii, encodes-IsAscii, utf8_valid_len-IsUtf8}
 use Rattle.std.proofs.Math.Seq.{take-length}
 use Rattle.model_text.specs.Lexemes.{Lexeme, lexeme_at, lexeme_of, bad_lexeme}
 use Rattle.model_text.specs.Nesting.{lexemes_of}
 use Rattle.model_text.specs.Tokens as model
-use Rattle.model_text.specs.Tokens.{literal_token, gap_piece, token_piece, piece_at, characters, place_of, line_of, token_text, token_from, tokens_from, newline, tokens_of}
+use Rattle.model_text.specs.Tokens.{literal_token, gap_piece, token_piece, no_piece, bad_token_at, tokens_with, piece_at, characters, place_of, line_of, token_text, token_from, tokens_from, newline, tokens_of}
 use Rattle.text_tokens.specs.declared.tokens.TokenKind.{TokenKind}
 use Rattle.text_tokens.specs.declared.tokens.TokenKind.TheVariants.{Word, LogicName, Number, Literal, Symbol, Bad}
 use Rattle.text_tokens.specs.Ascii.{left_behind}
@@ -194,3 +194,31 @@ some_in bytes from n line None is some = absurd (some refl)
 some_in bytes from n line (Some kind) is some =
     let p = token_in bytes from n (kind_of kind) is.within is.stands in
     (p.1, ap (drop 1) (sym (token_first bytes from n (kind_of kind) is.within is.stands)))
+
+-- there are no more than there are steps
+few_from : (bytes text : List ℕ) (steps number : ℕ)
+    → length (tokens_from bytes text steps number) ≤ steps
+unfolding tokens_from
+few_from bytes text zero number = omega arith
+few_from bytes text (suc steps) number =
+    by_piece (piece_at (drop number text)) (few_from bytes text steps)
+  where
+    by_end : (b : Bool) → length (if b then [] else bad_token_at bytes text number ∷ []) ≤ suc steps
+    by_end true = omega arith
+    by_end false = omega arith
+
+    by_piece : (p : model.Piece) → ((n : ℕ) → length (tokens_from bytes text steps n) ≤ steps)
+        → length (tokens_with bytes text number p (tokens_from bytes text steps)) ≤ suc steps
+    by_piece (gap_piece n) few = omega (arith, few (number + n))
+    by_piece (token_piece kind n) few = omega (arith, few (number + n))
+    by_piece no_piece few = by_end (place_of text number == length bytes)
+
+-- so they are few
+pub few_left : (bytes : List ℕ) (from n line : ℕ) (k : Option TokenKind)
+    → IsSettled bytes from n line k → length (left_behind bytes from) < 4294967296
+few_left bytes from n line k is = omega (
+  arith,
+  length-map (tokens_left bytes bytes from) lexeme_of,
+  few_from bytes bytes (suc (length bytes - from)) from,
+  is.bounded,
+)

@@ -9,3 +9,4 @@ pub mod SymbolLemmas
 pub mod WordLemmas
 pub mod BracketLemmas
 pub mod ReservedLemmas
+pub mod SourceLemmas

@@ -102,15 +102,13 @@ impl<'a> Front<'a> {
     }
 
     /// How many tokens are left. It reads them all.
+    #[tactic(auto, unfolding(crate::specs::Lexemes::lexemes_in))]
     pub fn count(self) -> usize
         ensures { result ≡ length (lexemes_in self.entry) }
     {
-        let mut left = self;
-        let mut found = 0;
-        while !left.is_empty() {
-            left = left.behind();
-            found += 1;
+        match self {
+            Front::Listed(tokens) => tokens.len(),
+            Front::Ascii(front) => front.count(),
         }
-        found
     }
 }

@@ -14,15 +14,16 @@ use std::alloc::Global;
 impl<'a> Source<'a> {
     /// The tokens of the bytes. OutOfMemory comes only where memory is refused, which is asked for
     /// where the bytes aren't ASCII.
+    #[tactic(auto, using(crate::proofs::SourceLemmas::listed_all, crate::proofs::SourceLemmas::is_or_not))]
     pub fn new(alloc: Global, bytes: &'a [u8]) -> Result<Source<'a>, OutOfMemory>
         requires { length bytes.now < 4294967295 }
         ensures { IfOk result (λ source. bytes_in source ≡ bytes.now) }
     {
-        let tokens = if bytes.is_ascii() {
-            Tokens::new(alloc)
-        } else {
-            token_list(alloc, bytes)?
-        };
+        if bytes.is_ascii() {
+            let tokens = Tokens::new(alloc);
+            return Ok(Source { bytes, tokens });
+        }
+        let tokens = token_list(alloc, bytes)?;
         Ok(Source { bytes, tokens })
     }
 

@@ -1,4 +1,4 @@
-use Rattle.std.proofs.Common.{◌+◌, ap, ◌∙◌, arith, drop, length}
+use Rattle.std.proofs.Common.{◌+◌, ap, ◌∙◌, arith}
 use Rattle.text_tokens.proofs.AsciiLemmas.{gap_in, token_in, behind_gap, line_behind}
 use Rattle.text_tokens.specs.Tokens.{kind_of}
 use Rattle.text_tokens.proofs.ascii_reading.settled.Goals as goal

@@ -1,4 +1,3 @@
-use Rattle.std.proofs.Common.{◌≡◌, sym, ◌∙◌}
 use Rattle.text_tokens.proofs.AsciiLemmas.{of_none, none_left, bad_first}
 use Rattle.text_tokens.proofs.ascii.AsciiFront.first.Goals as goal
 

@@ -1,4 +1,4 @@
-use Rattle.std.proofs.Common.{◌≡◌, ◌∷◌, ◌-◌, Bool, true, false, List, ℕ, ap, sym, ◌∙◌, subst, arith, drop, length, take}
+use Rattle.std.proofs.Common.{◌∷◌, ◌-◌, true, false, ap, sym, ◌∙◌, subst, drop, length, take}
 use Rattle.std.specs.Prelude.{Some}
 use Rattle.std.specs.Str.{IsAscii}
 use Rattle.std.proofs.lemmas.Str.{IsAscii-take, IsAscii-drop}

@@ -1,5 +1,5 @@
 use Rattle.std.proofs.Common.{sym, ap, ◌∙◌}
-use Rattle.model_text.specs.Lexemes.{is_reserved, lexeme_at}
+use Rattle.model_text.specs.Lexemes.{lexeme_at}
 use Rattle.text_tokens.specs.Lexemes.{meant}
 use Rattle.text_tokens.specs.Tokens.{kind_of}
 use Rattle.text_tokens.proofs.LexemeLemmas.{not_reserved}
