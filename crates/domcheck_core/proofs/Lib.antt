@@ -8,7 +8,6 @@ pub mod Outcomes
 pub mod Fitting
 pub mod Running
 pub mod Counts
-pub mod Spelling
 pub mod Tested
 pub mod Refusing
 pub mod Verdicts

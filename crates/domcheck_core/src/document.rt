@@ -14,7 +14,7 @@ use crate::status::Status;
 use crate::texts::tokens_within;
 use dom_terms::limits;
 use fault_report::Report;
-use logic_text::{RawGrove, read_grove};
+use logic_text::{RawGrove, grove_from};
 use std::alloc::Global;
 use token_readers::TextFault;
 
@@ -26,8 +26,8 @@ pub fn read_document(alloc: Global, bytes: &[u8]) -> Result<RawGrove, Refused>
     ensures told { IfErr result (λ e. IfAnswer e
         (Unread SpellsGrove standard_limits.document_nesting bad_document_text_line bytes.now)) }
 {
-    let tokens = tokens_within(alloc, bytes, limits::DOCUMENT_NESTING)?;
-    match read_grove(alloc, &tokens) {
+    let source = tokens_within(alloc, bytes, limits::DOCUMENT_NESTING)?;
+    match grove_from(alloc, source.front()) {
         Ok(grove) => Ok(grove),
         Err(TextFault::BadText { token }) => {
             let report = Report::BadDocumentText { token };

@@ -17,7 +17,7 @@ use crate::texts::{past, tokens_within};
 use dom_syntax::{ProgramFault, check_program};
 use dom_terms::limits;
 use fault_report::Report;
-use proof_text::read_theory;
+use proof_text::theory_from;
 use std::alloc::Global;
 use theory_syntax::Theory;
 use token_readers::TextFault;
@@ -30,8 +30,8 @@ fn spelled_theory(alloc: Global, bytes: &[u8]) -> Result<Theory, Refused>
     ensures told { IfErr result (λ e. IfAnswer e
         (Unread SpellsTheory standard_limits.file_nesting bad_text_line bytes.now)) }
 {
-    let tokens = tokens_within(alloc, bytes, limits::FILE_NESTING)?;
-    match read_theory(alloc, &tokens) {
+    let source = tokens_within(alloc, bytes, limits::FILE_NESTING)?;
+    match theory_from(alloc, source.front()) {
         Ok(theory) => Ok(theory),
         Err(TextFault::BadText { token }) => {
             Err(Refused::Answer(Status::BadText, Report::BadText { token }))

@@ -21,7 +21,7 @@ use declared_sorts::{Declared, Names, Sorted, names_of};
 use dom_terms::{Copied, LogicVar, LogicVars, OutOfMemory, ProgVar, Sort, Vars};
 use formula_syntax::{AnyVar, Formula};
 use std::alloc::Global;
-use text_tokens::{Front, Lexeme, Tokens};
+use text_tokens::{Front, Tokens};
 use token_readers::{ReadFault, TextFault};
 
 // A formula that ends where the tokens do; its variables don't have their sorts yet.
@@ -95,6 +95,25 @@ fn set_declared(alloc: Global, formula: &mut Formula, vars: &[AnyVar]) -> Result
     set_among(alloc, formula, variables.as_slice(), logics.as_slice())
 }
 
+// The formula that the tokens spell, all of them, with the sorts of the variables among these.
+fn formula_from(alloc: Global, tokens: Front, vars: &[AnyVar]) -> Result<Formula, TextFault>
+    ensures found { IfOk result (λ p. SpellsFormulaWith (declared_vars vars.now) (formula_of p)
+        (lexemes_in tokens.entry)) }
+    ensures bad_text { IfBadText result (λ token.
+        (p : Named) → SpellsFormula p (lexemes_in tokens.entry) → ⊥) }
+    ensures fault_token { AreOfTokens (lexemes_in tokens.entry)
+        → IfBadText result (IsFaultToken SpellsFormula (lexemes_in tokens.entry)) }
+{
+    match whole_formula(alloc, tokens) {
+        Ok(found) => {
+            let mut formula = found;
+            set_declared(alloc, &mut formula, vars)?;
+            Ok(formula)
+        }
+        Err(fault) => Err(fault.of_whole(tokens.count())),
+    }
+}
+
 /// The formula that the tokens spell, all of them. Each variable has the sort of the first of
 /// `vars` that is of its kind and has its name, and sort node where none is. `BadText` comes
 /// exactly where the tokens spell no formula, with the fault token where they are those of a text,
@@ -107,15 +126,7 @@ pub fn read_formula(alloc: Global, tokens: &Tokens, vars: &[AnyVar]) -> Result<F
     ensures fault_token { AreOfTokens (listed tokens.now)
         → IfBadText result (IsFaultToken SpellsFormula (listed tokens.now)) }
 {
-    let tokens = Front::of_list(tokens);
-    match whole_formula(alloc, tokens) {
-        Ok(found) => {
-            let mut formula = found;
-            set_declared(alloc, &mut formula, vars)?;
-            Ok(formula)
-        }
-        Err(fault) => Err(fault.of_whole(tokens.count())),
-    }
+    formula_from(alloc, Front::of_list(tokens), vars)
 }
 
 /// A list of lexemes spells at most one formula.

@@ -16,7 +16,7 @@ ghost use Rattle.logic_text.specs.TreeReaders.{marked_at, forest_at, tree_at, gr
 use crate::raw_groves::{RawForest, RawGrove, RawTree};
 use dom_terms::Text;
 use std::alloc::Global;
-use text_tokens::{Front, Lexeme, Tokens};
+use text_tokens::{Front, Tokens};
 use token_readers::{ReadFault, TextFault, after, expect};
 
 /// The deepest nesting of trees, terms and formulas that is read; a deeper one is answered as want

@@ -8,7 +8,7 @@ ghost use Rattle.token_readers.specs.Giving.{Gives};
 ghost use Rattle.token_readers.specs.Leaves.{lexeme_seen, lexemes_in};
 ghost use Rattle.proof_text.specs.Lists.{value_sort_called, leaf_value_sort, data_sort_called, leaf_data_sort, leaf_variable};
 
-use dom_terms::{Copied, DataSort, ProgVar, ValueSort};
+use dom_terms::{DataSort, ProgVar, Text, ValueSort};
 use std::alloc::Global;
 use text_tokens::{Front, Lexeme};
 use token_readers::{ReadFault, Reader};

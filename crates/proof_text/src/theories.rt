@@ -15,7 +15,7 @@ use crate::logics::{flat, lines};
 use crate::procedures::procedures;
 use declared_sorts::set_theory;
 use std::alloc::Global;
-use text_tokens::{Front, Lexeme, Tokens};
+use text_tokens::{Front, Tokens};
 use theory_syntax::Theory;
 use token_readers::{ReadFault, TextFault, expect, number};
 

@@ -196,7 +196,7 @@ some_in bytes from n line (Some kind) is some =
     (p.1, ap (drop 1) (sym (token_first bytes from n (kind_of kind) is.within is.stands)))
 
 -- there are no more than there are steps
-few_from : (bytes text : List ℕ) (steps number : ℕ)
+pub few_from : (bytes text : List ℕ) (steps number : ℕ)
     → length (tokens_from bytes text steps number) ≤ steps
 unfolding tokens_from
 few_from bytes text zero number = omega arith

@@ -1,3 +1,5 @@
+use Rattle.std.proofs.Common.{ap, ◌∙◌}
+use Rattle.model_text.specs.Nesting.{lexemes_of}
 use Rattle.std.proofs.lemmas.Result.{err_from_is_err_and}
 use Rattle.model_limits.specs.Limits.{standard_limits}
 use Rattle.model_documents.specs.Grammar.{SpellsGrove}
@@ -7,17 +9,17 @@ use Rattle.domcheck_core.specs.Refusals.{IfAnswer}
 use Rattle.domcheck_core.proofs.Refusing.{handed_on, over, nothing}
 use Rattle.domcheck_core.proofs.document.read_document.Goals as goal
 
-pub returns-in_err-tokens-clause-told : goal.returns-in_err-tokens-clause-told
-returns-in_err-tokens-clause-told c =
+pub returns-in_err-source-clause-told : goal.returns-in_err-source-clause-told
+returns-in_err-source-clause-told c =
     let p = err_from_is_err_and c.from_residual.result c.from_residual.ensures.1 in
     handed_on (λ e. IfAnswer e (Unread SpellsGrove standard_limits.document_nesting bad_document_text_line
-    c.args.bytes.now)) c.from_residual.result p.0 c.in_err-tokens.field-0.0 p.1 p.2
+    c.args.bytes.now)) c.from_residual.result p.0 c.in_err-source.field-0.0 p.1 p.2
     (over SpellsGrove standard_limits.document_nesting bad_document_text_line c.args.bytes.now
-    c.in_err-tokens.field-0.0 c.in_err-tokens.ensures.told)
+    c.in_err-source.field-0.0 c.in_err-source.ensures.told)
 
 pub returns-in-Err-BadText-clause-told : goal.returns-in-Err-BadText-clause-told
 returns-in-Err-BadText-clause-told c =
     nothing SpellsGrove standard_limits.document_nesting bad_document_text_line c.args.bytes.now _
-    c.in-Err-BadText.token c.in_ok-tokens.ensures.same c.in_ok-tokens.ensures.passes
+    c.in-Err-BadText.token (c.front.ensures ∙ ap lexemes_of c.in_ok-source.ensures.same) c.in_ok-source.ensures.passes
     (rw c.in-Err-BadText.field-0-is at c.in-Err-BadText.ensures.bad_text)
     (rw c.in-Err-BadText.field-0-is at c.in-Err-BadText.ensures.fault_token)

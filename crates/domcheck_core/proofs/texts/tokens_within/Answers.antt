@@ -1,5 +1,5 @@
-use Rattle.std.proofs.Common.{Some, None, arith}
-use Rattle.domcheck_core.proofs.Spelling.{same_lexemes}
+use Rattle.std.proofs.Common.{Some, None, arith, ap, ◌∙◌}
+use Rattle.model_text.specs.Nesting.{lexemes_of}
 use Rattle.domcheck_core.proofs.Tested.{limit_of_tokens, past_limit}
 use Rattle.domcheck_core.proofs.texts.tokens_within.Goals as goal
 
@@ -7,12 +7,11 @@ pub returns-in-Some-clause-told : goal.returns-in-Some-clause-told
 returns-in-Some-clause-told c =
     rw c.past-in-Some.ensures (past_limit c.in-Some.kind _
     (limit_of_tokens c.args.nesting c.args.bytes.now _ (Some c.in-Some.kind) (omega arith)
-    (rw c.in-Some.is at c.token_limit.ensures) c.in_ok-tokens.ensures))
-
-pub returns-in-None-clause-same : goal.returns-in-None-clause-same
-returns-in-None-clause-same c = same_lexemes c.args.bytes.now _ c.in_ok-tokens.ensures
+    (rw c.in-Some.is at c.front_limit.ensures)
+    (c.front.ensures ∙ ap lexemes_of c.in_ok-source.ensures)))
 
 pub returns-in-None-clause-passes : goal.returns-in-None-clause-passes
 returns-in-None-clause-passes c =
     limit_of_tokens c.args.nesting c.args.bytes.now _ None (omega arith)
-    (rw c.in-None.is at c.token_limit.ensures) c.in_ok-tokens.ensures
+    (rw c.in-None.is at c.front_limit.ensures)
+    (c.front.ensures ∙ ap lexemes_of c.in_ok-source.ensures)

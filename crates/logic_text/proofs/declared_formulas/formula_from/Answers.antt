@@ -3,7 +3,7 @@ use Rattle.model_grammar.specs.Formulas.{SpellsFormula}
 use Rattle.token_readers.proofs.Whole.{whole_found, fault_within, fault_spells_none, fault_at_token}
 use Rattle.logic_text.specs.FormulaReaders.{formula_at, ends_formula}
 use Rattle.logic_text.proofs.FormulaReader.{formula_sound, formula_only}
-use Rattle.logic_text.proofs.declared_formulas.read_formula.Goals as goal
+use Rattle.logic_text.proofs.declared_formulas.formula_from.Goals as goal
 
 pub of_whole-requires : goal.of_whole-requires
 of_whole-requires c =
