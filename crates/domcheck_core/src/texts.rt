@@ -1,8 +1,9 @@
 // The tokens of the bytes of a file or a document.
 ghost use Rattle.std.specs.Prelude.{◌≡◌, ◌≤◌, None, length, option_map, IfOk, IfErr};
 ghost use Rattle.model_limits.specs.Limits.{standard_limits};
+ghost use Rattle.model_text.specs.Nesting.{lexemes_of};
 ghost use Rattle.model_answers.specs.Texts.{text_limit};
-ghost use Rattle.text_tokens.specs.Sources.{bytes_in};
+ghost use Rattle.text_tokens.specs.Sources.{lexemes_from};
 ghost use Rattle.domcheck_core.specs.Answers.{limit_answer};
 ghost use Rattle.domcheck_core.specs.Refusals.{IsRefusal};
 
@@ -25,7 +26,7 @@ pub fn past(kind: LimitKind) -> Refused
 /// passes one, where so many brackets may be open.
 pub fn tokens_within(alloc: Global, bytes: &[u8], nesting: u32) -> Result<Source, Refused>
     ensures small { IfOk result (λ source. length bytes.now ≤ standard_limits.file_bytes) }
-    ensures same { IfOk result (λ source. bytes_in source ≡ bytes.now) }
+    ensures same { IfOk result (λ source. lexemes_from source ≡ lexemes_of bytes.now) }
     ensures passes { IfOk result (λ source. text_limit nesting bytes.now ≡ None) }
     ensures told { IfErr result
         (λ e. IsRefusal e (option_map limit_answer (text_limit nesting bytes.now))) }

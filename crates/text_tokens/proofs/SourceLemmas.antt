@@ -1,6 +1,5 @@
 -- The tokens that a source has to hold.
-use Rattle.std.proofs.Common.{◌≡◌, ℕ, List, [], ◌∷◌, map, refl, ap, ◌∙◌, arith}
-use Rattle.std.specs.Str.{IsAscii, IsNotAscii}
+use Rattle.std.proofs.Common.{◌≡◌, ℕ, List, [], ◌∷◌, map, refl, ap, ◌∙◌}
 use Rattle.model_text.specs.Lexemes.{lexeme_of}
 use Rattle.model_text.specs.Nesting.{lexemes_of}
 use Rattle.model_text.specs.Tokens.{tokens_of}
@@ -16,7 +15,3 @@ each_seen (t ∷ ts) = ap (λ rest. lexeme_of (token_of t) ∷ rest) (each_seen 
 pub listed_all : (ts : List Token) (bytes : List ℕ) → map token_of ts ≡ tokens_of bytes
     → listed ts ≡ lexemes_of bytes
 listed_all ts bytes e = each_seen ts ∙ ap (map lexeme_of) e
-
--- bytes are ASCII or not
-pub is_or_not : (bytes : List ℕ) → IsAscii bytes → IsNotAscii bytes → ⊥
-is_or_not bytes is other = omega (arith, is other.0, other.1)

@@ -44,6 +44,7 @@ fn piece_from(bytes: &[u8], place: usize) -> Piece
 }
 
 // The tokens from the place on, which is on the line.
+#[inline(always)]
 fn settled(bytes: &[u8], from: usize, line: u32) -> AsciiFront
     requires ascii { IsAscii bytes.now }
     requires bounded { length bytes.now < 4294967295 }
@@ -82,6 +83,7 @@ fn settled(bytes: &[u8], from: usize, line: u32) -> AsciiFront
 }
 
 // The text of ASCII bytes.
+#[inline(always)]
 fn text_of(bytes: &[u8]) -> &str
     requires { IsAscii bytes.now }
     ensures { result.now ≡ bytes.now }
@@ -103,6 +105,7 @@ impl<'a> AsciiFront<'a> {
     }
 
     // The first token, which is of the kind.
+    #[inline(always)]
     fn token(self, kind: TokenKind) -> Lexeme<'a>
         requires { self.kind ≡ Some kind }
         ensures { left_at self.entry ≡ lexeme_seen result ∷ drop 1 (left_at self.entry) }
@@ -126,6 +129,7 @@ impl<'a> AsciiFront<'a> {
     }
 
     /// The first token: none exactly where none is left.
+    #[inline(always)]
     pub fn first(self) -> Option<Lexeme<'a>>
         ensures { MatchOption result (left_at self.entry ≡ [])
             (λ first. left_at self.entry ≡ lexeme_seen first ∷ drop 1 (left_at self.entry)) }
@@ -143,6 +147,7 @@ impl<'a> AsciiFront<'a> {
     }
 
     /// The tokens behind the first.
+    #[inline(always)]
     pub fn behind(self) -> AsciiFront<'a>
         ensures { left_at result ≡ drop 1 (left_at self.entry) }
     {
@@ -153,6 +158,7 @@ impl<'a> AsciiFront<'a> {
     }
 
     // The same where a token stands at the place.
+    #[inline(always)]
     fn behind_token(self) -> AsciiFront<'a>
         requires { self.kind ≢ None }
         ensures { left_at result ≡ drop 1 (left_at self.entry) }

@@ -1,7 +1,5 @@
 // The tokens that are left to a reader.
-ghost use Rattle.std.specs.Prelude.{◌≡◌, [], ◌∷◌, ◌<◌, length, drop, MatchOption, IsTrue, ◌↔◌};
-ghost use Rattle.std.specs.Str.{IsNotAscii};
-ghost use Rattle.model_text.specs.Nesting.{lexemes_of};
+ghost use Rattle.std.specs.Prelude.{◌≡◌, [], ◌∷◌, length, drop, MatchOption, IsTrue, ◌↔◌};
 ghost use Rattle.text_tokens.specs.Lexemes.{lexeme_seen, listed, lexemes_in};
 
 use crate::ascii::AsciiFront;
@@ -9,6 +7,7 @@ use crate::lexemes::Lexeme;
 use crate::tokens::{Token, Tokens};
 
 // The first token of a list, if there is one.
+#[inline(always)]
 fn first_listed(tokens: &[Token]) -> Option<Lexeme>
     ensures { MatchOption result (listed tokens.now ≡ [])
         (λ first. listed tokens.now ≡ lexeme_seen first ∷ drop 1 (listed tokens.now)) }
@@ -20,6 +19,7 @@ fn first_listed(tokens: &[Token]) -> Option<Lexeme>
 }
 
 // The tokens of a list but the first.
+#[inline(always)]
 fn behind_listed(tokens: &[Token]) -> &[Token]
     ensures { listed result.now ≡ drop 1 (listed tokens.now) }
 {
@@ -39,19 +39,6 @@ pub enum Front<'a> {
 }
 
 impl<'a> Front<'a> {
-    /// The tokens of bytes: none exactly where these aren't ASCII.
-    #[tactic(auto, unfolding(crate::specs::Lexemes::lexemes_in))]
-    pub fn of_ascii(bytes: &'a [u8]) -> Option<Front<'a>>
-        requires { length bytes.now < 4294967295 }
-        ensures { MatchOption result (IsNotAscii bytes.now)
-            (λ front. lexemes_in front ≡ lexemes_of bytes.now) }
-    {
-        match AsciiFront::of_bytes(bytes) {
-            Some(front) => Some(Front::Ascii(front)),
-            None => None,
-        }
-    }
-
     /// The tokens of a list.
     #[tactic(auto, unfolding(crate::specs::Lexemes::lexemes_in))]
     pub fn of_list(tokens: &'a Tokens) -> Front<'a>
@@ -62,6 +49,7 @@ impl<'a> Front<'a> {
 
     /// The first token: none exactly where none is left.
     #[tactic(auto, unfolding(crate::specs::Lexemes::lexemes_in))]
+    #[inline(always)]
     pub fn first(self) -> Option<Lexeme<'a>>
         ensures { MatchOption result (lexemes_in self.entry ≡ [])
             (λ first. lexemes_in self.entry ≡ lexeme_seen first ∷ drop 1 (lexemes_in self.entry)) }
@@ -84,6 +72,7 @@ impl<'a> Front<'a> {
     }
 
     /// The first token and those behind it: none exactly where none is left.
+    #[inline(always)]
     pub fn split_first(self) -> Option<(Lexeme<'a>, Front<'a>)>
         ensures { MatchOption result (lexemes_in self.entry ≡ [])
             (λ x. lexemes_in self.entry ≡ lexeme_seen x.0 ∷ lexemes_in x.1) }
@@ -95,6 +84,7 @@ impl<'a> Front<'a> {
     }
 
     /// Whether no token is left.
+    #[inline(always)]
     pub fn is_empty(self) -> bool
         ensures { IsTrue result ↔ (lexemes_in self.entry ≡ []) }
     {

@@ -37,6 +37,7 @@ impl<'a> Lexeme<'a> {
 
     // Whether a token of its kind and text is the symbol or the reserved word of its text. It is
     // asked behind the comparison of the texts, which mostly differ.
+    #[inline(always)]
     fn is_of_terminal_kind(self) -> bool
         ensures { IsTrue result ↔ (lexeme_seen self.entry ≡ terminal self.entry.text.now) }
     {
@@ -59,6 +60,7 @@ impl<'a> Lexeme<'a> {
     }
 
     /// Whether the token is the reserved word `step`; its line is the token's.
+    #[inline(always)]
     pub fn is_step(self) -> bool
         ensures { IsTrue result ↔ (lexeme_seen self.entry ≡ step_word self.entry.line) }
     {
@@ -66,6 +68,7 @@ impl<'a> Lexeme<'a> {
     }
 
     /// The word, reserved or not: none exactly where the token is of another kind.
+    #[inline(always)]
     pub fn word(self) -> Option<&'a str>
         ensures { MatchOption result (kind_of self.entry.kind ≢ word_token)
             (λ text. (kind_of self.entry.kind ≡ word_token)
@@ -78,6 +81,7 @@ impl<'a> Lexeme<'a> {
     }
 
     /// The name: none exactly where the token is no word or a reserved one.
+    #[inline(always)]
     pub fn name(self) -> Option<&'a str>
         ensures { MatchOption result
             ((text : List ℕ) → lexeme_seen self.entry ≢ name_lexeme text)
@@ -90,6 +94,7 @@ impl<'a> Lexeme<'a> {
     }
 
     /// The logic name, with its `$`: none exactly where the token is of another kind.
+    #[inline(always)]
     pub fn logic_name(self) -> Option<&'a str>
         ensures { MatchOption result
             ((text : List ℕ) → lexeme_seen self.entry ≢ logic_lexeme text)

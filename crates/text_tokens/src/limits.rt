@@ -14,6 +14,7 @@ use dom_terms::LimitKind;
 use dom_terms::limits::TEXT_BYTES;
 
 // Whether the text is that of an opening bracket.
+#[inline(always)]
 fn opens(text: &str) -> bool
     ensures { result ≡ model.opens (terminal text.now) }
 {
@@ -21,6 +22,7 @@ fn opens(text: &str) -> bool
 }
 
 // Whether the text is that of a closing bracket.
+#[inline(always)]
 fn closes(text: &str) -> bool
     ensures { result ≡ model.closes (terminal text.now) }
 {
@@ -29,6 +31,7 @@ fn closes(text: &str) -> bool
 
 // How many brackets are open behind the token, where so many are open before it.
 #[tactic(auto, using(crate::proofs::BracketLemmas::brackets))]
+#[inline(always)]
 fn open_behind(before: u64, token: Lexeme) -> u64
     requires { before < 4_294_967_296 }
     ensures { result ≡ model.open_behind before (lexeme_seen token.entry) }
@@ -46,6 +49,7 @@ fn open_behind(before: u64, token: Lexeme) -> u64
 }
 
 // Whether a literal stands for no longer text than the most.
+#[inline(always)]
 fn is_text_within(token: Lexeme) -> bool
     ensures { result ≡ model.text_within (lexeme_seen token.entry) }
 {

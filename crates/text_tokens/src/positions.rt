@@ -15,6 +15,7 @@ pub struct Position {
 }
 
 /// How many newline bytes there are. Most pieces have a single byte.
+#[inline(always)]
 pub fn newlines(bytes: &[u8]) -> u32
     requires { length bytes.now < 2 ^ 32 }
     ensures { result ≡ count_by (λ b. b == newline) bytes.now }

@@ -53,6 +53,7 @@ const RESERVED: [&str; 45] = [
 ];
 
 /// Whether the texts are the same. Most that are compared differ in length or in their first byte.
+#[inline(always)]
 pub fn is_same(own: &str, wanted: &str) -> bool
     ensures { result ≡ bytes_eq own.now wanted.now }
 {

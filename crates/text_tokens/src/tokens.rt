@@ -44,6 +44,7 @@ pub type Tokens = List<Token>;
 
 impl Token {
     /// The token as the grammar sees it.
+    #[inline(always)]
     pub fn seen(&self) -> Lexeme
         ensures { lexeme_seen result ≡ seen self.now }
     {

@@ -6,6 +6,7 @@ use dom_terms::limits::TEXT_BYTES;
 use dom_terms::{OutOfMemory, Text};
 
 /// What stands between the quotes of a literal.
+#[inline(always)]
 pub fn between_quotes<C>(own: &[C]) -> &[C]
     ensures { result.now ≡ take (length own.now - 2) (drop 1 own.now) }
 {

@@ -1,5 +1,4 @@
-use Rattle.std.proofs.Common.{ap, ◌∙◌}
-use Rattle.model_text.specs.Nesting.{lexemes_of}
+use Rattle.std.proofs.Common.{◌∙◌}
 use Rattle.std.proofs.lemmas.Result.{err_from_is_err_and}
 use Rattle.model_limits.specs.Limits.{standard_limits}
 use Rattle.model_documents.specs.Grammar.{SpellsGrove}
@@ -20,6 +19,6 @@ returns-in_err-source-clause-told c =
 pub returns-in-Err-BadText-clause-told : goal.returns-in-Err-BadText-clause-told
 returns-in-Err-BadText-clause-told c =
     nothing SpellsGrove standard_limits.document_nesting bad_document_text_line c.args.bytes.now _
-    c.in-Err-BadText.token (c.front.ensures ∙ ap lexemes_of c.in_ok-source.ensures.same) c.in_ok-source.ensures.passes
+    c.in-Err-BadText.token (c.front.ensures ∙ c.in_ok-source.ensures.same) c.in_ok-source.ensures.passes
     (rw c.in-Err-BadText.field-0-is at c.in-Err-BadText.ensures.bad_text)
     (rw c.in-Err-BadText.field-0-is at c.in-Err-BadText.ensures.fault_token)

@@ -1,8 +1,7 @@
-use Rattle.std.proofs.Common.{subst, List, ap, ◌∙◌}
+use Rattle.std.proofs.Common.{subst, List, ◌∙◌}
 use Rattle.std.proofs.lemmas.Result.{err_from_is_err_and}
 use Rattle.model_limits.specs.Limits.{standard_limits}
 use Rattle.model_text.specs.Lexemes.{Lexeme}
-use Rattle.model_text.specs.Nesting.{lexemes_of}
 use Rattle.model_grammar.specs.Theories.{SpellsTheory}
 use Rattle.model_grammar.proofs.Sizes.{theory_small}
 use Rattle.model_answers.specs.Output.{bad_text_line}
@@ -24,12 +23,12 @@ returns-in_err-source-clause-told c =
 pub returns-in-Ok-clause-small : goal.returns-in-Ok-clause-small
 returns-in-Ok-clause-small c =
     theory_small (subst (λ (z : List Lexeme). SpellsTheory (theory_of c.in-Ok.theory) z)
-    (c.front.ensures ∙ ap lexemes_of c.in_ok-source.ensures.same) c.in-Ok.ensures.found)
+    (c.front.ensures ∙ c.in_ok-source.ensures.same) c.in-Ok.ensures.found)
     (few_lexemes c.args.bytes.now c.in_ok-source.ensures.small)
 
 pub returns-in-Err-BadText-clause-told : goal.returns-in-Err-BadText-clause-told
 returns-in-Err-BadText-clause-told c =
     nothing SpellsTheory standard_limits.file_nesting bad_text_line c.args.bytes.now _
-    c.in-Err-BadText.token (c.front.ensures ∙ ap lexemes_of c.in_ok-source.ensures.same) c.in_ok-source.ensures.passes
+    c.in-Err-BadText.token (c.front.ensures ∙ c.in_ok-source.ensures.same) c.in_ok-source.ensures.passes
     (rw c.in-Err-BadText.field-0-is at c.in-Err-BadText.ensures.bad_text)
     (rw c.in-Err-BadText.field-0-is at c.in-Err-BadText.ensures.fault_token)

@@ -1,5 +1,4 @@
-use Rattle.std.proofs.Common.{Some, None, arith, ap, ◌∙◌}
-use Rattle.model_text.specs.Nesting.{lexemes_of}
+use Rattle.std.proofs.Common.{Some, None, arith, ◌∙◌}
 use Rattle.domcheck_core.proofs.Tested.{limit_of_tokens, past_limit}
 use Rattle.domcheck_core.proofs.texts.tokens_within.Goals as goal
 
@@ -8,10 +7,10 @@ returns-in-Some-clause-told c =
     rw c.past-in-Some.ensures (past_limit c.in-Some.kind _
     (limit_of_tokens c.args.nesting c.args.bytes.now _ (Some c.in-Some.kind) (omega arith)
     (rw c.in-Some.is at c.front_limit.ensures)
-    (c.front.ensures ∙ ap lexemes_of c.in_ok-source.ensures)))
+    (c.front.ensures ∙ c.in_ok-source.ensures)))
 
 pub returns-in-None-clause-passes : goal.returns-in-None-clause-passes
 returns-in-None-clause-passes c =
     limit_of_tokens c.args.nesting c.args.bytes.now _ None (omega arith)
     (rw c.in-None.is at c.front_limit.ensures)
-    (c.front.ensures ∙ ap lexemes_of c.in_ok-source.ensures)
+    (c.front.ensures ∙ c.in_ok-source.ensures)
