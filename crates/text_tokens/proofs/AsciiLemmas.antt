@@ -5,14 +5,14 @@ use Rattle.std.specs.Str.{IsAscii, chars}
 use Rattle.std.proofs.lemmas.Bool.{eqb-true}
 use Rattle.std.proofs.lemmas.List.{length-take-le, length-map}
 use Rattle.std.proofs.lemmas.Str.{IsAscii-take, IsAscii-drop, IsUtf8-from_ascii, chars-IsAscii, encodes-IsAscii, utf8_valid_len-IsUtf8}
-use Rattle.std.proofs.Math.Seq.{take-length}
+use Rattle.std.proofs.Math.Seq.{take-length, drop-cons}
 use Rattle.model_text.specs.Lexemes.{Lexeme, lexeme_at, lexeme_of, bad_lexeme}
 use Rattle.model_text.specs.Nesting.{lexemes_of}
 use Rattle.model_text.specs.Tokens as model
 use Rattle.model_text.specs.Tokens.{literal_token, gap_piece, token_piece, no_piece, bad_token_at, tokens_with, piece_at, characters, place_of, line_of, token_text, token_from, tokens_from, newline, tokens_of}
 use Rattle.text_tokens.specs.declared.tokens.TokenKind.{TokenKind}
 use Rattle.text_tokens.specs.declared.tokens.TokenKind.TheVariants.{Word, LogicName, Number, Literal, Symbol, Bad}
-use Rattle.text_tokens.specs.Ascii.{left_behind}
+use Rattle.text_tokens.specs.Ascii.{SpaceStands, left_behind}
 use Rattle.text_tokens.specs.Lexemes.{meant}
 use Rattle.text_tokens.specs.Reading.{tokens_left}
 use Rattle.text_tokens.specs.Standing.{IsSettled}
@@ -51,6 +51,26 @@ pub behind_gap : (bytes : List ℕ) (from n : ℕ) → from ≤ length bytes
 behind_gap bytes from n within e =
     let p = gap_in bytes from n within e in
     ap (map lexeme_of) (sym (left_gap bytes bytes from n e p.0 p.1))
+
+-- a space is a gap, and no newline
+space_drop : (bytes : List ℕ) (place : ℕ) → SpaceStands bytes place
+    → drop place bytes ≡ 32 ∷ drop (suc place) bytes
+space_drop bytes place is =
+    drop-cons bytes place 0 is.0 ∙ ap (λ c. c ∷ drop (suc place) bytes) is.1
+
+pub space_gap : (bytes : List ℕ) (place : ℕ) → SpaceStands bytes place
+    → gap_piece 1 ≡ piece_at (drop place bytes)
+unfolding piece_at
+space_gap bytes place is = sym (ap piece_at (space_drop bytes place is))
+
+pub space_line : (bytes : List ℕ) (line place : ℕ) → SpaceStands bytes place
+    → line ≡ line_of bytes place → line ≡ line_of bytes (place + 1)
+space_line bytes line place is e =
+    sym (ap (λ l. line + count_by (λ b. b == newline) (take 1 l)) (space_drop bytes place is)
+    ∙ plus_zero line) ∙ line_behind bytes line place 1 e
+  where
+    plus_zero : (n : ℕ) → n + 0 ≡ n
+    plus_zero n = omega arith
 
 -- a token comes first
 pub token_first : (bytes : List ℕ) (from n : ℕ) (kind : model.TokenKind) → from ≤ length bytes

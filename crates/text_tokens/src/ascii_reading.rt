@@ -1,9 +1,10 @@
 // The tokens of ASCII bytes, each read where it is asked for.
 ghost use Rattle.std.specs.Prelude.{◌≡◌, [], ◌∷◌, ◌+◌, ◌<◌, ◌≤◌, drop, take, length, count_by, ◌==◌, ◌≢◌, Some, None, MatchOption};
+ghost use Rattle.std.specs.Bool.{OnTrue};
 ghost use Rattle.std.specs.Str.{IsAscii, IsNotAscii};
 ghost use Rattle.model_text.specs.Nesting.{lexemes_of};
 ghost use Rattle.model_text.specs.Tokens.{line_of, newline, piece_at};
-ghost use Rattle.text_tokens.specs.Ascii.{left_at, left_behind};
+ghost use Rattle.text_tokens.specs.Ascii.{SpaceStands, left_at, left_behind};
 ghost use Rattle.text_tokens.specs.Lexemes.{lexeme_seen};
 ghost use Rattle.text_tokens.specs.Pieces.{piece_of};
 
@@ -43,6 +44,15 @@ fn piece_from(bytes: &[u8], place: usize) -> Piece
     piece_at(&bytes[place..])
 }
 
+// Whether a space stands at the place. Most gaps are one.
+#[inline(always)]
+fn is_space_at(bytes: &[u8], place: usize) -> bool
+    requires { place ≤ length bytes.now }
+    ensures { OnTrue result (SpaceStands bytes.now place) }
+{
+    place < bytes.len() && bytes[place] == b' '
+}
+
 // The tokens from the place on, which is on the line.
 #[inline(always)]
 fn settled(bytes: &[u8], from: usize, line: u32) -> AsciiFront
@@ -55,6 +65,10 @@ fn settled(bytes: &[u8], from: usize, line: u32) -> AsciiFront
     let mut place = from;
     let mut line = line;
     loop {
+        if is_space_at(bytes, place) {
+            place += 1;
+            continue;
+        }
         match piece_from(bytes, place) {
             Piece::Gap(length) => {
                 line += newlines_in(bytes, place, length);
