@@ -7,7 +7,8 @@ use Rattle.std.specs.List.{prefix_len}
 use Rattle.unicode_ident.specs.Ident.{is_xid_continue}
 use Rattle.unicode_ident.proofs.IdentLemmas.{is_xid_start-ascii}
 use Rattle.model_text.specs.Tokens.{TokenKind, word_token, logic_token, literal_token, symbol_token, symbols, longest_at_front, starts_word, word_length, logic_length, literal_end, literal_length, Piece, token_piece, no_piece, piece_length, longer_token, longest_token}
-use Rattle.text_tokens.proofs.SymbolLemmas.{letter_begins_none, none_from}
+use Rattle.text_tokens.proofs.SymbolLemmas.{letter_begins_none, none_from, one}
+use Rattle.text_tokens.specs.Symbols.{is_lone}
 
 -- a letter is no other character
 is_other : (c k : ℕ) → is_ascii_alphabetic c ≡ true → is_ascii_alphabetic k ≡ false
@@ -120,6 +121,16 @@ symbol_is_longest [] first d piece n some is found other count e = absurd (omega
 symbol_is_longest (c ∷ rest) first d piece n some is found other count e =
     e ∙ ap (λ k. longer_token symbol_token k no_piece) count
     ∙ symbol_only c rest (omega (arith, found, count)) (λ same. other (is ∙ same))
+
+-- such as one of a character that begins no longer one
+pub lone_is_longest : (text : List ℕ) (first d : ℕ) → 1 ≤ length text
+    → first ≡ get_or text 0 d → is_lone first ≡ true
+    → token_piece symbol_token 1 ≡ longest_token text
+lone_is_longest [] first d some is lone = absurd (omega arith)
+lone_is_longest (c ∷ rest) first d some is lone =
+    symbol_is_longest (c ∷ rest) first d (token_piece symbol_token 1) 1 some is (omega arith)
+    (λ same. let no : true ≡ false = sym lone ∙ ap is_lone same in cc)
+    (one c (ap is_lone (sym is) ∙ lone) rest) refl
 
 -- and at the front of no text stands none
 pub none_is_longest : {X : Type 0} (code : X → ℕ) (text : List X) → length text < 1

@@ -8,7 +8,7 @@ ghost use Rattle.text_tokens.specs.Tokens.{kind_of};
 use crate::letters::Letter;
 use crate::literals::literal_length;
 use crate::numbers::is_number;
-use crate::symbols::symbol_length;
+use crate::symbols::{is_lone, symbol_length};
 use crate::tokens::TokenKind;
 use crate::words::{comment_length, logic_length, run_length, word_length};
 
@@ -90,7 +90,8 @@ fn longer_token(kind: TokenKind, length: usize, other: Piece) -> Piece
 }
 
 /// The longest token at the front of a text that begins with no digit. A letter but `o` begins
-/// nothing but a word, and another character that begins a symbol nothing else.
+/// nothing but a word, and another character that begins a symbol nothing else. Most tokens are
+/// symbols of one character and words.
 fn longest_token<C: Letter>(text: &[C]) -> Piece
     ensures { piece_of result ≡ longest_token (map C.code text.now) }
 {
@@ -98,6 +99,9 @@ fn longest_token<C: Letter>(text: &[C]) -> Piece
         return Piece::Nothing;
     };
     let first = first.character();
+    if is_lone(first) {
+        return Piece::Token(TokenKind::Symbol, 1);
+    }
     if first.is_ascii_alphabetic() && first != 'o' {
         return longer_token(TokenKind::Word, word_length(text), Piece::Nothing);
     }
@@ -117,7 +121,9 @@ fn begins_comment<C: Letter>(text: &[C]) -> bool
     ensures { result ≡ starts_with nat_eq (map C.code text.now) (codes "//") }
 {
     match text {
-        [first, second, ..] => first.character() == '/' && second.character() == '/',
+        [first, rest @ ..] if first.character() == '/' => {
+            matches!(rest, [second, ..] if second.character() == '/')
+        }
         _ => false,
     }
 }

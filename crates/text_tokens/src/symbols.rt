@@ -1,12 +1,23 @@
 // The symbol at the front of a text.
 ghost use Rattle.std.specs.Prelude.{◌≡◌, ◌∷◌, [], ◌&&◌, map, drop, if◌then◌else◌};
 ghost use Rattle.model_text.specs.Tokens.{symbols, longest_at_front};
-ghost use Rattle.text_tokens.specs.Symbols.{comes_next};
+ghost use Rattle.text_tokens.specs.Symbols.{comes_next, is_lone};
 
 use crate::letters::Letter;
 
 /// The characters that end a symbol for a tree, a forest or a grove.
 const SHAPES: [char; 3] = ['t', 'f', 'g'];
+
+/// Whether the character is a symbol, and begins no longer one.
+#[inline(always)]
+pub fn is_lone(character: char) -> bool
+    ensures { result ≡ is_lone character }
+{
+    matches!(
+        character,
+        '(' | ')' | '[' | ']' | '{' | '}' | '>' | ',' | ';' | '=' | '#' | '%'
+    )
+}
 
 /// Whether one of the marks stands at the front of the text.
 #[inline(always)]
@@ -51,10 +62,10 @@ fn none_or_three<C: Letter>(rest: &[C]) -> usize
 fn length_from<C: Letter>(first: char, rest: &[C]) -> usize
     ensures { result ≡ longest_at_front symbols (first ∷ map C.code rest.now) }
 {
+    if is_lone(first) {
+        return 1;
+    }
     match first {
-        '(' | '[' | '{' => 1,
-        ')' | ']' | '}' | '>' => 1,
-        ',' | ';' | '=' | '#' | '%' => 1,
         '<' | ':' => one_or_two(&['='], rest),
         '.' => one_or_two(&['*', '+'], rest),
         '+' => one_or_two(&['+'], rest),

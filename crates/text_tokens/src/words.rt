@@ -3,28 +3,26 @@ ghost use Rattle.std.specs.Prelude.{◌≡◌, ◌≤◌, ℕ, Bool, not, ◌||�
 ghost use Rattle.std.specs.Char.{is_ascii_digit};
 ghost use Rattle.std.specs.List.{prefix_len};
 ghost use Rattle.unicode_ident.specs.Ident.{is_xid_continue};
+ghost use Rattle.text_tokens.specs.Words.{begins_ascii_word, continues_ascii_word};
 ghost use Rattle.model_text.specs.Tokens.{newline, comment_length, in_digit_run, starts_word, word_length, logic_length};
 
 use crate::letters::Letter;
 use unicode_ident::{is_xid_continue, is_xid_start};
 
-// The same of a character that is no ASCII letter, found without the table where it is ASCII.
-fn continues_word_otherwise(character: char) -> bool
-    ensures { result ≡ is_xid_continue character }
+// Whether the character has the property XID_Continue, where it is ASCII.
+#[inline(always)]
+fn continues_ascii_word(character: char) -> bool
+    ensures { result ≡ continues_ascii_word character }
 {
-    if character.is_ascii() {
-        character.is_ascii_alphanumeric() || character == '_'
-    } else {
-        is_xid_continue(character)
-    }
+    character.is_ascii_alphabetic() || character.is_ascii_digit() || character == '_'
 }
 
-// Whether the character has the property XID_Continue. Most that are asked for are ASCII letters.
+// Whether the character has the property XID_Continue, found without the table where it is ASCII.
 #[inline(always)]
 fn continues_word(character: char) -> bool
     ensures { result ≡ is_xid_continue character }
 {
-    character.is_ascii_alphabetic() || continues_word_otherwise(character)
+    continues_ascii_word(character) || (!character.is_ascii() && is_xid_continue(character))
 }
 
 /// A test that characters at the front of a text pass.
@@ -103,16 +101,20 @@ pub fn comment_length<C: Letter>(text: &[C]) -> usize
     passing_length::<C, InComment>(text)
 }
 
+/// Whether a word may begin with the character, where it is ASCII.
+#[inline(always)]
+fn begins_ascii_word(character: char) -> bool
+    ensures { result ≡ begins_ascii_word character }
+{
+    character.is_ascii_alphabetic() || character == '_'
+}
+
 /// Whether a word may begin with the character.
-#[inline]
+#[inline(always)]
 fn starts_word(character: char) -> bool
     ensures { result ≡ starts_word character }
 {
-    if character.is_ascii() {
-        character.is_ascii_alphabetic() || character == '_'
-    } else {
-        is_xid_start(character)
-    }
+    begins_ascii_word(character) || (!character.is_ascii() && is_xid_start(character))
 }
 
 /// How many characters the word at the front of the text has; 0 where none stands there.

@@ -1,25 +1,11 @@
-use Rattle.std.proofs.Common.{[], ◌∷◌, refl, map, ◌∙◌, arith}
+use Rattle.std.proofs.Common.{[], ◌∷◌, refl, sym, map, ◌∙◌, arith}
 use Rattle.std.proofs.lemmas.Bool.Decides.{nat_tests}
 use Rattle.model_text.specs.Tokens.{symbols}
 use Rattle.text_tokens.proofs.SymbolLemmas.{one, one_or_two, none_or_two, none_or_three, others_begin_none}
 use Rattle.text_tokens.proofs.symbols.length_from.Goals as goal
 
-pub returns-in-40 : goal.returns-in-40
-unfolding symbols
-returns-in-40 g c = one (40 ∷ 91 ∷ 123 ∷ []) refl c.args.first
-    (grind (arith, nat_tests))
-    (map g.C.Letter.code c.args.rest.now)
-
-pub returns-in-41 : goal.returns-in-41
-unfolding symbols
-returns-in-41 g c = one (41 ∷ 93 ∷ 125 ∷ 62 ∷ []) refl c.args.first
-    (grind (arith, nat_tests))
-    (map g.C.Letter.code c.args.rest.now)
-
-pub returns-in-44 : goal.returns-in-44
-unfolding symbols
-returns-in-44 g c = one (44 ∷ 59 ∷ 61 ∷ 35 ∷ 37 ∷ []) refl
-    c.args.first (grind (arith, nat_tests))
+pub returns-then-is_lone : goal.returns-then-is_lone
+returns-then-is_lone g c = one c.args.first (sym c.is_lone.ensures ∙ c.if-is_lone.true)
     (map g.C.Letter.code c.args.rest.now)
 
 pub returns-in-60 : goal.returns-in-60
@@ -74,5 +60,6 @@ returns-in-o g c = c.none_or_three.ensures
     (map g.C.Letter.code c.args.rest.now)
 
 pub returns-in_default : goal.returns-in_default
-returns-in_default g c = others_begin_none c.args.first (grind (arith, nat_tests))
+returns-in_default g c = others_begin_none c.args.first
+    (sym c.is_lone.ensures ∙ c.if-is_lone.false) (grind (arith, nat_tests))
     (map g.C.Letter.code c.args.rest.now)
