@@ -4,7 +4,10 @@ use Rattle.std.proofs.lemmas.List.{get_or-map, length-map}
 use Rattle.std.proofs.lemmas.Bool.Decides.{nat_tests}
 use Rattle.std.specs.Char.{is_ascii_digit}
 use Rattle.std.specs.Int.{is_in_range}
+use Rattle.std.specs.List.{range_with_len}
+use Rattle.std.proofs.lemmas.List.FromFn.{get_or-map-range_with_len}
 use Rattle.unicode_ident.specs.Ident.{is_xid_continue}
+use Rattle.text_tokens.specs.declared.words.TheConstants.{CONTINUES}
 use Rattle.text_tokens.specs.Words.{begins_ascii_word, continues_ascii_word}
 use Rattle.model_text.specs.Tokens.{starts_word}
 use Rattle.unicode_ident.proofs.IdentLemmas.{is_xid_start-ascii, is_xid_continue-ascii}
@@ -43,3 +46,12 @@ regrouped false false lower line = refl
 pub continues_ascii : (c : ℕ) → c < 128 → is_xid_continue c ≡ continues_ascii_word c
 continues_ascii c low = is_xid_continue-ascii c low
     ∙ regrouped (is_ascii_digit c) (is_in_range 65 90 c) (is_in_range 97 122 c) (c == 95)
+
+-- as the table says
+pub in_table : (c : ℕ) (d : Bool) → c < 128 → get_or CONTINUES c d ≡ is_xid_continue c
+in_table c d low = ap (λ table. get_or table c d) all
+    ∙ get_or-map-range_with_len continues_ascii_word 0 128 c c d low (omega arith)
+    ∙ sym (continues_ascii c low)
+  where
+    all : CONTINUES ≡ map continues_ascii_word (range_with_len 0 128)
+    all = refl

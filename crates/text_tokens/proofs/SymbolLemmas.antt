@@ -234,13 +234,23 @@ letter_begins_none first letter other rest =
 abbrev begins_some : ℕ → Bool
 begins_some c = is_lone c || is_among (codes "<:.+-*@?o") c
 
-pub others_begin_none : (first : ℕ) → is_lone first ≡ false
+others_begin_none : (first : ℕ) → is_lone first ≡ false
     → is_among (codes "<:.+-*@?o") first ≡ false → (rest : List ℕ)
     → 0 ≡ longest_at_front symbols (first ∷ rest)
 unfolding symbols
 others_begin_none first lone other rest =
     none_from begins_some first (ap (λ b. b || is_among (codes "<:.+-*@?o") first) lone ∙ other)
     symbols refl rest
+
+-- so that a character that begins no longer symbol is one or begins none
+pub one_or_none : (first : ℕ) → is_among (codes "<:.+-*@?o") first ≡ false → (rest : List ℕ)
+    → (if is_lone first then 1 else 0) ≡ longest_at_front symbols (first ∷ rest)
+one_or_none first other rest = by_test (is_lone first) refl
+  where
+    by_test : (b : Bool) → is_lone first ≡ b
+        → (if b then 1 else 0) ≡ longest_at_front symbols (first ∷ rest)
+    by_test true lone = one first lone rest
+    by_test false lone = others_begin_none first lone other rest
 
 -- and none stands at the front of no text
 pub none_in : {X : Type 0} (code : X → ℕ) (text : List X) → length text < 1

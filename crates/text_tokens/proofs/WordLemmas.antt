@@ -25,7 +25,7 @@ is_not : (b : Bool) → not b ≡ true → b ≡ false
 is_not true e = sym e
 is_not false e = refl
 
-letter_word : (c : ℕ) (rest : List ℕ) → is_ascii_alphabetic c ≡ true → (c ≡ 111 → ⊥)
+pub letter_word : (c : ℕ) (rest : List ℕ) → is_ascii_alphabetic c ≡ true → (c ≡ 111 → ⊥)
     → longer_token word_token (word_length (c ∷ rest)) no_piece ≡ longest_token (c ∷ rest)
 letter_word c rest letter other =
     let symbol = letter_begins_none c letter other rest in
@@ -37,16 +37,6 @@ letter_word c rest letter other =
     λ i. longer_token word_token (word_length (c ∷ rest))
     (longer_token logic_token (logic i)
     (longer_token literal_token (literal i) (longer_token symbol_token (symbol i) no_piece)))
-
--- so the word is the longest token
-pub word_is_longest : (text : List ℕ) (first d : ℕ) (piece : Piece) (n : ℕ) → 1 ≤ length text
-    → first ≡ get_or text 0 d → is_ascii_alphabetic first ≡ true → (first ≡ 111 → ⊥)
-    → n ≡ word_length text → piece ≡ longer_token word_token n no_piece
-    → piece ≡ longest_token text
-word_is_longest [] first d piece n some is letter other count e = absurd (omega arith)
-word_is_longest (c ∷ rest) first d piece n some is letter other count e =
-    e ∙ ap (λ k. longer_token word_token k no_piece) count
-    ∙ letter_word c rest (ap is_ascii_alphabetic (sym is) ∙ letter) (λ same. other (is ∙ same))
 
 -- SYMBOLS
 -- the symbol begins with o, or with what begins no word, literal or logic name
@@ -123,14 +113,11 @@ symbol_is_longest (c ∷ rest) first d piece n some is found other count e =
     ∙ symbol_only c rest (omega (arith, found, count)) (λ same. other (is ∙ same))
 
 -- such as one of a character that begins no longer one
-pub lone_is_longest : (text : List ℕ) (first d : ℕ) → 1 ≤ length text
-    → first ≡ get_or text 0 d → is_lone first ≡ true
-    → token_piece symbol_token 1 ≡ longest_token text
-lone_is_longest [] first d some is lone = absurd (omega arith)
-lone_is_longest (c ∷ rest) first d some is lone =
-    symbol_is_longest (c ∷ rest) first d (token_piece symbol_token 1) 1 some is (omega arith)
-    (λ same. let no : true ≡ false = sym lone ∙ ap is_lone same in cc)
-    (one c (ap is_lone (sym is) ∙ lone) rest) refl
+pub lone_is_longest : (c : ℕ) (rest : List ℕ) → is_lone c ≡ true
+    → token_piece symbol_token 1 ≡ longest_token (c ∷ rest)
+lone_is_longest c rest lone =
+    symbol_is_longest (c ∷ rest) c 0 (token_piece symbol_token 1) 1 (omega arith) refl (omega arith)
+    (λ same. let no : true ≡ false = sym lone ∙ ap is_lone same in cc) (one c lone rest) refl
 
 -- and at the front of no text stands none
 pub none_is_longest : {X : Type 0} (code : X → ℕ) (text : List X) → length text < 1

@@ -3,9 +3,20 @@ use Rattle.model_text.specs.Tokens as model
 use Rattle.model_text.specs.Tokens.{gap_piece, token_piece, no_piece}
 use Rattle.text_tokens.specs.declared.pieces.Piece.{Piece}
 use Rattle.text_tokens.specs.declared.pieces.Piece.TheVariants.{Gap, Token, Nothing}
+use Rattle.model_text.specs.Tokens.{is_blank}
+use Rattle.std.specs.Prelude.{ℕ, not, ◌&&◌, ◌==◌, if◌then◌else◌}
+use Rattle.std.specs.Char.{is_ascii_alphabetic}
+use Rattle.text_tokens.specs.declared.pieces.Start.{Start}
+use Rattle.text_tokens.specs.declared.pieces.Start.TheVariants.{Blank, Symbol, Word, Other}
+use Rattle.text_tokens.specs.Symbols.{is_lone}
 use Rattle.text_tokens.specs.Tokens.{kind_of}
 
 abbrev pub piece_of : Piece → model.Piece
 piece_of (Gap n) = gap_piece n
 piece_of (Token kind n) = token_piece (kind_of kind) n
 piece_of Nothing = no_piece
+
+-- what a text begins with, as far as its first character says
+abbrev pub start_of : ℕ → Start
+start_of c = if is_blank c then Blank else (if is_lone c then Symbol
+    else (if is_ascii_alphabetic c && not (c == 111) then Word else Other))

@@ -2,15 +2,16 @@
 ghost use Rattle.std.specs.Prelude.{◌≡◌, ◌||◌, map, bytes_eq, codes, nat_eq};
 ghost use Rattle.std.specs.List.{starts_with};
 ghost use Rattle.model_text.specs.Tokens.{is_blank, digit_run, digits_piece, longer_token, longest_token, piece_at, piece_length};
-ghost use Rattle.text_tokens.specs.Pieces.{piece_of};
+ghost use Rattle.text_tokens.specs.Pieces.{piece_of, start_of};
 ghost use Rattle.text_tokens.specs.Tokens.{kind_of};
 
-use crate::letters::Letter;
+use crate::letters::{Letter, looked_up};
 use crate::literals::literal_length;
 use crate::numbers::is_number;
-use crate::symbols::{is_lone, symbol_length};
+use crate::symbols::symbol_length;
 use crate::tokens::TokenKind;
 use crate::words::{comment_length, logic_length, run_length, word_length};
+use Start::{Blank, Other, Symbol, Word};
 
 /// What stands at the front of a text, with its number of characters.
 #[derive(Clone, Copy, Debug)]
@@ -36,12 +37,42 @@ impl Piece {
     }
 }
 
-/// Whether the character only separates tokens.
+/// What a text begins with, as far as its first character says.
+#[derive(Clone, Copy, Debug)]
+enum Start {
+    /// A blank.
+    Blank,
+    /// A symbol of one character, and no longer token.
+    Symbol,
+    /// A word, and no other token.
+    Word,
+    /// Any of these but a blank, or something else.
+    Other,
+}
+
+/// What the ASCII characters begin, by their codes.
+const STARTS: [Start; 128] = [
+    Other, Other, Other, Other, Other, Other, Other, Other, Other, Blank, Blank, Other, Other,
+    Blank, Other, Other, Other, Other, Other, Other, Other, Other, Other, Other, Other, Other,
+    Other, Other, Other, Other, Other, Other, Blank, Other, Other, Symbol, Other, Symbol, Other,
+    Other, Symbol, Symbol, Other, Other, Symbol, Other, Other, Other, Other, Other, Other, Other,
+    Other, Other, Other, Other, Other, Other, Other, Symbol, Other, Symbol, Symbol, Other, Other,
+    Word, Word, Word, Word, Word, Word, Word, Word, Word, Word, Word, Word, Word, Word, Word, Word,
+    Word, Word, Word, Word, Word, Word, Word, Word, Word, Word, Symbol, Other, Symbol, Other,
+    Other, Other, Word, Word, Word, Word, Word, Word, Word, Word, Word, Word, Word, Word, Word,
+    Word, Other, Word, Word, Word, Word, Word, Word, Word, Word, Word, Word, Word, Symbol, Other,
+    Symbol, Other, Other,
+];
+
+/// What a text begins with that begins with the character.
 #[inline(always)]
-fn is_blank(character: char) -> bool
-    ensures { result ≡ is_blank character }
+fn start_of(character: char) -> Start
+    ensures { result ≡ start_of character }
 {
-    character == ' ' || character == '\t' || character == '\r' || character == '\n'
+    match looked_up(&STARTS, character) {
+        Some(start) => start,
+        None => Other,
+    }
 }
 
 /// Whether the run is `0f` or `0g`.
@@ -89,25 +120,17 @@ fn longer_token(kind: TokenKind, length: usize, other: Piece) -> Piece
     }
 }
 
-/// The longest token at the front of a text that begins with no digit. A letter but `o` begins
-/// nothing but a word, and another character that begins a symbol nothing else. Most tokens are
-/// symbols of one character and words.
+/// The longest token at the front of a text that begins with no digit. A character but `o` that
+/// begins a symbol begins nothing else.
 fn longest_token<C: Letter>(text: &[C]) -> Piece
     ensures { piece_of result ≡ longest_token (map C.code text.now) }
 {
     let [first, ..] = text else {
         return Piece::Nothing;
     };
-    let first = first.character();
-    if is_lone(first) {
-        return Piece::Token(TokenKind::Symbol, 1);
-    }
-    if first.is_ascii_alphabetic() && first != 'o' {
-        return longer_token(TokenKind::Word, word_length(text), Piece::Nothing);
-    }
     let length = symbol_length(text);
     let symbol = longer_token(TokenKind::Symbol, length, Piece::Nothing);
-    if length > 0 && first != 'o' {
+    if length > 0 && first.character() != 'o' {
         return symbol;
     }
     let literal = longer_token(TokenKind::Literal, literal_length(text), symbol);
@@ -128,9 +151,16 @@ fn begins_comment<C: Letter>(text: &[C]) -> bool
     }
 }
 
-/// What stands at the front of the text.
+/// Whether the character only separates tokens.
+fn is_blank(character: char) -> bool
+    ensures { result ≡ is_blank character }
+{
+    character == ' ' || character == '\t' || character == '\r' || character == '\n'
+}
+
+/// What stands at the front of the text, whatever its first character is.
 #[tactic(auto, unfolding(model_text::specs::Tokens::piece_at))]
-pub fn piece_at<C: Letter>(text: &[C]) -> Piece
+fn other_piece<C: Letter>(text: &[C]) -> Piece
     ensures { piece_of result ≡ piece_at (map C.code text.now) }
 {
     let [first, ..] = text else {
@@ -145,5 +175,21 @@ pub fn piece_at<C: Letter>(text: &[C]) -> Piece
         digits_token(text)
     } else {
         longest_token(text)
+    }
+}
+
+/// What stands at the front of the text. Most pieces are blanks, symbols of one character and
+/// words, which the first character tells.
+pub fn piece_at<C: Letter>(text: &[C]) -> Piece
+    ensures { piece_of result ≡ piece_at (map C.code text.now) }
+{
+    let [first, ..] = text else {
+        return Piece::Nothing;
+    };
+    match start_of(first.character()) {
+        Blank => Piece::Gap(1),
+        Symbol => Piece::Token(TokenKind::Symbol, 1),
+        Word => longer_token(TokenKind::Word, word_length(text), Piece::Nothing),
+        Other => other_piece(text),
     }
 }

@@ -8,15 +8,14 @@ use crate::letters::Letter;
 /// The characters that end a symbol for a tree, a forest or a grove.
 const SHAPES: [char; 3] = ['t', 'f', 'g'];
 
-/// Whether the character is a symbol, and begins no longer one.
-#[inline(always)]
-pub fn is_lone(character: char) -> bool
-    ensures { result ≡ is_lone character }
+/// The length of the symbol that the character is, if it is one that begins no longer one.
+fn lone_length(character: char) -> usize
+    ensures { result ≡ (if is_lone character then 1 else 0) }
 {
-    matches!(
-        character,
-        '(' | ')' | '[' | ']' | '{' | '}' | '>' | ',' | ';' | '=' | '#' | '%'
-    )
+    match character {
+        '(' | ')' | '[' | ']' | '{' | '}' | '>' | ',' | ';' | '=' | '#' | '%' => 1,
+        _ => 0,
+    }
 }
 
 /// Whether one of the marks stands at the front of the text.
@@ -62,9 +61,6 @@ fn none_or_three<C: Letter>(rest: &[C]) -> usize
 fn length_from<C: Letter>(first: char, rest: &[C]) -> usize
     ensures { result ≡ longest_at_front symbols (first ∷ map C.code rest.now) }
 {
-    if is_lone(first) {
-        return 1;
-    }
     match first {
         '<' | ':' => one_or_two(&['='], rest),
         '.' => one_or_two(&['*', '+'], rest),
@@ -74,7 +70,7 @@ fn length_from<C: Letter>(first: char, rest: &[C]) -> usize
         '@' => none_or_two(rest),
         '?' => none_or_two(rest),
         'o' => none_or_three(rest),
-        _ => 0,
+        _ => lone_length(first),
     }
 }
 

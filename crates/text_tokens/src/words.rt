@@ -3,26 +3,35 @@ ghost use Rattle.std.specs.Prelude.{◌≡◌, ◌≤◌, ℕ, Bool, not, ◌||�
 ghost use Rattle.std.specs.Char.{is_ascii_digit};
 ghost use Rattle.std.specs.List.{prefix_len};
 ghost use Rattle.unicode_ident.specs.Ident.{is_xid_continue};
-ghost use Rattle.text_tokens.specs.Words.{begins_ascii_word, continues_ascii_word};
+ghost use Rattle.text_tokens.specs.Words.{begins_ascii_word};
 ghost use Rattle.model_text.specs.Tokens.{newline, comment_length, in_digit_run, starts_word, word_length, logic_length};
 
-use crate::letters::Letter;
+use crate::letters::{Letter, looked_up};
 use unicode_ident::{is_xid_continue, is_xid_start};
 
-// Whether the character has the property XID_Continue, where it is ASCII.
-#[inline(always)]
-fn continues_ascii_word(character: char) -> bool
-    ensures { result ≡ continues_ascii_word character }
-{
-    character.is_ascii_alphabetic() || character.is_ascii_digit() || character == '_'
-}
+/// Which ASCII characters have the property XID_Continue, by their codes.
+const CONTINUES: [bool; 128] = [
+    false, false, false, false, false, false, false, false, false, false, false, false, false,
+    false, false, false, false, false, false, false, false, false, false, false, false, false,
+    false, false, false, false, false, false, false, false, false, false, false, false, false,
+    false, false, false, false, false, false, false, false, false, true, true, true, true, true,
+    true, true, true, true, true, false, false, false, false, false, false, false, true, true,
+    true, true, true, true, true, true, true, true, true, true, true, true, true, true, true, true,
+    true, true, true, true, true, true, true, true, false, false, false, false, true, false, true,
+    true, true, true, true, true, true, true, true, true, true, true, true, true, true, true, true,
+    true, true, true, true, true, true, true, true, true, false, false, false, false, false,
+];
 
-// Whether the character has the property XID_Continue, found without the table where it is ASCII.
+/// Whether the character has the property XID_Continue, found without the table of all characters
+/// where it is ASCII.
 #[inline(always)]
 fn continues_word(character: char) -> bool
     ensures { result ≡ is_xid_continue character }
 {
-    continues_ascii_word(character) || (!character.is_ascii() && is_xid_continue(character))
+    match looked_up(&CONTINUES, character) {
+        Some(continues) => continues,
+        None => is_xid_continue(character),
+    }
 }
 
 /// A test that characters at the front of a text pass.
