@@ -6,6 +6,5 @@ pub mod PositionLemmas
 pub mod ReadingLemmas
 pub mod StartLemmas
 pub mod SymbolLemmas
-pub mod WordLemmas
 pub mod BracketLemmas
 pub mod ReservedLemmas

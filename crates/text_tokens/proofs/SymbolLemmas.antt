@@ -234,7 +234,7 @@ letter_begins_none first letter other rest =
 abbrev begins_some : ℕ → Bool
 begins_some c = is_lone c || is_among (codes "<:.+-*@?o") c
 
-others_begin_none : (first : ℕ) → is_lone first ≡ false
+pub others_begin_none : (first : ℕ) → is_lone first ≡ false
     → is_among (codes "<:.+-*@?o") first ≡ false → (rest : List ℕ)
     → 0 ≡ longest_at_front symbols (first ∷ rest)
 unfolding symbols

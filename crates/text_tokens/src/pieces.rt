@@ -1,7 +1,7 @@
 // What stands at the front of a text: a gap, a token or neither.
 ghost use Rattle.std.specs.Prelude.{◌≡◌, ◌||◌, map, bytes_eq, codes, nat_eq};
 ghost use Rattle.std.specs.List.{starts_with};
-ghost use Rattle.model_text.specs.Tokens.{is_blank, digit_run, digits_piece, longer_token, longest_token, piece_at, piece_length};
+ghost use Rattle.model_text.specs.Tokens.{is_blank, digit_run, digits_piece, longer_token, longest_token, no_piece, piece_at, piece_length};
 ghost use Rattle.text_tokens.specs.Pieces.{piece_of, start_of};
 ghost use Rattle.text_tokens.specs.Tokens.{kind_of};
 
@@ -11,7 +11,7 @@ use crate::numbers::is_number;
 use crate::symbols::symbol_length;
 use crate::tokens::TokenKind;
 use crate::words::{comment_length, logic_length, run_length, word_length};
-use Start::{Blank, Other, Symbol, Word};
+use Start::{Blank, Digit, Literal, LogicName, LoneSymbol, Other, Symbol, Word};
 
 /// What stands at the front of a text, with its number of characters.
 #[derive(Clone, Copy, Debug)]
@@ -43,10 +43,18 @@ enum Start {
     /// A blank.
     Blank,
     /// A symbol of one character, and no longer token.
+    LoneSymbol,
+    /// A symbol, if it is a token.
     Symbol,
-    /// A word, and no other token.
+    /// A word.
     Word,
-    /// Any of these but a blank, or something else.
+    /// A logic name, if it is a token.
+    LogicName,
+    /// A literal, if it is a token.
+    Literal,
+    /// A number, `0f` or `0g`, if it is a token.
+    Digit,
+    /// Anything.
     Other,
 }
 
@@ -54,14 +62,14 @@ enum Start {
 const STARTS: [Start; 128] = [
     Other, Other, Other, Other, Other, Other, Other, Other, Other, Blank, Blank, Other, Other,
     Blank, Other, Other, Other, Other, Other, Other, Other, Other, Other, Other, Other, Other,
-    Other, Other, Other, Other, Other, Other, Blank, Other, Other, Symbol, Other, Symbol, Other,
-    Other, Symbol, Symbol, Other, Other, Symbol, Other, Other, Other, Other, Other, Other, Other,
-    Other, Other, Other, Other, Other, Other, Other, Symbol, Other, Symbol, Symbol, Other, Other,
+    Other, Other, Other, Other, Other, Other, Blank, Other, Literal, LoneSymbol, LogicName,
+    LoneSymbol, Other, Other, LoneSymbol, LoneSymbol, Symbol, Symbol, LoneSymbol, Symbol, Symbol,
+    Other, Digit, Digit, Digit, Digit, Digit, Digit, Digit, Digit, Digit, Digit, Symbol,
+    LoneSymbol, Symbol, LoneSymbol, LoneSymbol, Symbol, Symbol, Word, Word, Word, Word, Word, Word,
     Word, Word, Word, Word, Word, Word, Word, Word, Word, Word, Word, Word, Word, Word, Word, Word,
-    Word, Word, Word, Word, Word, Word, Word, Word, Word, Word, Symbol, Other, Symbol, Other,
-    Other, Other, Word, Word, Word, Word, Word, Word, Word, Word, Word, Word, Word, Word, Word,
-    Word, Other, Word, Word, Word, Word, Word, Word, Word, Word, Word, Word, Word, Symbol, Other,
-    Symbol, Other, Other,
+    Word, Word, Word, Word, LoneSymbol, Other, LoneSymbol, Other, Other, Other, Word, Word, Word,
+    Word, Word, Word, Word, Word, Word, Word, Word, Word, Word, Word, Other, Word, Word, Word,
+    Word, Word, Word, Word, Word, Word, Word, Word, LoneSymbol, Other, LoneSymbol, Other, Other,
 ];
 
 /// What a text begins with that begins with the character.
@@ -120,19 +128,11 @@ fn longer_token(kind: TokenKind, length: usize, other: Piece) -> Piece
     }
 }
 
-/// The longest token at the front of a text that begins with no digit. A character but `o` that
-/// begins a symbol begins nothing else.
+/// The longest token at the front of a text that begins with no digit.
 fn longest_token<C: Letter>(text: &[C]) -> Piece
     ensures { piece_of result ≡ longest_token (map C.code text.now) }
 {
-    let [first, ..] = text else {
-        return Piece::Nothing;
-    };
-    let length = symbol_length(text);
-    let symbol = longer_token(TokenKind::Symbol, length, Piece::Nothing);
-    if length > 0 && first.character() != 'o' {
-        return symbol;
-    }
+    let symbol = longer_token(TokenKind::Symbol, symbol_length(text), Piece::Nothing);
     let literal = longer_token(TokenKind::Literal, literal_length(text), symbol);
     let logic = longer_token(TokenKind::LogicName, logic_length(text), literal);
     longer_token(TokenKind::Word, word_length(text), logic)
@@ -178,8 +178,15 @@ fn other_piece<C: Letter>(text: &[C]) -> Piece
     }
 }
 
-/// What stands at the front of the text. Most pieces are blanks, symbols of one character and
-/// words, which the first character tells.
+/// A token of the kind and the length, if it has one.
+#[inline(always)]
+fn only_token(kind: TokenKind, length: usize) -> Piece
+    ensures { piece_of result ≡ longer_token (kind_of kind) length no_piece }
+{
+    longer_token(kind, length, Piece::Nothing)
+}
+
+/// What stands at the front of the text. Its first character mostly tells what may.
 pub fn piece_at<C: Letter>(text: &[C]) -> Piece
     ensures { piece_of result ≡ piece_at (map C.code text.now) }
 {
@@ -188,8 +195,12 @@ pub fn piece_at<C: Letter>(text: &[C]) -> Piece
     };
     match start_of(first.character()) {
         Blank => Piece::Gap(1),
-        Symbol => Piece::Token(TokenKind::Symbol, 1),
-        Word => longer_token(TokenKind::Word, word_length(text), Piece::Nothing),
+        LoneSymbol => Piece::Token(TokenKind::Symbol, 1),
+        Symbol => only_token(TokenKind::Symbol, symbol_length(text)),
+        Word => only_token(TokenKind::Word, word_length(text)),
+        LogicName => only_token(TokenKind::LogicName, logic_length(text)),
+        Literal => only_token(TokenKind::Literal, literal_length(text)),
+        Digit => digits_token(text),
         Other => other_piece(text),
     }
 }
