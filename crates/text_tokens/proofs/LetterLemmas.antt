@@ -1,4 +1,4 @@
--- Texts whose characters are held in either way, and the letters in them.
+-- Texts whose characters are held in either way, and the ASCII characters of words.
 use Rattle.std.proofs.Common.{◌≡◌, ℕ, ◌<◌, ◌||◌, ◌==◌, Bool, true, false, List, map, length, get_or, refl, sym, ap, subst, arith, ◌∙◌}
 use Rattle.std.proofs.lemmas.List.{get_or-map, length-map}
 use Rattle.std.proofs.lemmas.Bool.Decides.{nat_tests}
@@ -26,9 +26,6 @@ within_codes code text i within = subst (λ n. i < n) (sym (length-map text code
 -- THE ASCII CHARACTERS OF WORDS
 pub begin_is_ascii : (c : ℕ) → begins_ascii_word c ≡ true → c < 128
 begin_is_ascii c begins = grind (arith, nat_tests)
-
-pub part_is_ascii : (c : ℕ) → continues_ascii_word c ≡ true → c < 128
-part_is_ascii c part = grind (arith, nat_tests)
 
 -- no other ASCII character begins a word
 pub begins_ascii : (c : ℕ) → c < 128 → starts_word c ≡ begins_ascii_word c

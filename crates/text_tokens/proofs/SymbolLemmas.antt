@@ -20,7 +20,7 @@ begins_so test [] = true
 begins_so test (c ∷ symbol) = test c
 
 -- a symbol that begins with another character doesn't stand there
-pub no_length : (first c : ℕ) (rest symbol : List ℕ) → nat_eq c first ≡ false
+no_length : (first c : ℕ) (rest symbol : List ℕ) → nat_eq c first ≡ false
     → length_at_front (first ∷ rest) (c ∷ symbol) ≡ 0
 no_length first c rest symbol e =
     ap (λ b. if b && pointwise nat_eq symbol (take (length symbol) rest)

@@ -1,9 +1,9 @@
--- The piece of the definition that a piece of the text stands for; nothing here is to be believed.
+-- The piece of the definition that a piece of the text stands for, and what a text begins with;
+-- nothing here is to be believed.
 use Rattle.model_text.specs.Tokens as model
-use Rattle.model_text.specs.Tokens.{gap_piece, token_piece, no_piece}
+use Rattle.model_text.specs.Tokens.{gap_piece, token_piece, no_piece, is_blank}
 use Rattle.text_tokens.specs.declared.pieces.Piece.{Piece}
 use Rattle.text_tokens.specs.declared.pieces.Piece.TheVariants.{Gap, Token, Nothing}
-use Rattle.model_text.specs.Tokens.{is_blank}
 use Rattle.std.specs.Prelude.{ℕ, not, ◌&&◌, ◌==◌, codes, if◌then◌else◌}
 use Rattle.std.specs.Char.{is_ascii_alphabetic, is_ascii_digit}
 use Rattle.text_tokens.specs.declared.pieces.Start.{Start}
