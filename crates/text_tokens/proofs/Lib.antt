@@ -5,8 +5,8 @@ pub mod LineLemmas
 pub mod NumberLemmas
 pub mod PositionLemmas
 pub mod ReadingLemmas
+pub mod StartLemmas
 pub mod SymbolLemmas
-pub mod WordLemmas
 pub mod BracketLemmas
 pub mod ReservedLemmas
 pub mod SourceLemmas

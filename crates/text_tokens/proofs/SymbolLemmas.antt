@@ -1,11 +1,11 @@
 -- The longest symbol at the front of a text, by the character that begins it.
-use Rattle.std.proofs.Common.{◌≡◌, ℕ, ◌<◌, max, List, map, length, arith, [], ◌∷◌, ◌==◌, nat_eq, Bool, true, false, not, ◌||◌, ◌&&◌, take, drop, get_or, refl, sym, ap, ◌∙◌, eq-eqb}
+use Rattle.std.proofs.Common.{◌≡◌, ℕ, ◌<◌, max, List, map, length, arith, [], ◌∷◌, ◌==◌, nat_eq, Bool, true, false, not, ◌||◌, ◌&&◌, take, drop, get_or, codes, refl, sym, ap, ◌∙◌, eq-eqb}
 use Rattle.std.specs.Prelude.{if◌then◌else◌}
 use Rattle.std.specs.Cmp.Lexicographic.{pointwise}
 use Rattle.std.proofs.lemmas.Bool.{and_parts, eqb-true}
 use Rattle.std.specs.Char.{is_ascii_alphabetic}
-use Rattle.std.specs.List.{filter, list_all, list_any}
-use Rattle.text_tokens.specs.Symbols.{comes_next}
+use Rattle.std.specs.List.{filter, list_all}
+use Rattle.text_tokens.specs.Symbols.{comes_next, is_among, is_lone}
 use Rattle.model_text.specs.Tokens.{symbols, length_at_front, longest_at_front}
 
 -- THE SYMBOLS THAT BEGIN WITH A CHARACTER
@@ -19,12 +19,8 @@ abbrev pub begins_so : (ℕ → Bool) → List ℕ → Bool
 begins_so test [] = true
 begins_so test (c ∷ symbol) = test c
 
--- whether the character is one of these
-abbrev pub is_among : List ℕ → ℕ → Bool
-is_among codes c = list_any (λ code. nat_eq code c) codes
-
 -- a symbol that begins with another character doesn't stand there
-pub no_length : (first c : ℕ) (rest symbol : List ℕ) → nat_eq c first ≡ false
+no_length : (first c : ℕ) (rest symbol : List ℕ) → nat_eq c first ≡ false
     → length_at_front (first ∷ rest) (c ∷ symbol) ≡ 0
 no_length first c rest symbol e =
     ap (λ b. if b && pointwise nat_eq symbol (take (length symbol) rest)
@@ -168,12 +164,12 @@ pub one_or_two : (marks heads : List ℕ) → IsBegunBy (one_and_pairs marks) he
 one_or_two marks heads all first among rest = sym (of_one_and_pairs marks first rest)
     ∙ decided_by (one_and_pairs marks) heads all first among rest
 
--- with none behind it
-pub one : (heads : List ℕ) → IsBegunBy (one_and_pairs []) heads → (first : ℕ)
-    → is_among heads first ≡ true → (rest : List ℕ)
+-- alone
+pub one : (first : ℕ) → is_lone first ≡ true → (rest : List ℕ)
     → 1 ≡ longest_at_front symbols (first ∷ rest)
-one heads all first among rest =
-    sym (by_rest rest) ∙ one_or_two [] heads all first among rest
+unfolding symbols
+one first lone rest =
+    sym (by_rest rest) ∙ one_or_two [] (codes "()[]{}>,;=#%") refl first lone rest
   where
     by_rest : (rest : List ℕ) → ◌≡◌ {A = ℕ} (if comes_next [] rest then 2 else 1) 1
     by_rest [] = refl
@@ -234,16 +230,27 @@ letter_begins_none first letter other rest =
     none_from begins_no_word first (ap (λ b. not b || (first == 111)) letter
     ∙ not_o first (first == 111) refl other) symbols refl rest
 
--- or a character that begins none of them
-abbrev pub beginnings : List ℕ
-beginnings = 40 ∷ 41 ∷ 91 ∷ 93 ∷ 123 ∷ 125 ∷ 60 ∷ 62 ∷ 44 ∷ 59 ∷ 58 ∷ 46 ∷ 61 ∷ 35 ∷ 37 ∷ 43 ∷ 45
-    ∷ 42 ∷ 64 ∷ 111 ∷ 63 ∷ []
+-- or a character that is none of their first
+abbrev begins_some : ℕ → Bool
+begins_some c = is_lone c || is_among (codes "<:.+-*@?o") c
 
-pub others_begin_none : (first : ℕ) → is_among beginnings first ≡ false → (rest : List ℕ)
+pub others_begin_none : (first : ℕ) → is_lone first ≡ false
+    → is_among (codes "<:.+-*@?o") first ≡ false → (rest : List ℕ)
     → 0 ≡ longest_at_front symbols (first ∷ rest)
 unfolding symbols
-others_begin_none first other rest =
-    none_from (is_among beginnings) first other symbols refl rest
+others_begin_none first lone other rest =
+    none_from begins_some first (ap (λ b. b || is_among (codes "<:.+-*@?o") first) lone ∙ other)
+    symbols refl rest
+
+-- so that a character that begins no longer symbol is one or begins none
+pub one_or_none : (first : ℕ) → is_among (codes "<:.+-*@?o") first ≡ false → (rest : List ℕ)
+    → (if is_lone first then 1 else 0) ≡ longest_at_front symbols (first ∷ rest)
+one_or_none first other rest = by_test (is_lone first) refl
+  where
+    by_test : (b : Bool) → is_lone first ≡ b
+        → (if b then 1 else 0) ≡ longest_at_front symbols (first ∷ rest)
+    by_test true lone = one first lone rest
+    by_test false lone = others_begin_none first lone other rest
 
 -- and none stands at the front of no text
 pub none_in : {X : Type 0} (code : X → ℕ) (text : List X) → length text < 1

@@ -1,5 +1,5 @@
 // The characters of a text that is read, whichever way they are held.
-ghost use Rattle.std.specs.Prelude.{◌≡◌, ℕ};
+ghost use Rattle.std.specs.Prelude.{◌≡◌, ◌<◌, ◌≤◌, ℕ, length, get_or, MatchOption};
 
 /// A character of a text that is read: a character, or a byte of a text that is all ASCII.
 pub trait Letter: Copy + Drop {
@@ -26,5 +26,18 @@ impl Letter for u8 {
     #[inline(always)]
     fn character(self) -> char {
         self as char
+    }
+}
+
+/// The entry of the table at the code of the character, and none where it has none.
+#[inline(always)]
+pub fn looked_up<T: Copy + Drop>(table: &[T], character: char) -> Option<T>
+    ensures { MatchOption result (length table.now ≤ character)
+        (λ entry. (character < length table.now)
+        × (entry ≡ get_or table.now character entry)) }
+{
+    match table.get(character as usize) {
+        Some(entry) => Some(*entry),
+        None => None,
     }
 }

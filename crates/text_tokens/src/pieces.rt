@@ -1,16 +1,17 @@
 // What stands at the front of a text: a gap, a token or neither.
 ghost use Rattle.std.specs.Prelude.{◌≡◌, ◌||◌, map, bytes_eq, codes, nat_eq};
 ghost use Rattle.std.specs.List.{starts_with};
-ghost use Rattle.model_text.specs.Tokens.{is_blank, digit_run, digits_piece, longer_token, longest_token, piece_at, piece_length};
-ghost use Rattle.text_tokens.specs.Pieces.{piece_of};
+ghost use Rattle.model_text.specs.Tokens.{is_blank, digit_run, digits_piece, longer_token, longest_token, no_piece, piece_at, piece_length};
+ghost use Rattle.text_tokens.specs.Pieces.{piece_of, start_of};
 ghost use Rattle.text_tokens.specs.Tokens.{kind_of};
 
-use crate::letters::Letter;
+use crate::letters::{Letter, looked_up};
 use crate::literals::literal_length;
 use crate::numbers::is_number;
 use crate::symbols::symbol_length;
 use crate::tokens::TokenKind;
 use crate::words::{comment_length, logic_length, run_length, word_length};
+use Start::{Blank, Digit, Literal, LogicName, LoneSymbol, Other, Symbol, Word};
 
 /// What stands at the front of a text, with its number of characters.
 #[derive(Clone, Copy, Debug)]
@@ -36,12 +37,50 @@ impl Piece {
     }
 }
 
-/// Whether the character only separates tokens.
+/// What a text begins with, as far as its first character says.
+#[derive(Clone, Copy, Debug)]
+enum Start {
+    /// A blank.
+    Blank,
+    /// A symbol of one character, and no longer token.
+    LoneSymbol,
+    /// A symbol, if it is a token.
+    Symbol,
+    /// A word.
+    Word,
+    /// A logic name, if it is a token.
+    LogicName,
+    /// A literal, if it is a token.
+    Literal,
+    /// A number, `0f` or `0g`, if it is a token.
+    Digit,
+    /// Anything.
+    Other,
+}
+
+/// What the ASCII characters begin, by their codes.
+const STARTS: [Start; 128] = [
+    Other, Other, Other, Other, Other, Other, Other, Other, Other, Blank, Blank, Other, Other,
+    Blank, Other, Other, Other, Other, Other, Other, Other, Other, Other, Other, Other, Other,
+    Other, Other, Other, Other, Other, Other, Blank, Other, Literal, LoneSymbol, LogicName,
+    LoneSymbol, Other, Other, LoneSymbol, LoneSymbol, Symbol, Symbol, LoneSymbol, Symbol, Symbol,
+    Other, Digit, Digit, Digit, Digit, Digit, Digit, Digit, Digit, Digit, Digit, Symbol,
+    LoneSymbol, Symbol, LoneSymbol, LoneSymbol, Symbol, Symbol, Word, Word, Word, Word, Word, Word,
+    Word, Word, Word, Word, Word, Word, Word, Word, Word, Word, Word, Word, Word, Word, Word, Word,
+    Word, Word, Word, Word, LoneSymbol, Other, LoneSymbol, Other, Other, Other, Word, Word, Word,
+    Word, Word, Word, Word, Word, Word, Word, Word, Word, Word, Word, Other, Word, Word, Word,
+    Word, Word, Word, Word, Word, Word, Word, Word, LoneSymbol, Other, LoneSymbol, Other, Other,
+];
+
+/// What a text begins with that begins with the character.
 #[inline(always)]
-fn is_blank(character: char) -> bool
-    ensures { result ≡ is_blank character }
+fn start_of(character: char) -> Start
+    ensures { result ≡ start_of character }
 {
-    character == ' ' || character == '\t' || character == '\r' || character == '\n'
+    match looked_up(&STARTS, character) {
+        Some(start) => start,
+        None => Other,
+    }
 }
 
 /// Whether the run is `0f` or `0g`.
@@ -89,23 +128,11 @@ fn longer_token(kind: TokenKind, length: usize, other: Piece) -> Piece
     }
 }
 
-/// The longest token at the front of a text that begins with no digit. A letter but `o` begins
-/// nothing but a word, and another character that begins a symbol nothing else.
+/// The longest token at the front of a text that begins with no digit.
 fn longest_token<C: Letter>(text: &[C]) -> Piece
     ensures { piece_of result ≡ longest_token (map C.code text.now) }
 {
-    let [first, ..] = text else {
-        return Piece::Nothing;
-    };
-    let first = first.character();
-    if first.is_ascii_alphabetic() && first != 'o' {
-        return longer_token(TokenKind::Word, word_length(text), Piece::Nothing);
-    }
-    let length = symbol_length(text);
-    let symbol = longer_token(TokenKind::Symbol, length, Piece::Nothing);
-    if length > 0 && first != 'o' {
-        return symbol;
-    }
+    let symbol = longer_token(TokenKind::Symbol, symbol_length(text), Piece::Nothing);
     let literal = longer_token(TokenKind::Literal, literal_length(text), symbol);
     let logic = longer_token(TokenKind::LogicName, logic_length(text), literal);
     longer_token(TokenKind::Word, word_length(text), logic)
@@ -117,14 +144,23 @@ fn begins_comment<C: Letter>(text: &[C]) -> bool
     ensures { result ≡ starts_with nat_eq (map C.code text.now) (codes "//") }
 {
     match text {
-        [first, second, ..] => first.character() == '/' && second.character() == '/',
+        [first, rest @ ..] if first.character() == '/' => {
+            matches!(rest, [second, ..] if second.character() == '/')
+        }
         _ => false,
     }
 }
 
-/// What stands at the front of the text.
+/// Whether the character only separates tokens.
+fn is_blank(character: char) -> bool
+    ensures { result ≡ is_blank character }
+{
+    character == ' ' || character == '\t' || character == '\r' || character == '\n'
+}
+
+/// What stands at the front of the text, whatever its first character is.
 #[tactic(auto, unfolding(model_text::specs::Tokens::piece_at))]
-pub fn piece_at<C: Letter>(text: &[C]) -> Piece
+fn other_piece<C: Letter>(text: &[C]) -> Piece
     ensures { piece_of result ≡ piece_at (map C.code text.now) }
 {
     let [first, ..] = text else {
@@ -139,5 +175,32 @@ pub fn piece_at<C: Letter>(text: &[C]) -> Piece
         digits_token(text)
     } else {
         longest_token(text)
+    }
+}
+
+/// A token of the kind and the length, if it has one.
+#[inline(always)]
+fn only_token(kind: TokenKind, length: usize) -> Piece
+    ensures { piece_of result ≡ longer_token (kind_of kind) length no_piece }
+{
+    longer_token(kind, length, Piece::Nothing)
+}
+
+/// What stands at the front of the text. Its first character mostly tells what may.
+pub fn piece_at<C: Letter>(text: &[C]) -> Piece
+    ensures { piece_of result ≡ piece_at (map C.code text.now) }
+{
+    let [first, ..] = text else {
+        return Piece::Nothing;
+    };
+    match start_of(first.character()) {
+        Blank => Piece::Gap(1),
+        LoneSymbol => Piece::Token(TokenKind::Symbol, 1),
+        Symbol => only_token(TokenKind::Symbol, symbol_length(text)),
+        Word => only_token(TokenKind::Word, word_length(text)),
+        LogicName => only_token(TokenKind::LogicName, logic_length(text)),
+        Literal => only_token(TokenKind::Literal, literal_length(text)),
+        Digit => digits_token(text),
+        Other => other_piece(text),
     }
 }

@@ -1,12 +1,22 @@
 // The symbol at the front of a text.
 ghost use Rattle.std.specs.Prelude.{◌≡◌, ◌∷◌, [], ◌&&◌, map, drop, if◌then◌else◌};
 ghost use Rattle.model_text.specs.Tokens.{symbols, longest_at_front};
-ghost use Rattle.text_tokens.specs.Symbols.{comes_next};
+ghost use Rattle.text_tokens.specs.Symbols.{comes_next, is_lone};
 
 use crate::letters::Letter;
 
 /// The characters that end a symbol for a tree, a forest or a grove.
 const SHAPES: [char; 3] = ['t', 'f', 'g'];
+
+/// The length of the symbol that the character is, if it is one that begins no longer one.
+fn lone_length(character: char) -> usize
+    ensures { result ≡ (if is_lone character then 1 else 0) }
+{
+    match character {
+        '(' | ')' | '[' | ']' | '{' | '}' | '>' | ',' | ';' | '=' | '#' | '%' => 1,
+        _ => 0,
+    }
+}
 
 /// Whether one of the marks stands at the front of the text.
 #[inline(always)]
@@ -52,9 +62,6 @@ fn length_from<C: Letter>(first: char, rest: &[C]) -> usize
     ensures { result ≡ longest_at_front symbols (first ∷ map C.code rest.now) }
 {
     match first {
-        '(' | '[' | '{' => 1,
-        ')' | ']' | '}' | '>' => 1,
-        ',' | ';' | '=' | '#' | '%' => 1,
         '<' | ':' => one_or_two(&['='], rest),
         '.' => one_or_two(&['*', '+'], rest),
         '+' => one_or_two(&['+'], rest),
@@ -63,7 +70,7 @@ fn length_from<C: Letter>(first: char, rest: &[C]) -> usize
         '@' => none_or_two(rest),
         '?' => none_or_two(rest),
         'o' => none_or_three(rest),
-        _ => 0,
+        _ => lone_length(first),
     }
 }
 

@@ -3,28 +3,35 @@ ghost use Rattle.std.specs.Prelude.{◌≡◌, ◌≤◌, ℕ, Bool, not, ◌||�
 ghost use Rattle.std.specs.Char.{is_ascii_digit};
 ghost use Rattle.std.specs.List.{prefix_len};
 ghost use Rattle.unicode_ident.specs.Ident.{is_xid_continue};
+ghost use Rattle.text_tokens.specs.Words.{begins_ascii_word};
 ghost use Rattle.model_text.specs.Tokens.{newline, comment_length, in_digit_run, starts_word, word_length, logic_length};
 
-use crate::letters::Letter;
+use crate::letters::{Letter, looked_up};
 use unicode_ident::{is_xid_continue, is_xid_start};
 
-// The same of a character that is no ASCII letter, found without the table where it is ASCII.
-fn continues_word_otherwise(character: char) -> bool
-    ensures { result ≡ is_xid_continue character }
-{
-    if character.is_ascii() {
-        character.is_ascii_alphanumeric() || character == '_'
-    } else {
-        is_xid_continue(character)
-    }
-}
+/// Which ASCII characters have the property XID_Continue, by their codes.
+const CONTINUES: [bool; 128] = [
+    false, false, false, false, false, false, false, false, false, false, false, false, false,
+    false, false, false, false, false, false, false, false, false, false, false, false, false,
+    false, false, false, false, false, false, false, false, false, false, false, false, false,
+    false, false, false, false, false, false, false, false, false, true, true, true, true, true,
+    true, true, true, true, true, false, false, false, false, false, false, false, true, true,
+    true, true, true, true, true, true, true, true, true, true, true, true, true, true, true, true,
+    true, true, true, true, true, true, true, true, false, false, false, false, true, false, true,
+    true, true, true, true, true, true, true, true, true, true, true, true, true, true, true, true,
+    true, true, true, true, true, true, true, true, true, false, false, false, false, false,
+];
 
-// Whether the character has the property XID_Continue. Most that are asked for are ASCII letters.
+/// Whether the character has the property XID_Continue, found without the table of all characters
+/// where it is ASCII.
 #[inline(always)]
 fn continues_word(character: char) -> bool
     ensures { result ≡ is_xid_continue character }
 {
-    character.is_ascii_alphabetic() || continues_word_otherwise(character)
+    match looked_up(&CONTINUES, character) {
+        Some(continues) => continues,
+        None => is_xid_continue(character),
+    }
 }
 
 /// A test that characters at the front of a text pass.
@@ -103,16 +110,20 @@ pub fn comment_length<C: Letter>(text: &[C]) -> usize
     passing_length::<C, InComment>(text)
 }
 
+/// Whether a word may begin with the character, where it is ASCII.
+#[inline(always)]
+fn begins_ascii_word(character: char) -> bool
+    ensures { result ≡ begins_ascii_word character }
+{
+    character.is_ascii_alphabetic() || character == '_'
+}
+
 /// Whether a word may begin with the character.
-#[inline]
+#[inline(always)]
 fn starts_word(character: char) -> bool
     ensures { result ≡ starts_word character }
 {
-    if character.is_ascii() {
-        character.is_ascii_alphabetic() || character == '_'
-    } else {
-        is_xid_start(character)
-    }
+    begins_ascii_word(character) || (!character.is_ascii() && is_xid_start(character))
 }
 
 /// How many characters the word at the front of the text has; 0 where none stands there.

@@ -30,7 +30,8 @@ advanced-to-requires-clause-single c = λ single.
 pub returns-in-Gap-clause-goes_on : goal.returns-in-Gap-clause-goes_on
 returns-in-Gap-clause-goes_on c =
     read_gap c.args.bytes.now c.args.line.now _ c.args.from c.advanced-to.result c.in-Gap.field-0
-    c.len.result (of_line _ c.args.line.now c.in-Gap.ensures) (c.len.ensures ∙ ap (λ p. piece_length (piece_of p)) c.in-Gap.is)
+    c.len.result (of_line _ c.args.line.now c.in-Gap.ensures)
+    (c.len.ensures ∙ ap (λ p. piece_length (piece_of p)) c.in-Gap.is)
     c.requires.some c.advanced-to.ensures.is c.advanced-to.ensures.number
     c.advanced-to.ensures.place
 
@@ -45,7 +46,8 @@ pub returns-in_ok-push_token-in-Token-clause-goes_on :
     goal.returns-in_ok-push_token-in-Token-clause-goes_on
 returns-in_ok-push_token-in-Token-clause-goes_on c =
     read_token c.args.bytes.now c.args.line.now _ _ c.args.from c.advanced-to.result
-    (kind_of c.in-Token.kind) c.in-Token.field-1 c.len.result (of_line _ c.args.line.now c.in-Token.ensures)
+    (kind_of c.in-Token.kind) c.in-Token.field-1 c.len.result
+    (of_line _ c.args.line.now c.in-Token.ensures)
     (c.len.ensures ∙ ap (λ p. piece_length (piece_of p)) c.in-Token.is)
     c.requires.some c.advanced-to.ensures.is c.advanced-to.ensures.number
     c.advanced-to.ensures.place c.in_ok-push_token-in-Token.ensures
@@ -54,12 +56,14 @@ pub returns-in_ok-push_token-in-Token-clause-further :
     goal.returns-in_ok-push_token-in-Token-clause-further
 returns-in_ok-push_token-in-Token-clause-further c =
     further c.args.line.now c.args.from c.advanced-to.result c.in-Token.field-1 c.len.result
-    (token_fits c.args.line.now (kind_of c.in-Token.kind) c.in-Token.field-1 (of_line _ c.args.line.now c.in-Token.ensures))
+    (token_fits c.args.line.now (kind_of c.in-Token.kind) c.in-Token.field-1
+    (of_line _ c.args.line.now c.in-Token.ensures))
     (c.len.ensures ∙ ap (λ p. piece_length (piece_of p)) c.in-Token.is)
     c.advanced-to.ensures.number
 
 pub returns-in_ok-push_token-in-Nothing-clause-ends :
     goal.returns-in_ok-push_token-in-Nothing-clause-ends
 returns-in_ok-push_token-in-Nothing-clause-ends c =
-    ends_bad c.args.bytes.now c.args.line.now _ _ c.args.from (of_line _ c.args.line.now c.in-Nothing.ensures)
+    ends_bad c.args.bytes.now c.args.line.now _ _ c.args.from
+    (of_line _ c.args.line.now c.in-Nothing.ensures)
     c.requires.some c.requires.within c.in_ok-push_token-in-Nothing.ensures

@@ -1,26 +1,8 @@
 use Rattle.std.proofs.Common.{[], ◌∷◌, refl, map, ◌∙◌, arith}
 use Rattle.std.proofs.lemmas.Bool.Decides.{nat_tests}
 use Rattle.model_text.specs.Tokens.{symbols}
-use Rattle.text_tokens.proofs.SymbolLemmas.{one, one_or_two, none_or_two, none_or_three, others_begin_none}
+use Rattle.text_tokens.proofs.SymbolLemmas.{one_or_two, none_or_two, none_or_three, one_or_none}
 use Rattle.text_tokens.proofs.symbols.length_from.Goals as goal
-
-pub returns-in-40 : goal.returns-in-40
-unfolding symbols
-returns-in-40 g c = one (40 ∷ 91 ∷ 123 ∷ []) refl c.args.first
-    (grind (arith, nat_tests))
-    (map g.C.Letter.code c.args.rest.now)
-
-pub returns-in-41 : goal.returns-in-41
-unfolding symbols
-returns-in-41 g c = one (41 ∷ 93 ∷ 125 ∷ 62 ∷ []) refl c.args.first
-    (grind (arith, nat_tests))
-    (map g.C.Letter.code c.args.rest.now)
-
-pub returns-in-44 : goal.returns-in-44
-unfolding symbols
-returns-in-44 g c = one (44 ∷ 59 ∷ 61 ∷ 35 ∷ 37 ∷ []) refl
-    c.args.first (grind (arith, nat_tests))
-    (map g.C.Letter.code c.args.rest.now)
 
 pub returns-in-60 : goal.returns-in-60
 unfolding symbols
@@ -74,5 +56,5 @@ returns-in-o g c = c.none_or_three.ensures
     (map g.C.Letter.code c.args.rest.now)
 
 pub returns-in_default : goal.returns-in_default
-returns-in_default g c = others_begin_none c.args.first (grind (arith, nat_tests))
-    (map g.C.Letter.code c.args.rest.now)
+returns-in_default g c = c.lone_length.ensures
+    ∙ one_or_none c.args.first (grind (arith, nat_tests)) (map g.C.Letter.code c.args.rest.now)

@@ -1,8 +1,7 @@
-use Rattle.std.proofs.Common.{sym, ◌∙◌}
-use Rattle.text_tokens.proofs.LetterLemmas.{letter_continues}
+use Rattle.std.proofs.Common.{◌∙◌}
+use Rattle.text_tokens.proofs.LetterLemmas.{in_table}
 use Rattle.text_tokens.proofs.words.continues_word.Goals as goal
 
-pub returns-then-is_ascii_alphabetic : goal.returns-then-is_ascii_alphabetic
-returns-then-is_ascii_alphabetic c =
-    c.if-is_ascii_alphabetic.true ∙ sym (letter_continues c.args.character
-    (sym c.is_ascii_alphabetic.ensures.value ∙ c.if-is_ascii_alphabetic.true))
+pub returns-in-Some : goal.returns-in-Some
+returns-in-Some c = let found = c.in-Some.ensures in
+    found.1 ∙ in_table c.args.character c.in-Some.continues found.0
