@@ -5,10 +5,10 @@ ghost use Rattle.model_text.specs.Tokens.{word_token};
 ghost use Rattle.text_tokens.specs.Lexemes.{lexeme_seen};
 ghost use Rattle.text_tokens.specs.Tokens.{kind_of};
 
+use crate::literals::unescape;
 use crate::numbers::number_value;
 use crate::reserved::{is_reserved, is_same};
 use crate::tokens::TokenKind;
-use crate::written::unescape_bytes;
 use dom_terms::{OutOfMemory, Text};
 use std::alloc::Global;
 
@@ -132,7 +132,7 @@ impl<'a> Lexeme<'a> {
             return Ok(Some(Text::from_str(alloc, self.text)?));
         }
         let mut text = Text::new(alloc);
-        unescape_bytes(self.text.as_bytes(), &mut text)?;
+        unescape(self.text.as_bytes(), &mut text)?;
         Ok(Some(text))
     }
 }

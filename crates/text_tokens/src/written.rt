@@ -1,9 +1,8 @@
 // The texts that literals stand for, from those that are written.
-ghost use Rattle.std.specs.Prelude.{◌≡◌, ◌-◌, ◌++◌, take, drop, false, length, encode_utf8_all, nat_le, OnOk};
+ghost use Rattle.std.specs.Prelude.{◌≡◌, ◌-◌, take, drop, false, length, encode_utf8_all, nat_le};
 ghost use Rattle.model_text.specs.Tokens.{unescaped};
 
 use dom_terms::limits::TEXT_BYTES;
-use dom_terms::{OutOfMemory, Text};
 
 /// What stands between the quotes of a literal.
 #[inline(always)]
@@ -16,30 +15,8 @@ pub fn between_quotes<C>(own: &[C]) -> &[C]
     }
 }
 
-/// Puts what the bytes between the quotes of a literal stand for at the end of the text, each as
-/// the character of its number.
-pub fn unescape_bytes(inside: &[u8], text: &mut Text) -> Result<(), OutOfMemory>
-    ensures { OnOk result
-        (text.new ≡ text.old ++ encode_utf8_all (unescaped false inside.now)) }
-{
-    let mut escaped = false;
-    for byte in inside {
-        if *byte == b'\\' && !escaped {
-            escaped = true;
-            continue;
-        }
-        let meant = if escaped && *byte == b'n' {
-            '\n'
-        } else {
-            *byte as char
-        };
-        text.push(meant)?;
-        escaped = false;
-    }
-    Ok(())
-}
-
-/// Whether the text that they stand for has no more bytes than the most of a text.
+/// Whether the text that the bytes between the quotes of a literal stand for, each as the character
+/// of its number, has no more bytes than the most of a text.
 pub fn is_written_within(inside: &[u8]) -> bool
     ensures { result ≡ nat_le (length (encode_utf8_all (unescaped false inside.now))) TEXT_BYTES }
 {
