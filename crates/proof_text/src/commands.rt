@@ -49,7 +49,7 @@ fn one<'a>(
     x: ProgVar,
     tokens: Front<'a>,
 ) -> Result<(Command, Front<'a>), ReadFault>
-    ensures { Gives (λ y. (command_of y.0, lexemes_in y.1.now)) result
+    ensures { Gives (λ y. (command_of y.0, lexemes_in y.1)) result
         (one_at (term_at in_command depth) (query_of query (prog_var_of x))
         (lexemes_in tokens.entry)) }
 {
@@ -104,7 +104,7 @@ fn setting<'a>(
     x: ProgVar,
     tokens: Front<'a>,
 ) -> Result<(Command, Front<'a>), ReadFault>
-    ensures { Gives (λ y. (command_of y.0, lexemes_in y.1.now)) result
+    ensures { Gives (λ y. (command_of y.0, lexemes_in y.1)) result
         (setting_at (term_at in_command depth) (prog_var_of x) (lexemes_in tokens.entry)) }
 {
     if let Some(rest) = after(tokens, "createNode") {
