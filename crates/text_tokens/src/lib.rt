@@ -1,6 +1,6 @@
-//! The tokens of the bytes of a file, and what a reader asks of a token.
-//! Promises that the list is exactly the tokens of the bytes as they are defined, and that each
-//! question is answered by what the grammar sees of the token.
+//! The tokens of the bytes of a file, as a list or each read where it is asked for, and what a
+//! reader asks of a token. Promises that they are exactly the tokens of the bytes as they are
+//! defined, and that each question is answered by what the grammar sees of the token.
 //! Stands on the types of terms, on the definition of tokens and on the Unicode tables.
 #![tactic(auto)]
 
