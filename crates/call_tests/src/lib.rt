@@ -18,6 +18,8 @@ mod formulas;
 #[cfg(test)]
 mod groves;
 #[cfg(test)]
+mod heaps;
+#[cfg(test)]
 mod outside;
 #[cfg(test)]
 mod requests;
