@@ -272,14 +272,7 @@ fn formula_from<'a>(
 
 /// A formula, nested at most so deep.
 #[cycle(formula)]
-#[tactic(
-    auto,
-    unfolding(
-        crate::specs::FormulaReaders::formula_at,
-        crate::specs::TermReaders::term_at,
-        crate::specs::TermReaders::word_at
-    )
-)]
+#[tactic(auto, unfolding(crate::specs::FormulaReaders::formula_at, crate::specs::TermReaders::term_at, crate::specs::TermReaders::word_at))]
 pub fn formula<'a>(
     alloc: Global,
     depth: u32,
