@@ -9,3 +9,4 @@ pub mod TermSizes
 pub mod LeafReader
 pub mod TermReader
 pub mod FormulaReader
+pub mod LeafFirst

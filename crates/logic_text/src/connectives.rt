@@ -2,7 +2,7 @@
 ghost use Rattle.std.specs.Prelude.{◌≡◌};
 ghost use Rattle.std.specs.Option.{option_map};
 ghost use Rattle.formula_syntax.specs.Formulas.{formula_of};
-ghost use Rattle.token_readers.specs.Reading.{leaf, first};
+ghost use Rattle.token_readers.specs.Reading.{leaf};
 ghost use Rattle.token_readers.specs.Giving.{Gives};
 ghost use Rattle.token_readers.specs.Leaves.{lexeme_seen, lexemes_in};
 ghost use Rattle.logic_text.specs.FormulaReaders.{leaf_word, leaf_joining, leaf_connective};
@@ -13,8 +13,8 @@ use formula_syntax::{Formula, Side};
 use text_tokens::{Front, Lexeme};
 use token_readers::{ReadFault, is_this};
 
-// A formula of one word.
-fn word_of(token: Lexeme) -> Option<Formula>
+/// A formula of one word.
+pub fn word_of(token: Lexeme) -> Option<Formula>
     ensures { option_map formula_of result ≡ leaf_word (lexeme_seen token.entry) }
 {
     if is_this(token, "true") {
@@ -39,20 +39,6 @@ fn word_of(token: Lexeme) -> Option<Formula>
         return Some(Formula::Hole(DataSort::Grove));
     }
     None
-}
-
-/// A formula of one word and what stands behind it, where it comes first.
-pub fn word(tokens: Front) -> Option<(Formula, Front)>
-    ensures { option_map (λ x. (formula_of x.0, lexemes_in x.1)) result
-        ≡ first leaf_word (lexemes_in tokens.entry) }
-{
-    let Some((first, rest)) = tokens.split_first() else {
-        return None;
-    };
-    match word_of(first) {
-        Some(formula) => Some((formula, rest)),
-        None => None,
-    }
 }
 
 /// How two formulas are put together.
@@ -133,11 +119,11 @@ pub fn joint(tokens: Front) -> Result<(Connective, Front), ReadFault>
     ensures { Gives (λ x. (connective_of x.0, lexemes_in x.1)) result
         (leaf leaf_connective (lexemes_in tokens.entry)) }
 {
-    let Some((first, rest)) = tokens.split_first() else {
+    let Some(first) = tokens.first() else {
         return Err(ReadFault::Text(0));
     };
     match joint_of(first) {
-        Some(connective) => Ok((connective, rest)),
+        Some(connective) => Ok((connective, tokens.behind())),
         None => Err(ReadFault::Text(tokens.count())),
     }
 }

@@ -1,23 +1,24 @@
 // Formulas from tokens.
-ghost use Rattle.std.specs.Prelude.{◌≡◌};
-ghost use Rattle.model_formulas.specs.Formulas.{existential, universal};
+ghost use Rattle.std.specs.Prelude.{◌≡◌, suc, ◌∷◌, drop, codes};
+ghost use Rattle.model_formulas.specs.Formulas.{negation, existential, universal};
 ghost use Rattle.model_grammar.specs.Terms.{used_logic, in_formula};
 ghost use Rattle.dom_terms.specs.Terms.{term_of};
 ghost use Rattle.formula_syntax.specs.Formulas.{formula_of};
+ghost use Rattle.token_readers.specs.Reading.{ret, then, expect, leaf};
 ghost use Rattle.token_readers.specs.Giving.{Gives};
-ghost use Rattle.token_readers.specs.Leaves.{lexemes_in};
-ghost use Rattle.logic_text.specs.TermReaders.{term_at};
+ghost use Rattle.token_readers.specs.Leaves.{lexeme_seen, lexemes_in};
+ghost use Rattle.logic_text.specs.TermReaders.{leaf_term, term_at};
 ghost use Rattle.logic_text.specs.Operators.{quantifier_of};
 ghost use Rattle.logic_text.specs.FormulaReaders.{quantified_at, joined_at, joined_or_is, bracket_at, lone_variable, node_at, compared_at, formula_at};
 
-use crate::connectives::{joined, joint, word};
+use crate::connectives::{joined, joint, word_of};
 use crate::logic_names::logic_name;
-use crate::term_reading::{Place, term};
+use crate::term_reading::{Place, is_word_or_symbol, leaf_term, term, term_from};
 use dom_terms::{Copied, LogicVar, Sort, Term, Text, ValueSort};
 use formula_syntax::Formula;
 use std::alloc::Global;
-use text_tokens::Front;
-use token_readers::{ReadFault, after, expect};
+use text_tokens::{Front, Lexeme};
+use token_readers::{ReadFault, after, expect, is_this};
 
 /// A quantifier.
 #[derive(Clone, Copy)]
@@ -124,6 +125,22 @@ fn connected_or_is<'a>(
     connected(alloc, depth, left, tokens)
 }
 
+// What stands behind an open bracket and the word for not.
+#[cycle(formula)]
+fn negation<'a>(
+    alloc: Global,
+    depth: u32,
+    tokens: Front<'a>,
+) -> Result<(Formula, Front<'a>), ReadFault>
+    ensures { Gives (λ x. (formula_of x.0, lexemes_in x.1)) result
+        (then (formula_at depth) (λ p. expect (codes ")") (ret (negation p)))
+        (lexemes_in tokens.entry)) }
+{
+    let (inner, rest) = boxed(alloc, depth, tokens)?;
+    let rest = expect(rest, ")")?;
+    Ok((Formula::Not(inner), rest))
+}
+
 // What stands behind an open bracket.
 #[cycle(formula)]
 #[tactic(auto, unfolding(crate::specs::FormulaReaders::bracket_at))]
@@ -135,19 +152,19 @@ fn bracket<'a>(
     ensures { Gives (λ x. (formula_of x.0, lexemes_in x.1)) result
         (bracket_at (formula_at depth) (lexemes_in tokens.entry)) }
 {
-    if let Some(rest) = after(tokens, "not") {
-        let (inner, rest) = boxed(alloc, depth, rest)?;
-        let rest = expect(rest, ")")?;
-        return Ok((Formula::Not(inner), rest));
+    match tokens.first() {
+        Some(first) if is_this(first, "not") => negation(alloc, depth, tokens.behind()),
+        Some(first) if is_this(first, "exists") => {
+            quantified(alloc, depth, Quantifier::Exists, tokens.behind())
+        }
+        Some(first) if is_this(first, "forall") => {
+            quantified(alloc, depth, Quantifier::Forall, tokens.behind())
+        }
+        _ => {
+            let (left, rest) = boxed(alloc, depth, tokens)?;
+            connected_or_is(alloc, depth, left, rest)
+        }
     }
-    if let Some(rest) = after(tokens, "exists") {
-        return quantified(alloc, depth, Quantifier::Exists, rest);
-    }
-    if let Some(rest) = after(tokens, "forall") {
-        return quantified(alloc, depth, Quantifier::Forall, rest);
-    }
-    let (left, rest) = boxed(alloc, depth, tokens)?;
-    connected_or_is(alloc, depth, left, rest)
 }
 
 // What stands behind the name of a node and the sign.
@@ -185,23 +202,77 @@ fn compared<'a>(
         (compared_at (term_at in_formula depth) (formula_at depth) (term_of left)
         (lexemes_in tokens.entry)) }
 {
-    if let Some(rest) = after(tokens, "=") {
-        let (right, rest) = term(alloc, Place::Formula, depth, rest)?;
-        return Ok((Formula::Eq(left, right), rest));
+    match tokens.first() {
+        Some(first) if is_this(first, "=") => {
+            let (right, rest) = term(alloc, Place::Formula, depth, tokens.behind())?;
+            Ok((Formula::Eq(left, right), rest))
+        }
+        Some(first) if is_this(first, "<=") => {
+            let (right, rest) = term(alloc, Place::Formula, depth, tokens.behind())?;
+            Ok((Formula::Le(left, right), rest))
+        }
+        Some(first) if is_this(first, "#") => node(alloc, depth, left, tokens.behind()),
+        _ => lone(left, tokens),
     }
-    if let Some(rest) = after(tokens, "<=") {
-        let (right, rest) = term(alloc, Place::Formula, depth, rest)?;
-        return Ok((Formula::Le(left, right), rest));
+}
+
+// A formula that begins with a term of one token that is no reserved word and no symbol.
+#[cycle(formula)]
+fn leaf_formula<'a>(
+    alloc: Global,
+    depth: u32,
+    first: Lexeme<'a>,
+    tokens: Front<'a>,
+) -> Result<(Formula, Front<'a>), ReadFault>
+    requires { lexemes_in tokens ≡ lexeme_seen first ∷ drop 1 (lexemes_in tokens) }
+    ensures { Gives (λ x. (formula_of x.0, lexemes_in x.1)) result
+        (then (leaf (leaf_term in_formula))
+        (compared_at (term_at in_formula depth) (formula_at depth)) (lexemes_in tokens.entry)) }
+{
+    let (left, rest) = leaf_term(alloc, Place::Formula, first, tokens)?;
+    compared(alloc, depth, left, rest)
+}
+
+// A formula, below which is nested at most so deep. The first token is handed over too.
+#[cycle(formula)]
+#[tactic(auto, unfolding(crate::specs::FormulaReaders::formula_at))]
+fn formula_from<'a>(
+    alloc: Global,
+    depth: u32,
+    first: Lexeme<'a>,
+    tokens: Front<'a>,
+) -> Result<(Formula, Front<'a>), ReadFault>
+    requires { lexemes_in tokens ≡ lexeme_seen first ∷ drop 1 (lexemes_in tokens) }
+    ensures { Gives (λ x. (formula_of x.0, lexemes_in x.1)) result
+        (formula_at (suc depth) (lexemes_in tokens.entry)) }
+{
+    if let Some(found) = word_of(first) {
+        return Ok((found, tokens.behind()));
     }
-    if let Some(rest) = after(tokens, "#") {
-        return node(alloc, depth, left, rest);
+    if is_this(first, "(") {
+        return bracket(alloc, depth, tokens.behind());
     }
-    lone(left, tokens)
+    if is_this(first, "len") {
+        let (number, rest) = term(alloc, Place::Formula, depth, tokens.behind())?;
+        return Ok((Formula::Len(number), rest));
+    }
+    if is_this(first, "<") {
+        let (inner, rest) = boxed(alloc, depth, tokens.behind())?;
+        let rest = expect(rest, ">")?;
+        return Ok((Formula::One(inner), rest));
+    }
+    if is_this(first, "[") {
+        let (inner, rest) = boxed(alloc, depth, tokens.behind())?;
+        let rest = expect(rest, "]")?;
+        return Ok((Formula::Root(inner), rest));
+    }
+    let (left, rest) = term_from(alloc, Place::Formula, depth, first, tokens)?;
+    compared(alloc, depth, left, rest)
 }
 
 /// A formula, nested at most so deep.
 #[cycle(formula)]
-#[tactic(auto, unfolding(crate::specs::FormulaReaders::formula_at))]
+#[tactic(auto, unfolding(crate::specs::FormulaReaders::formula_at, crate::specs::TermReaders::term_at, crate::specs::TermReaders::word_at))]
 pub fn formula<'a>(
     alloc: Global,
     depth: u32,
@@ -213,26 +284,11 @@ pub fn formula<'a>(
     if depth == 0 {
         return Err(ReadFault::Memory);
     }
-    if let Some((found, rest)) = word(tokens) {
-        return Ok((found, rest));
+    let Some(first) = tokens.first() else {
+        return Err(ReadFault::Text(0));
+    };
+    if is_word_or_symbol(first) {
+        return formula_from(alloc, depth - 1, first, tokens);
     }
-    if let Some(rest) = after(tokens, "(") {
-        return bracket(alloc, depth - 1, rest);
-    }
-    if let Some(rest) = after(tokens, "len") {
-        let (number, rest) = term(alloc, Place::Formula, depth - 1, rest)?;
-        return Ok((Formula::Len(number), rest));
-    }
-    if let Some(rest) = after(tokens, "<") {
-        let (inner, rest) = boxed(alloc, depth - 1, rest)?;
-        let rest = expect(rest, ">")?;
-        return Ok((Formula::One(inner), rest));
-    }
-    if let Some(rest) = after(tokens, "[") {
-        let (inner, rest) = boxed(alloc, depth - 1, rest)?;
-        let rest = expect(rest, "]")?;
-        return Ok((Formula::Root(inner), rest));
-    }
-    let (left, rest) = term(alloc, Place::Formula, depth, tokens)?;
-    compared(alloc, depth - 1, left, rest)
+    leaf_formula(alloc, depth - 1, first, tokens)
 }

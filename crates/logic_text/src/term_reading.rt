@@ -1,20 +1,20 @@
 // Terms from tokens.
-ghost use Rattle.std.specs.Prelude.{◌≡◌};
+ghost use Rattle.std.specs.Prelude.{◌≡◌, ℕ, suc, List, ◌∷◌, drop, false, IfOk};
 ghost use Rattle.std.specs.Option.{option_map};
 ghost use Rattle.model_shapes.specs.Values.{int};
 ghost use Rattle.model_terms.specs.Terms.{literal};
 ghost use Rattle.dom_terms.specs.Terms.{term_of};
-ghost use Rattle.token_readers.specs.Reading.{leaf};
+ghost use Rattle.token_readers.specs.Reading.{is_terminal, leaf};
 ghost use Rattle.token_readers.specs.Giving.{Gives};
-ghost use Rattle.token_readers.specs.Leaves.{lexemes_in};
+ghost use Rattle.token_readers.specs.Leaves.{lexeme_seen, lexemes_in};
 ghost use Rattle.logic_text.specs.TermReaders.{leaf_term, negated, leaf_negative, operator_at, operation_at, word_at, term_at};
 ghost use Rattle.logic_text.specs.Operators.{operator_of};
 ghost use Rattle.logic_text.specs.Places.{place_of};
 
-use dom_terms::{LogicVar, ProgVar, Sort, Term, Text, ValueSort};
+use dom_terms::{LogicVar, OutOfMemory, ProgVar, Sort, Term, Text, ValueSort};
 use std::alloc::Global;
-use text_tokens::Front;
-use token_readers::{ReadFault, after, expect};
+use text_tokens::{Front, Lexeme, TokenKind};
+use token_readers::{ReadFault, expect, is_this};
 
 /// Where a term stands.
 #[derive(Clone, Copy, Debug, PartialEq, Eq)]
@@ -25,41 +25,51 @@ pub enum Place {
     Command,
 }
 
-// A term of one token that is no reserved word and no symbol.
-fn leaf_term<'a>(
-    alloc: Global,
-    place: Place,
-    tokens: Front<'a>,
-) -> Result<(Term, Front<'a>), ReadFault>
-    ensures { Gives (λ x. (term_of x.0, lexemes_in x.1)) result
-        (leaf (leaf_term (place_of place)) (lexemes_in tokens.entry)) }
+// The term that a token is which is no reserved word and no symbol.
+fn leaf_of(alloc: Global, place: Place, first: Lexeme) -> Result<Option<Term>, OutOfMemory>
+    ensures { IfOk result
+        (λ found. option_map term_of found ≡ leaf_term (place_of place) (lexeme_seen first.entry)) }
 {
-    let Some((first, rest)) = tokens.split_first() else {
-        return Err(ReadFault::Text(0));
-    };
     if let Some(name) = first.name() {
         let name = Text::from_str(alloc, name)?;
         let sort = ValueSort::Node;
-        return Ok((Term::Prog(ProgVar { name, sort }), rest));
+        return Ok(Some(Term::Prog(ProgVar { name, sort })));
     }
     if let Some(name) = first.logic_name() {
         return match place {
             Place::Formula => {
                 let name = Text::from_str(alloc, name)?;
                 let sort = Sort::Value(ValueSort::Node);
-                Ok((Term::Logic(LogicVar { name, sort }), rest))
+                Ok(Some(Term::Logic(LogicVar { name, sort })))
             }
-            Place::Command => Err(ReadFault::Text(tokens.count())),
+            Place::Command => Ok(None),
         };
     }
     if let Some(text) = first.literal(alloc)? {
-        return Ok((Term::Str(text), rest));
+        return Ok(Some(Term::Str(text)));
     }
     match first.number() {
         Some(number) if number <= 9_223_372_036_854_775_807 => {
-            Ok((Term::Int(number as i64), rest))
+            Ok(Some(Term::Int(number as i64)))
         }
-        _ => Err(ReadFault::Text(tokens.count())),
+        _ => Ok(None),
+    }
+}
+
+/// A term of one token that is no reserved word and no symbol. The token is handed over too.
+pub fn leaf_term<'a>(
+    alloc: Global,
+    place: Place,
+    first: Lexeme<'a>,
+    tokens: Front<'a>,
+) -> Result<(Term, Front<'a>), ReadFault>
+    requires { lexemes_in tokens ≡ lexeme_seen first ∷ drop 1 (lexemes_in tokens) }
+    ensures { Gives (λ x. (term_of x.0, lexemes_in x.1)) result
+        (leaf (leaf_term (place_of place)) (lexemes_in tokens.entry)) }
+{
+    match leaf_of(alloc, place, first)? {
+        Some(term) => Ok((term, tokens.behind())),
+        None => Err(ReadFault::Text(tokens.count())),
     }
 }
 
@@ -102,14 +112,17 @@ fn sign(tokens: Front) -> Result<(Operator, Front), ReadFault>
     ensures { Gives (λ x. (operator_of x.0, lexemes_in x.1)) result
         (operator_at (lexemes_in tokens.entry)) }
 {
-    if let Some(rest) = after(tokens, "+") {
-        return Ok((Operator::Add, rest));
+    let Some(first) = tokens.first() else {
+        return Err(ReadFault::Text(0));
+    };
+    if is_this(first, "+") {
+        return Ok((Operator::Add, tokens.behind()));
     }
-    if let Some(rest) = after(tokens, "-") {
-        return Ok((Operator::Sub, rest));
+    if is_this(first, "-") {
+        return Ok((Operator::Sub, tokens.behind()));
     }
-    if let Some(rest) = after(tokens, "++") {
-        return Ok((Operator::Cat, rest));
+    if is_this(first, "++") {
+        return Ok((Operator::Cat, tokens.behind()));
     }
     Err(ReadFault::Text(tokens.count()))
 }
@@ -124,28 +137,34 @@ fn operated(operator: Operator, left: Box<Term>, right: Box<Term>) -> Term
     }
 }
 
-// A term that doesn't begin with a brace.
+// A term that doesn't begin with a brace. The first token is handed over too.
 #[tactic(auto, unfolding(crate::specs::TermReaders::word_at))]
-fn word<'a>(alloc: Global, place: Place, tokens: Front<'a>) -> Result<(Term, Front<'a>), ReadFault>
+fn word<'a>(
+    alloc: Global,
+    place: Place,
+    first: Lexeme<'a>,
+    tokens: Front<'a>,
+) -> Result<(Term, Front<'a>), ReadFault>
+    requires { lexemes_in tokens ≡ lexeme_seen first ∷ drop 1 (lexemes_in tokens) }
     ensures { Gives (λ x. (term_of x.0, lexemes_in x.1)) result
         (word_at (leaf (leaf_term (place_of place))) (lexemes_in tokens.entry)) }
 {
-    if let Some(rest) = after(tokens, "-") {
-        return leaf_negative(rest);
+    if is_this(first, "-") {
+        return leaf_negative(tokens.behind());
     }
-    if let Some(rest) = after(tokens, "null") {
-        return Ok((Term::NullNode, rest));
+    if is_this(first, "null") {
+        return Ok((Term::NullNode, tokens.behind()));
     }
-    if let Some(rest) = after(tokens, "nolist") {
-        return Ok((Term::NullList, rest));
+    if is_this(first, "nolist") {
+        return Ok((Term::NullList, tokens.behind()));
     }
-    if let Some(rest) = after(tokens, "yes") {
-        return Ok((Term::Bool(true), rest));
+    if is_this(first, "yes") {
+        return Ok((Term::Bool(true), tokens.behind()));
     }
-    if let Some(rest) = after(tokens, "no") {
-        return Ok((Term::Bool(false), rest));
+    if is_this(first, "no") {
+        return Ok((Term::Bool(false), tokens.behind()));
     }
-    leaf_term(alloc, place, tokens)
+    leaf_term(alloc, place, first, tokens)
 }
 
 // A term in a box of its own.
@@ -183,9 +202,38 @@ fn operation<'a>(
     Ok((operated(operator, left, right), rest))
 }
 
-/// A term at the place, nested at most so deep.
+/// A term at the place, below which is nested at most so deep. The first token is handed over too.
 #[cycle(term)]
 #[tactic(auto, unfolding(crate::specs::TermReaders::term_at))]
+pub fn term_from<'a>(
+    alloc: Global,
+    place: Place,
+    depth: u32,
+    first: Lexeme<'a>,
+    tokens: Front<'a>,
+) -> Result<(Term, Front<'a>), ReadFault>
+    requires { lexemes_in tokens ≡ lexeme_seen first ∷ drop 1 (lexemes_in tokens) }
+    ensures { Gives (λ x. (term_of x.0, lexemes_in x.1)) result
+        (term_at (place_of place) (suc depth) (lexemes_in tokens.entry)) }
+{
+    if is_this(first, "{") {
+        return operation(alloc, place, depth, tokens.behind());
+    }
+    word(alloc, place, first, tokens)
+}
+
+/// Whether the token is of a kind that reserved words and symbols have.
+#[tactic(auto, using(token_readers::proofs::TerminalTests::is_no_terminal))]
+pub fn is_word_or_symbol(token: Lexeme) -> bool
+    ensures { result ≡ false → (text : List ℕ)
+        → is_terminal text (lexeme_seen token.entry) ≡ false }
+{
+    token.kind == TokenKind::Symbol || token.kind == TokenKind::Word
+}
+
+/// A term at the place, nested at most so deep.
+#[cycle(term)]
+#[tactic(auto, unfolding(crate::specs::TermReaders::term_at, crate::specs::TermReaders::word_at))]
 pub fn term<'a>(
     alloc: Global,
     place: Place,
@@ -198,8 +246,11 @@ pub fn term<'a>(
     if depth == 0 {
         return Err(ReadFault::Memory);
     }
-    if let Some(rest) = after(tokens, "{") {
-        return operation(alloc, place, depth - 1, rest);
+    let Some(first) = tokens.first() else {
+        return Err(ReadFault::Text(0));
+    };
+    if is_word_or_symbol(first) {
+        return term_from(alloc, place, depth - 1, first, tokens);
     }
-    word(alloc, place, tokens)
+    leaf_term(alloc, place, first, tokens)
 }

@@ -20,8 +20,17 @@ decreases-connected_or_is l = 8 * l.depth + 3
 abbrev pub decreases-bracket : goal.decreases-bracket
 decreases-bracket l = 8 * l.depth + 4
 
+abbrev pub decreases-negation : goal.decreases-negation
+decreases-negation l = 8 * l.depth + 2
+
 abbrev pub decreases-node : goal.decreases-node
 decreases-node l = 8 * l.depth + 2
 
 abbrev pub decreases-compared : goal.decreases-compared
 decreases-compared l = 8 * l.depth + 3
+
+abbrev pub decreases-leaf_formula : goal.decreases-leaf_formula
+decreases-leaf_formula l = 8 * l.depth + 4
+
+abbrev pub decreases-formula_from : goal.decreases-formula_from
+decreases-formula_from l = 8 * l.depth + 5
