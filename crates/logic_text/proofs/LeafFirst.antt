@@ -1,9 +1,10 @@
 -- A first lexeme that is no terminal begins a term of one lexeme.
-use Rattle.std.proofs.Common.{◌≡◌, ℕ, suc, true, false, List, ◌∷◌, refl}
+use Rattle.std.proofs.Common.{◌≡◌, ℕ, suc, true, false, List, [], ◌∷◌, Err, refl, codes}
+use Rattle.model_formulas.specs.Formulas.{length_is}
 use Rattle.model_text.specs.Lexemes.{Lexeme, terminal}
 use Rattle.model_grammar.specs.Terms.{Place, in_formula}
-use Rattle.token_readers.specs.Reading.{is_terminal, leaf, then}
-use Rattle.token_readers.proofs.TerminalTests.{text_refl}
+use Rattle.token_readers.specs.Reading.{At, is_terminal, leaf, then, ret}
+use Rattle.token_readers.proofs.TerminalTests.{text_refl, is_terminal_is}
 use Rattle.logic_text.specs.TermReaders.{leaf_term, term_at, word_at}
 use Rattle.logic_text.specs.FormulaReaders.{formula_at, compared_at}
 
@@ -24,8 +25,8 @@ unfolding term_at word_at
 of_term place n (terminal text) ts none = no_terminal text none
 of_term place n _ ts none = refl
 
-pub term_of_leaf : (place : Place) (depth n : ℕ) (ts : List Lexeme) {t : Lexeme} {rest : List Lexeme}
-    → depth ≡ suc n → ts ≡ t ∷ rest → NoTerminal t
+pub term_of_leaf : (place : Place) (depth n : ℕ) (ts : List Lexeme) {t : Lexeme}
+    {rest : List Lexeme} → depth ≡ suc n → ts ≡ t ∷ rest → NoTerminal t
     → term_at place depth ts ≡ leaf (leaf_term place) ts
 term_of_leaf place depth n ts {t} {rest} d e none = rw d (rw e (of_term place n t rest none))
 
@@ -41,3 +42,15 @@ pub formula_of_leaf : (depth n : ℕ) (ts : List Lexeme) {t : Lexeme} {rest : Li
     → formula_at depth ts ≡ then (leaf (leaf_term in_formula))
     (compared_at (term_at in_formula n) (formula_at n)) ts
 formula_of_leaf depth n ts {t} {rest} d e none = rw d (rw e (of_formula n t rest none))
+
+-- where no lexeme is left
+pub formula_of_none : (depth n : ℕ) (ts : List Lexeme) → depth ≡ suc n → ts ≡ []
+    → formula_at depth ts ≡ Err (At 0)
+unfolding formula_at term_at word_at
+formula_of_none depth n ts d e = rw d (rw e refl)
+
+-- where the word for a length comes first
+pub formula_of_length : (n : ℕ) (t : Lexeme) (ts : List Lexeme) → is_terminal (codes "len") t ≡ true
+    → formula_at (suc n) (t ∷ ts) ≡ then (term_at in_formula n) (λ a. ret (length_is a)) ts
+unfolding formula_at
+formula_of_length n t ts e = rw (is_terminal_is (codes "len") t e) refl

@@ -1,15 +1,15 @@
 // Formulas from tokens.
 ghost use Rattle.std.specs.Prelude.{◌≡◌, suc, ◌∷◌, drop, codes};
-ghost use Rattle.model_formulas.specs.Formulas.{negation, existential, universal};
+ghost use Rattle.model_formulas.specs.Formulas.{negation, existential, universal, one_tree, one_root, length_is};
 ghost use Rattle.model_grammar.specs.Terms.{used_logic, in_formula};
 ghost use Rattle.dom_terms.specs.Terms.{term_of};
 ghost use Rattle.formula_syntax.specs.Formulas.{formula_of};
-ghost use Rattle.token_readers.specs.Reading.{ret, then, expect, leaf};
+ghost use Rattle.token_readers.specs.Reading.{ret, begins, then, expect, leaf};
 ghost use Rattle.token_readers.specs.Giving.{Gives};
 ghost use Rattle.token_readers.specs.Leaves.{lexeme_seen, lexemes_in};
 ghost use Rattle.logic_text.specs.TermReaders.{leaf_term, term_at};
 ghost use Rattle.logic_text.specs.Operators.{quantifier_of};
-ghost use Rattle.logic_text.specs.FormulaReaders.{quantified_at, joined_at, joined_or_is, bracket_at, lone_variable, node_at, compared_at, formula_at};
+ghost use Rattle.logic_text.specs.FormulaReaders.{leaf_word, quantified_at, joined_at, joined_or_is, bracket_at, lone_variable, node_at, compared_at, formula_at};
 
 use crate::connectives::{joined, joint, word_of};
 use crate::logic_names::logic_name;
@@ -233,6 +233,80 @@ fn leaf_formula<'a>(
     compared(alloc, depth, left, rest)
 }
 
+// What stands behind an open angle.
+#[cycle(formula)]
+fn tree<'a>(alloc: Global, depth: u32, tokens: Front<'a>) -> Result<(Formula, Front<'a>), ReadFault>
+    ensures { Gives (λ x. (formula_of x.0, lexemes_in x.1)) result
+        (then (formula_at depth) (λ p. expect (codes ">") (ret (one_tree p)))
+        (lexemes_in tokens.entry)) }
+{
+    let (inner, rest) = boxed(alloc, depth, tokens)?;
+    let rest = expect(rest, ">")?;
+    Ok((Formula::One(inner), rest))
+}
+
+// What stands behind an open square bracket.
+#[cycle(formula)]
+fn root<'a>(alloc: Global, depth: u32, tokens: Front<'a>) -> Result<(Formula, Front<'a>), ReadFault>
+    ensures { Gives (λ x. (formula_of x.0, lexemes_in x.1)) result
+        (then (formula_at depth) (λ p. expect (codes "]") (ret (one_root p)))
+        (lexemes_in tokens.entry)) }
+{
+    let (inner, rest) = boxed(alloc, depth, tokens)?;
+    let rest = expect(rest, "]")?;
+    Ok((Formula::Root(inner), rest))
+}
+
+// What stands behind the word for a length.
+fn length<'a>(
+    alloc: Global,
+    depth: u32,
+    tokens: Front<'a>,
+) -> Result<(Formula, Front<'a>), ReadFault>
+    ensures { Gives (λ x. (formula_of x.0, lexemes_in x.1)) result
+        (then (term_at in_formula depth) (λ a. ret (length_is a)) (lexemes_in tokens.entry)) }
+{
+    let (number, rest) = term(alloc, Place::Formula, depth, tokens)?;
+    Ok((Formula::Len(number), rest))
+}
+
+// A formula that begins with a term. The first token is handed over too.
+#[cycle(formula)]
+fn comparison<'a>(
+    alloc: Global,
+    depth: u32,
+    first: Lexeme<'a>,
+    tokens: Front<'a>,
+) -> Result<(Formula, Front<'a>), ReadFault>
+    requires { lexemes_in tokens ≡ lexeme_seen first ∷ drop 1 (lexemes_in tokens) }
+    ensures { Gives (λ x. (formula_of x.0, lexemes_in x.1)) result
+        (then (term_at in_formula (suc depth))
+        (compared_at (term_at in_formula depth) (formula_at depth)) (lexemes_in tokens.entry)) }
+{
+    let (left, rest) = term_from(alloc, Place::Formula, depth, first, tokens)?;
+    compared(alloc, depth, left, rest)
+}
+
+// A formula that begins with neither a bracket nor the word for a length. The first token is
+// handed over too.
+#[cycle(formula)]
+fn word_or_comparison<'a>(
+    alloc: Global,
+    depth: u32,
+    first: Lexeme<'a>,
+    tokens: Front<'a>,
+) -> Result<(Formula, Front<'a>), ReadFault>
+    requires { lexemes_in tokens ≡ lexeme_seen first ∷ drop 1 (lexemes_in tokens) }
+    ensures { Gives (λ x. (formula_of x.0, lexemes_in x.1)) result
+        (begins leaf_word ret (then (term_at in_formula (suc depth))
+        (compared_at (term_at in_formula depth) (formula_at depth))) (lexemes_in tokens.entry)) }
+{
+    match word_of(first) {
+        Some(found) => Ok((found, tokens.behind())),
+        None => comparison(alloc, depth, first, tokens),
+    }
+}
+
 // A formula, below which is nested at most so deep. The first token is handed over too.
 #[cycle(formula)]
 #[tactic(auto, unfolding(crate::specs::FormulaReaders::formula_at))]
@@ -246,33 +320,23 @@ fn formula_from<'a>(
     ensures { Gives (λ x. (formula_of x.0, lexemes_in x.1)) result
         (formula_at (suc depth) (lexemes_in tokens.entry)) }
 {
-    if let Some(found) = word_of(first) {
-        return Ok((found, tokens.behind()));
-    }
     if is_this(first, "(") {
         return bracket(alloc, depth, tokens.behind());
     }
-    if is_this(first, "len") {
-        let (number, rest) = term(alloc, Place::Formula, depth, tokens.behind())?;
-        return Ok((Formula::Len(number), rest));
+    if is_this(first, "[") {
+        return root(alloc, depth, tokens.behind());
     }
     if is_this(first, "<") {
-        let (inner, rest) = boxed(alloc, depth, tokens.behind())?;
-        let rest = expect(rest, ">")?;
-        return Ok((Formula::One(inner), rest));
+        return tree(alloc, depth, tokens.behind());
     }
-    if is_this(first, "[") {
-        let (inner, rest) = boxed(alloc, depth, tokens.behind())?;
-        let rest = expect(rest, "]")?;
-        return Ok((Formula::Root(inner), rest));
+    if is_this(first, "len") {
+        return length(alloc, depth, tokens.behind());
     }
-    let (left, rest) = term_from(alloc, Place::Formula, depth, first, tokens)?;
-    compared(alloc, depth, left, rest)
+    word_or_comparison(alloc, depth, first, tokens)
 }
 
 /// A formula, nested at most so deep.
 #[cycle(formula)]
-#[tactic(auto, unfolding(crate::specs::FormulaReaders::formula_at, crate::specs::TermReaders::term_at, crate::specs::TermReaders::word_at))]
 pub fn formula<'a>(
     alloc: Global,
     depth: u32,

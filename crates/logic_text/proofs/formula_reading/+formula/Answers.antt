@@ -1,6 +1,7 @@
-use Rattle.std.proofs.Common.{◌-◌, arith}
-use Rattle.token_readers.specs.Leaves.{lexemes_in}
-use Rattle.logic_text.proofs.LeafFirst.{formula_of_leaf}
+use Rattle.std.proofs.Common.{◌≡◌, ◌-◌, true, drop, sym, codes, arith}
+use Rattle.token_readers.specs.Reading.{is_terminal}
+use Rattle.token_readers.specs.Leaves.{lexeme_seen, lexemes_in}
+use Rattle.logic_text.proofs.LeafFirst.{formula_of_leaf, formula_of_length, formula_of_none}
 use Rattle.logic_text.proofs.formula_reading.+formula.Goals as goal
 
 pub formula-returns : goal.formula-returns
@@ -9,3 +10,16 @@ formula-returns t c = rw
     (omega (arith, c.if-depth-eq0.false)) c.in-Some.ensures
     (c.is_word_or_symbol.ensures c.if-is_word_or_symbol.false))
     c.leaf_formula.ensures
+
+pub formula-returns-in_default : goal.formula-returns-in_default
+formula-returns-in_default t c =
+    formula_of_none c.args.depth (c.args.depth - 1) (lexemes_in c.args.tokens)
+    (omega (arith, c.if-depth-eq0.false)) c.in_default.ensures
+
+pub formula_from-returns-then-is_this-4 : goal.formula_from-returns-then-is_this-4
+formula_from-returns-then-is_this-4 t c =
+    let seen : is_terminal (codes "len") (lexeme_seen c.args.first) ≡ true = cc in
+    rw c.requires
+    (rw (formula_of_length c.args.depth (lexeme_seen c.args.first)
+    (drop 1 (lexemes_in c.args.tokens)) seen)
+    (rw (sym c.behind-then-is_this-4.ensures) c.length.ensures))

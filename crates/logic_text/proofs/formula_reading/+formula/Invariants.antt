@@ -32,5 +32,17 @@ decreases-compared l = 8 * l.depth + 3
 abbrev pub decreases-leaf_formula : goal.decreases-leaf_formula
 decreases-leaf_formula l = 8 * l.depth + 4
 
+abbrev pub decreases-tree : goal.decreases-tree
+decreases-tree l = 8 * l.depth + 2
+
+abbrev pub decreases-root : goal.decreases-root
+decreases-root l = 8 * l.depth + 2
+
+abbrev pub decreases-comparison : goal.decreases-comparison
+decreases-comparison l = 8 * l.depth + 4
+
+abbrev pub decreases-word_or_comparison : goal.decreases-word_or_comparison
+decreases-word_or_comparison l = 8 * l.depth + 5
+
 abbrev pub decreases-formula_from : goal.decreases-formula_from
-decreases-formula_from l = 8 * l.depth + 5
+decreases-formula_from l = 8 * l.depth + 6
