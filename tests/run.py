@@ -1,11 +1,13 @@
 #!/usr/bin/env python3
 """Compares the built program with the rows of this folder and the examples of the rules, byte by byte.
 
-usage: tests/run.py (--cmd PROGRAM | --reference | --list) [--only TEXT]
+usage: tests/run.py (--cmd PROGRAM | --reference | --list) [--only TEXT] [--accented]
   PROGRAM       the built program; each row's words are handed to it
   --reference   the rows are answered by reference.py beside this file, and no program is asked
   --list        the rows are listed
   TEXT          only the rows whose file or title has this text
+  --accented    each file ends in a comment that isn't ASCII: its tokens are the same, and the program
+                reads them from a list, as it does those of no ASCII file
 
 Prints each row that fails, and last 'N passed, M failed'. The exit status is 0 where none fails, and 2
 where a file of rows can't be read. README.md beside this file says how a row is written.
@@ -28,6 +30,8 @@ from reading.tokens import tokens_of
 HERE = os.path.dirname(os.path.abspath(__file__))
 TOP = os.path.dirname(HERE)
 SECONDS = 60
+MOST_BYTES = 4_194_304
+ACCENTED = " // é".encode()
 
 
 class Unreadable(Exception):
@@ -233,6 +237,12 @@ def given_files(row, files):
     return {name: given[name] for name in given if name.encode() in named}
 
 
+def accented(given):
+    """Returns the files, each that has room for it with a comment at its end that isn't ASCII."""
+    room = MOST_BYTES - len(ACCENTED)
+    return {name: text + ACCENTED if len(text) <= room else text for name, text in given.items()}
+
+
 def with_printed(program, row, given):
     """Returns the given files with those that other words print."""
     for file, words in row.printed.items():
@@ -273,12 +283,12 @@ def reference_answer(row, given):
     return (12 if row.sink and output else status), b"" if row.sink else output, b""
 
 
-def complaint(program, row, files):
-    """Returns what is wrong with the answer of the program, or of the reference where that is None; or None."""
+def complaint(program, row, files, change=dict):
+    """Returns what is wrong with the answer of the program, or of the reference where that is None, or None."""
     if row.fault is not None or row.status is None:
         return row.fault and f"    {row.fault}"
     try:
-        given = with_printed(program, row, given_files(row, files))
+        given = change(with_printed(program, row, given_files(row, files)))
         answer = program_answer(program, row, given) if program else reference_answer(row, given)
     except (Unreadable, KeyError, OSError, subprocess.TimeoutExpired) as why:
         return f"    not run: {why}"
@@ -316,6 +326,7 @@ def main():
     asked.add_argument("--reference", action="store_true")
     asked.add_argument("--list", action="store_true")
     parser.add_argument("--only", default="")
+    parser.add_argument("--accented", action="store_true")
     options = parser.parse_args()
     program, passed, failed = options.cmd and os.path.abspath(options.cmd), 0, 0
     if program and not os.access(program, os.X_OK):
@@ -330,7 +341,7 @@ def main():
             if options.list:
                 print(f"{name}:{row.place}: {row.title}")
                 continue
-            wrong = complaint(program, row, files)
+            wrong = complaint(program, row, files, accented if options.accented else dict)
             passed, failed = passed + (wrong is None), failed + (wrong is not None)
             if wrong is not None:
                 print(f"{name}:{row.place}: {row.title}\n    words  {words[:200]}\n{wrong}")
