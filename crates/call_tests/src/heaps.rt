@@ -49,6 +49,7 @@ fn a_child_moves_to_the_end(rt: HostRuntime) -> Result<(), Fail> {
     assert_eq!(rt; heap.write_text(alloc)?.as_str(), TURNED);
     let grove = heap.to_grove(alloc)?;
     assert_eq!(rt; write_grove(alloc, &grove)?.as_str(), TURNED);
+    assert_eq!(rt; heap.copy(alloc)?.write_text(alloc)?.as_str(), TURNED);
     Ok(())
 }
 

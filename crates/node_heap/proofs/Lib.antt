@@ -6,6 +6,7 @@ pub mod ReadBack
 pub mod Whole
 pub mod Tests
 pub mod Changes
+pub mod Copies
 pub mod Create
 pub mod Ends
 pub mod Search

@@ -3,7 +3,7 @@ ghost use Rattle.std.specs.Prelude.{◌≡◌, ◌++◌, IfOk, OnOk, codes};
 ghost use Rattle.std.specs.Fmt.{decimal};
 ghost use Rattle.model_shapes.specs.Sorts.{shape, grove};
 ghost use Rattle.model_shapes.specs.Trees.{none, node as node_with, beside};
-ghost use Rattle.model_shapes.specs.Shapes.{Shaped};
+ghost use Rattle.model_shapes.specs.Shapes.{SameAt, Shaped};
 ghost use Rattle.model_documents.specs.Roots.{sorted_roots};
 ghost use Rattle.model_documents.specs.Printed.{grove_text};
 ghost use Rattle.grove_data.specs.Trees.{forest_of};
@@ -20,9 +20,11 @@ use logic_text::{push_str, write_literal};
 use std::alloc::Global;
 
 impl NodeHeap {
-    /// The grove that the heap stands for, its roots by rising number.
+    /// The grove that the heap stands for, its roots by rising number. What a heap stands for is a
+    /// well-formed grove always.
     pub fn to_grove(&self, alloc: Global) -> Result<Grove, OutOfMemory>
-        ensures { IfOk result (λ grove. forest_of grove ≡ sorted_roots self.now.grove) }
+        ensures made { IfOk result (λ grove. forest_of grove ≡ sorted_roots self.now.grove) }
+        ensures shaped { OnOk result (Shaped (shape grove) self.now.grove) }
     {
         let marks = self.walk(alloc)?;
         let mut row = List::new(alloc);
@@ -31,6 +33,15 @@ impl NodeHeap {
             row = next_row(alloc, mark, row, &mut outer)?;
         }
         Ok(row)
+    }
+
+    /// A heap of the same grove. It is made of that grove, whose drop takes stack for each tree
+    /// below another. Room for more nodes isn't copied.
+    pub fn copy(&self, alloc: Global) -> Result<NodeHeap, OutOfMemory>
+        ensures { IfOk result (λ copied. SameAt grove copied.grove self.now.grove) }
+    {
+        let grove = self.to_grove(alloc)?;
+        NodeHeap::from_grove(alloc, &grove)
     }
 
     /// The text of that grove, as the program prints it. What a heap stands for is a well-formed
