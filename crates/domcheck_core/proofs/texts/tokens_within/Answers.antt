@@ -1,4 +1,4 @@
-use Rattle.std.proofs.Common.{Some, None, arith, ◌∙◌}
+use Rattle.std.proofs.Common.{Some, arith, ◌∙◌}
 use Rattle.domcheck_core.proofs.Tested.{limit_of_tokens, past_limit}
 use Rattle.domcheck_core.proofs.texts.tokens_within.Goals as goal
 
@@ -8,9 +8,3 @@ returns-in-Some-clause-told c =
     (limit_of_tokens c.args.nesting c.args.bytes.now _ (Some c.in-Some.kind) (omega arith)
     (rw c.in-Some.is at c.front_limit.ensures)
     (c.front.ensures ∙ c.in_ok-source.ensures)))
-
-pub returns-in-None-clause-passes : goal.returns-in-None-clause-passes
-returns-in-None-clause-passes c =
-    limit_of_tokens c.args.nesting c.args.bytes.now _ None (omega arith)
-    (rw c.in-None.is at c.front_limit.ensures)
-    (c.front.ensures ∙ c.in_ok-source.ensures)
