@@ -1,7 +1,6 @@
 -- How the list of the free variables is found step by step.
 use Rattle.std.proofs.Common.{◌≡◌, refl, sym, ap, ◌∙◌, ℕ, Bool, true, false, not, cond, List, [], ◌∷◌, ◌++◌, map, ◌||◌, Some, None, bytes_eq}
 use Rattle.std.specs.List.{list_any}
-use Rattle.std.proofs.lemmas.List.{map-append}
 use Rattle.std.proofs.lemmas.List.Folds.{list_any-append}
 use Rattle.std.proofs.lemmas.Slice.Eq.{bytes_eq-Decides}
 use Rattle.std.proofs.lemmas.List.Elements.{filter-append}
@@ -9,8 +8,6 @@ use Rattle.model_terms.specs.VariableTests.{same_var, same_var-is}
 use Rattle.model_terms.specs.Variables.{Var}
 use Rattle.model_shapes.proofs.Tests.{bytes-refl}
 use Rattle.model_shapes.proofs.Truth.{false≢true}
-use Rattle.formula_syntax.specs.declared.variables.AnyVar.{AnyVar}
-use Rattle.formula_syntax.specs.Formulas.{any_var_of}
 use Rattle.formula_syntax.specs.FreeVariables.{is_among, without}
 use Rattle.formula_syntax.specs.Gathering.{outside, with_one, with_each, var_text, is_name_of, HasPlaces}
 use Rattle.name_table.specs.Found.{found}
@@ -83,26 +80,19 @@ any-seen f test [] = refl
 any-seen f test (x ∷ xs) = ap (λ b. test (f x) || b) (any-seen f test xs)
 
 -- nor is one that was found
-pub found-left : (found : List AnyVar) (xs : List Var) (x : Var) → is_among x xs ≡ false
-    → list_any (λ v. same_var x (any_var_of v)) found ≡ true
-    → with_each (map any_var_of found) (outside xs (x ∷ [])) ≡ map any_var_of found
+pub found-left : (found xs : List Var) (x : Var) → is_among x xs ≡ false
+    → is_among x found ≡ true → with_each found (outside xs (x ∷ [])) ≡ found
 found-left found xs x e h =
-    ap (with_each seen) (outside-free x xs e)
-    ∙ ap (λ b. cond b seen (seen ++ x ∷ [])) (any-seen any_var_of (same_var x) found ∙ h)
-  where
-    seen : List Var
-    seen = map any_var_of found
+    ap (with_each found) (outside-free x xs e)
+    ∙ ap (λ b. cond b found (found ++ x ∷ [])) h
 
 -- any other one is
-pub new-put : (found : List AnyVar) (xs : List Var) (x : Var) (v : AnyVar)
-    → is_among x xs ≡ false → list_any (λ v. same_var x (any_var_of v)) found ≡ false
-    → any_var_of v ≡ x
-    → map any_var_of (found ++ v ∷ []) ≡ with_each (map any_var_of found) (outside xs (x ∷ []))
-new-put found xs x v e h s =
-    map-append any_var_of found (v ∷ []) ∙ ap (λ u. map any_var_of found ++ u ∷ []) s
-    ∙ sym (ap (with_each (map any_var_of found)) (outside-free x xs e)
-    ∙ ap (λ b. cond b (map any_var_of found) (map any_var_of found ++ x ∷ []))
-    (any-seen any_var_of (same_var x) found ∙ h))
+pub new-put : (found xs : List Var) (x : Var)
+    → is_among x xs ≡ false → is_among x found ≡ false
+    → found ++ x ∷ [] ≡ with_each found (outside xs (x ∷ []))
+new-put found xs x e h =
+    sym (ap (with_each found) (outside-free x xs e)
+    ∙ ap (λ b. cond b found (found ++ x ∷ [])) h)
 
 pub ruleset step_rules = (parts-in-order, first-in-order, outside-none)
 

@@ -92,9 +92,7 @@ impl<'a> Gathered<'a> {
     {
         match self.places.get(text_of(name)) {
             None => false,
-            Some(place) => {
-                stands_at(&self.found, place, name) || is_one_of(&self.found, name)
-            }
+            Some(place) => { stands_at(&self.found, place, name) || is_one_of(&self.found, name) }
         }
     }
 
@@ -110,7 +108,7 @@ impl<'a> Gathered<'a> {
 
     /// The variables, as a vector.
     pub(crate) fn into_variables(self) -> Vec<AnyVar>
-        ensures { map any_var_of result.items ≡ self }
+        ensures { map any_var_of result.items ≡ self.entry }
     {
         self.found
     }
