@@ -12,4 +12,4 @@ pub returns-in_ok-insert : goal.returns-in_ok-insert
 returns-in_ok-insert g c =
     declared-new g.V.Declared.seen c.args.self.now c.args.name.now c.args.value
     (record { first = c.insert.new.self; repeats = c.args.self.now.repeats }) (cc) refl
-    c.in_ok-insert.ensures
+    c.in_ok-insert.ensures.ok
