@@ -43,7 +43,7 @@ module _ (name : List ℕ) where
   pub found-is : (fs : List Procedure) (o : Option (Bor Procedure))
       → ProceduresAreSmall (map procedure_of fs) → option_map procedure_at o ≡ first_named name fs
       → MatchOption o (procedure_named name (procedures_in fs) ≡ None)
-      (λ f. (procedure_named name (procedures_in fs) ≡ Some (nameless_procedure (procedure_of f.now)))
+      (λ f. (procedure_named name (procedures_in fs) ≡ Some (callee f.now))
       × ProcedureIsSmall (procedure_of f.now))
   found-is fs None h e = named-is fs ∙ ap (option_map callee) (sym e)
   found-is fs (Some f) h e =

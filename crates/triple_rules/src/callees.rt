@@ -11,14 +11,14 @@ use name_table::NameTable;
 use std::alloc::Global;
 use theory_syntax::Procedure;
 
-/// The procedures of a theory, of which a call names one.
+/// The procedures of a theory, as calls find them by their names.
 #[derive(Clone, Copy)]
-pub struct Callees<'a> {
+pub struct Callees<'p, 'n> {
     /// The procedures, in order.
-    pub procedures: &'a [Procedure],
-    /// The first procedure of each name. Without this table a name is searched for, which takes
-    /// less time for a few calls, and more for many.
-    pub names: Option<&'a NameTable<'a, &'a Procedure>>,
+    pub procedures: &'p [Procedure],
+    /// The first procedure of each name. Without this table the procedures are walked at each call,
+    /// which takes less time than making the table for one call alone.
+    pub names: Option<&'n NameTable<'p, &'p Procedure>>,
 }
 
 // The first procedure of the name.
@@ -38,9 +38,9 @@ fn find_named<'a>(name: &Text, procedures: &'a [Procedure]) -> Option<&'a Proced
     None
 }
 
-impl<'a> Callees<'a> {
+impl<'p, 'n> Callees<'p, 'n> {
     /// The procedure that the name means.
-    pub(crate) fn meant(self, name: &Text) -> Option<&'a Procedure>
+    pub(crate) fn meant(self, name: &Text) -> Option<&'p Procedure>
         requires { AreReady self }
         ensures { MatchOption result
             (procedure_named name.now (procedures_in self.entry.procedures.now) ≡ None)

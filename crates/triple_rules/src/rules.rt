@@ -133,11 +133,7 @@ pub fn frame(alloc: Global, written: &Written, changed: &[ProgVar]) -> Verdict
 
 /// The verdict of call, in a theory with these procedures. OutOfMemory comes only where memory is
 /// refused.
-pub fn call(
-    alloc: Global,
-    written: &Written,
-    callees: Callees,
-) -> Result<Verdict, OutOfMemory>
+pub fn call(alloc: Global, written: &Written, callees: Callees) -> Result<Verdict, OutOfMemory>
     requires written { IsReady written.now }
     requires callees { AreReady callees }
     ensures { IfOk result (λ v. IsVerdict

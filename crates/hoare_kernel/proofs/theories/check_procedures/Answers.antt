@@ -1,5 +1,5 @@
 -- The first procedure that isn't proved.
-use Rattle.std.proofs.Common.{◌∙◌, ◌+◌, ap, subst, arith, get_or, length, List}
+use Rattle.std.proofs.Common.{◌+◌, ap, subst, arith}
 use Rattle.model_commands.specs.Theories.{nameless_procedure}
 use Rattle.theory_syntax.specs.declared.theories.Procedure.{Procedure}
 use Rattle.theory_syntax.specs.Theories.{procedure_of}
@@ -18,13 +18,7 @@ returns-in_err-check_procedure-clause-bad c =
     let e = c.in_err-check_procedure.field-0.0 in
     handed_out (ProceduresRefused ps ps 1) c.from_residual.result e c.from_residual.ensures.1
     (refused_procedure ps fs item k number e
-    (omega (
-      arith,
-      c.loop-procedure-test.true,
-      ap (λ (z : List Procedure). length z) c.as_slice-procedure-items.ensures,
-    ))
+    (omega (arith, c.loop-procedure-test.true))
     (ap (λ n. n + 1) c.loop-procedure.invariant.at) c.loop-procedure.invariant.proved
     (subst (λ (z : Procedure). ProcedureRefused ps number (nameless_procedure (procedure_of z)) e)
-    (c.procedure-item.is
-    ∙ ap (λ (z : List Procedure). get_or z k item) c.as_slice-procedure-items.ensures)
-    c.in_err-check_procedure.ensures.bad))
+    c.procedure-item.is c.in_err-check_procedure.ensures.bad))

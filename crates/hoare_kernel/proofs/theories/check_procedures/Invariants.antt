@@ -16,5 +16,6 @@ invariant-loop-procedure l = record {
   numbered : AreNumbered (drop l.procedure-index l.callees.procedures.now);
   sorted : EachSorted (drop l.procedure-index l.callees.procedures.now);
   at : l.number ≡ l.procedure-index;
-  few : step_count (map procedure_of (drop l.procedure-index l.callees.procedures.now)) < 4294967295;
+  few : step_count (map procedure_of (drop l.procedure-index l.callees.procedures.now))
+      < 4294967295;
 }
