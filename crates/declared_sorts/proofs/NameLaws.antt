@@ -1,8 +1,7 @@
 -- What a table of names has after one more declaration, and the sorts that it tells.
-use Rattle.std.proofs.Common.{◌≡◌, ◌∙◌, sym, refl, ap, ℕ, ◌+◌, ◌<◌, List, [], ◌∷◌, Bool, true, false, cond, Option, Some, None, bytes_eq, length, get_or, drop, map, add-one}
+use Rattle.std.proofs.Common.{◌≡◌, ◌∙◌, sym, refl, ap, ℕ, ◌+◌, ◌<◌, List, [], ◌∷◌, Bool, true, false, cond, Option, Some, bytes_eq, length, get_or, drop, map, add-one}
 use Rattle.std.specs.Prelude.{unwrap_or}
 use Rattle.std.proofs.Math.Seq.{drop-cons}
-use Rattle.std.proofs.lemmas.Slice.Eq.{bytes_eq-Decides}
 use Rattle.model_grammar.specs.Sorts.{sort_among, logic_sort_among}
 use Rattle.dom_terms.specs.Sorts.{value_sort_of, sort_of}
 use Rattle.dom_terms.specs.Terms.{prog_var_of, logic_var_of}
@@ -12,21 +11,9 @@ use Rattle.dom_terms.specs.declared.sorts.ValueSort.{ValueSort}
 use Rattle.dom_terms.specs.declared.sorts.ValueSort.TheVariants.{Node}
 use Rattle.dom_terms.specs.declared.terms.LogicVar.{LogicVar}
 use Rattle.dom_terms.specs.declared.terms.ProgVar.{ProgVar}
+use Rattle.name_table.specs.Found.{first_of}
 use Rattle.declared_sorts.specs.declared.names.Names.{Names}
-use Rattle.declared_sorts.specs.Names.{of_variable, of_logic, first_of, found, Tells}
-
--- two tests that are true together
-same_truth : (a b : Bool) → (a ≡ true → b ≡ true) → (b ≡ true → a ≡ true) → a ≡ b
-same_truth true b f g = sym (f refl)
-same_truth false true f g = g refl
-same_truth false false f g = refl
-
--- names are equal either way round
-pub turned : (x y : List ℕ) → bytes_eq x y ≡ bytes_eq y x
-turned x y =
-    same_truth (bytes_eq x y) (bytes_eq y x)
-    (λ e. (bytes_eq-Decides y x).1 (sym ((bytes_eq-Decides x y).0 e)))
-    (λ e. (bytes_eq-Decides x y).1 (sym ((bytes_eq-Decides y x).0 e)))
+use Rattle.declared_sorts.specs.Names.{of_variable, of_logic, found, Tells}
 
 -- the item of this turn and those of the later ones
 drop_item : {A : Type 0} (items : List A) (i : ℕ) (item : A) → i < length items

@@ -3,7 +3,7 @@ ghost use Rattle.std.specs.Prelude.{◌≡◌, ℕ, List, [], Some, cond, bytes_
 ghost use Rattle.declared_sorts.specs.Names.{found, Tells};
 
 use dom_terms::{LogicVar, OutOfMemory, ProgVar, Sort, ValueSort};
-use indexmap::IndexMap;
+use name_table::NameTable;
 use std::alloc::Global;
 
 /// Something that declares a name with a sort.
@@ -53,7 +53,7 @@ impl Declares<Sort> for LogicVar {
 /// The names of a list of declarations, each with the sort with which it is declared first.
 #[derive(Drop)]
 pub struct Names<'a, S> {
-    first: IndexMap<&'a str, S>,
+    first: NameTable<'a, S>,
 }
 
 impl<'a, S: Copy + Drop> Names<'a, S> {
@@ -62,7 +62,7 @@ impl<'a, S: Copy + Drop> Names<'a, S> {
         ensures { Tells result [] }
     {
         Names {
-            first: IndexMap::new(alloc),
+            first: NameTable::new(alloc),
         }
     }
 
@@ -70,7 +70,7 @@ impl<'a, S: Copy + Drop> Names<'a, S> {
     pub fn get(&self, name: &str) -> Option<S>
         ensures { result ≡ found self.now name.now }
     {
-        self.first.get(name).copied()
+        self.first.get(name)
     }
 
     // Puts a declaration before those that are there.
@@ -78,8 +78,7 @@ impl<'a, S: Copy + Drop> Names<'a, S> {
         ensures { OnOk result ((q : List ℕ) → found self.new q
             ≡ cond (bytes_eq q name.now) (Some sort) (found self.old q)) }
     {
-        self.first.insert(name, sort)?;
-        Ok(())
+        self.first.insert(name, sort)
     }
 }
 

@@ -6,6 +6,7 @@ use Rattle.std.proofs.lemmas.List.Folds.{list_any-append}
 use Rattle.std.proofs.lemmas.Slice.Eq.{bytes_eq-Decides}
 use Rattle.model_terms.specs.TermLimits.{or_else}
 use Rattle.model_commands.specs.SortTests.{distinct_by}
+use Rattle.name_table.proofs.RowLaws.{turned}
 use Rattle.dom_syntax.specs.declared.tables.Table.{Table}
 use Rattle.dom_syntax.specs.Tables.{Declaration, Declares, first_of, found, share}
 
@@ -14,13 +15,6 @@ pub same-truth : (a b : Bool) → (a ≡ true → b ≡ true) → (b ≡ true �
 same-truth true b f g = sym (f refl)
 same-truth false true f g = g refl
 same-truth false false f g = refl
-
--- names are equal either way round
-pub bytes-turned : (x y : List ℕ) → bytes_eq x y ≡ bytes_eq y x
-bytes-turned x y =
-    same-truth (bytes_eq x y) (bytes_eq y x)
-    (λ e. (bytes_eq-Decides y x).1 (sym ((bytes_eq-Decides x y).0 e)))
-    (λ e. (bytes_eq-Decides x y).1 (sym ((bytes_eq-Decides y x).0 e)))
 
 module _ {W : Type 0} where
   first-step : (b : Bool) (o p q : Option W) (w : W) → q ≡ or_else o p
@@ -51,7 +45,7 @@ module _ {W : Type 0} where
   distinct-more [] d = refl
   distinct-more (x ∷ ds) d =
       (λ j. not (list_any-append (share x) ds (d ∷ []) j) && distinct-more ds d j)
-      ∙ (λ j. not (list_any (share x) ds || (bytes-turned x.0 d.0 j || false))
+      ∙ (λ j. not (list_any (share x) ds || (turned x.0 d.0 j || false))
       && (distinct_by share ds && is_none (first_of ds d.0)))
       ∙ arranged (list_any (share x) ds) (bytes_eq d.0 x.0) (distinct_by share ds)
       (first_of ds d.0) x.1
@@ -117,20 +111,20 @@ module _ {V W : Type 0} (seen : V → W) where
 
   module _ (table : Table V) (name : List ℕ) (v : V) (new : Table V)
       (absent : is_some (found table name) ≡ false) (flag : new.repeats ≡ table.repeats)
-      (has : (q : List ℕ) → found new q ≡ cond (bytes_eq name q) (Some v) (found table q)) where
+      (has : (q : List ℕ) → found new q ≡ cond (bytes_eq q name) (Some v) (found table q)) where
     new-at : (q : List ℕ)
         → option_map seen (found new q)
-        ≡ or_else (option_map seen (found table q)) (cond (bytes_eq name q) (Some (seen v)) None)
+        ≡ or_else (option_map seen (found table q)) (cond (bytes_eq q name) (Some (seen v)) None)
     new-at q =
-        new-first (found table q) (found new q) v (bytes_eq name q)
-        (λ e. subst (λ z. is_some (found table z) ≡ false) ((bytes_eq-Decides name q).0 e) absent)
-        (has q)
+        new-first (found table q) (found new q) v (bytes_eq q name)
+        (λ e. subst (λ z. is_some (found table z) ≡ false)
+        (sym ((bytes_eq-Decides q name).0 e)) absent) (has q)
 
     pub declared-new : (ds : List (Declaration W)) → Declares seen table ds
         → Declares seen new (ds ++ (name, seen v) ∷ [])
     declared-new ds h = record {
       first = λ q. new-at q
-          ∙ (λ j. or_else (h.first q j) (cond (bytes-turned name q j) (Some (seen v)) None))
+          ∙ ap (λ o. or_else o (cond (bytes_eq q name) (Some (seen v)) None)) (h.first q)
           ∙ sym (first-append ds ((name, seen v) ∷ []) q);
       repeats = flag ∙ h.repeats ∙ still (found table name) absent (distinct_by share ds)
           ∙ (λ j. not (distinct_by share ds && none-seen (found table name) j))

@@ -1,19 +1,15 @@
 -- Needn't be believed: the promises speak of the lists of declarations themselves. Tables of names:
 -- what a name is declared as first, and whether one is declared twice.
-use Rattle.std.specs.Prelude.{◌≡◌, ℕ, Bool, not, cond, List, [], ◌∷◌, Option, Some, None, bytes_eq}
+use Rattle.std.specs.Prelude.{◌≡◌, ℕ, Bool, not, List, Option, bytes_eq}
 use Rattle.std.specs.Option.{option_map}
-use Rattle.indexmap.specs.IndexMap.{get_by}
 use Rattle.model_commands.specs.SortTests.{distinct_by}
+use Rattle.name_table.specs.Found as names
+pub use Rattle.name_table.specs.Found.{first_of}
 use Rattle.dom_syntax.specs.declared.tables.Table.{Table}
 
 -- a name with what it is declared as
 abbrev pub Declaration : Type 0 → Type 0
 Declaration W = List ℕ × W
-
--- what the name is declared as first
-abbrev pub first_of : {W : Type 0} → List (Declaration W) → List ℕ → Option W
-first_of [] name = None
-first_of (d ∷ ds) name = cond (bytes_eq name d.0) (Some d.1) (first_of ds name)
 
 -- the declarations have one name
 abbrev pub share : {W : Type 0} → Declaration W → Declaration W → Bool
@@ -21,7 +17,7 @@ share d e = bytes_eq d.0 e.0
 
 -- what the table has for the name
 abbrev pub found : {V : Type 0} → Table V → List ℕ → Option V
-found table name = get_by (λ k. bytes_eq name k.now) table.first
+found table name = names.found table.first name
 
 -- the table is that of the declarations
 pub record Declares {V W : Type 0} (seen : V → W) (table : Table V) (ds : List (Declaration W))

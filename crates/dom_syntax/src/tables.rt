@@ -4,7 +4,7 @@ ghost use Rattle.std.specs.Option.{option_map};
 ghost use Rattle.dom_syntax.specs.Tables.{Declaration, Declares, found};
 
 use dom_terms::OutOfMemory;
-use indexmap::IndexMap;
+use name_table::NameTable;
 use std::alloc::Global;
 
 /// What a name may be declared as.
@@ -19,7 +19,7 @@ pub(crate) trait Declared: Copy + Drop {
 /// The names of a list of declarations, each with what it is declared as first.
 #[derive(Drop)]
 pub(crate) struct Table<'a, V> {
-    first: IndexMap<&'a str, V>,
+    first: NameTable<'a, V>,
     /// Whether a name is declared twice.
     pub(crate) repeats: bool,
 }
@@ -30,7 +30,7 @@ impl<'a, V: Declared> Table<'a, V> {
         ensures { Declares V.seen result [] }
     {
         Table {
-            first: IndexMap::new(alloc),
+            first: NameTable::new(alloc),
             repeats: false,
         }
     }
@@ -39,7 +39,7 @@ impl<'a, V: Declared> Table<'a, V> {
     pub(crate) fn get(&self, name: &str) -> Option<V>
         ensures { result ≡ found self.now name.now }
     {
-        self.first.get(name).copied()
+        self.first.get(name)
     }
 
     /// Puts a declaration behind those that are there.
@@ -47,7 +47,7 @@ impl<'a, V: Declared> Table<'a, V> {
         ensures { OnOk result ((ds : List (Declaration V.Seen)) → Declares V.seen self.old ds
             → Declares V.seen self.new (ds ++ (name.now, V.seen value) ∷ [])) }
     {
-        if self.first.contains_key(name) {
+        if self.first.get(name).is_some() {
             self.repeats = true;
         } else {
             self.first.insert(name, value)?;

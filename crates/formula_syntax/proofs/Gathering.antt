@@ -1,15 +1,17 @@
 -- How the list of the free variables is found step by step.
-use Rattle.std.proofs.Common.{◌≡◌, refl, sym, ap, ◌∙◌, Bool, true, false, not, cond, List, [], ◌∷◌, ◌++◌, map, ◌||◌}
+use Rattle.std.proofs.Common.{◌≡◌, refl, sym, ap, ◌∙◌, ℕ, Bool, true, false, not, cond, List, [], ◌∷◌, ◌++◌, map, ◌||◌, Some, None, bytes_eq}
 use Rattle.std.specs.List.{list_any}
-use Rattle.std.proofs.lemmas.List.{map-append}
+use Rattle.std.proofs.lemmas.List.Folds.{list_any-append}
+use Rattle.std.proofs.lemmas.Slice.Eq.{bytes_eq-Decides}
 use Rattle.std.proofs.lemmas.List.Elements.{filter-append}
-use Rattle.model_terms.specs.VariableTests.{same_var}
+use Rattle.model_terms.specs.VariableTests.{same_var, same_var-is}
 use Rattle.model_terms.specs.Variables.{Var}
+use Rattle.model_shapes.proofs.Tests.{bytes-refl}
 use Rattle.model_shapes.proofs.Truth.{false≢true}
-use Rattle.formula_syntax.specs.declared.variables.AnyVar.{AnyVar}
-use Rattle.formula_syntax.specs.Formulas.{any_var_of}
 use Rattle.formula_syntax.specs.FreeVariables.{is_among, without}
-use Rattle.formula_syntax.specs.Gathering.{outside, with_one, with_each}
+use Rattle.formula_syntax.specs.Gathering.{outside, with_one, with_each, var_text, is_name_of, HasPlaces}
+use Rattle.name_table.specs.Found.{found}
+use Rattle.name_table.specs.declared.tables.NameTable.{NameTable}
 
 -- binders leave of one list and another what they leave of each
 pub outside-append : (xs ys zs : List Var)
@@ -78,27 +80,68 @@ any-seen f test [] = refl
 any-seen f test (x ∷ xs) = ap (λ b. test (f x) || b) (any-seen f test xs)
 
 -- nor is one that was found
-pub found-left : (found : List AnyVar) (xs : List Var) (x : Var) → is_among x xs ≡ false
-    → list_any (λ v. same_var x (any_var_of v)) found ≡ true
-    → with_each (map any_var_of found) (outside xs (x ∷ [])) ≡ map any_var_of found
+pub found-left : (found xs : List Var) (x : Var) → is_among x xs ≡ false
+    → is_among x found ≡ true → with_each found (outside xs (x ∷ [])) ≡ found
 found-left found xs x e h =
-    ap (with_each seen) (outside-free x xs e)
-    ∙ ap (λ b. cond b seen (seen ++ x ∷ [])) (any-seen any_var_of (same_var x) found ∙ h)
-  where
-    seen : List Var
-    seen = map any_var_of found
+    ap (with_each found) (outside-free x xs e)
+    ∙ ap (λ b. cond b found (found ++ x ∷ [])) h
 
 -- any other one is
-pub new-put : (found : List AnyVar) (xs : List Var) (x : Var) (v : AnyVar)
-    → is_among x xs ≡ false → list_any (λ v. same_var x (any_var_of v)) found ≡ false
-    → any_var_of v ≡ x
-    → map any_var_of (found ++ v ∷ []) ≡ with_each (map any_var_of found) (outside xs (x ∷ []))
-new-put found xs x v e h s =
-    map-append any_var_of found (v ∷ []) ∙ ap (λ u. map any_var_of found ++ u ∷ []) s
-    ∙ sym (ap (with_each (map any_var_of found)) (outside-free x xs e)
-    ∙ ap (λ b. cond b (map any_var_of found) (map any_var_of found ++ x ∷ []))
-    (any-seen any_var_of (same_var x) found ∙ h))
+pub new-put : (found xs : List Var) (x : Var)
+    → is_among x xs ≡ false → is_among x found ≡ false
+    → found ++ x ∷ [] ≡ with_each found (outside xs (x ∷ []))
+new-put found xs x e h =
+    sym (ap (with_each found) (outside-free x xs e)
+    ∙ ap (λ b. cond b found (found ++ x ∷ [])) h)
 
 pub ruleset step_rules = (parts-in-order, first-in-order, outside-none)
 
 pub ruleset variable_rules = (bound-left, found-left, new-put)
+
+-- NAMES
+-- variables of two names are two
+apart : (x y : Var) → bytes_eq (var_text x) (var_text y) ≡ false → same_var x y ≡ false
+apart x y e = by_test (same_var x y) refl
+  where
+    by_test : (b : Bool) → same_var x y ≡ b → same_var x y ≡ false
+    by_test true same =
+        false≢true (sym e ∙ ap (λ z. bytes_eq (var_text x) (var_text z)) (sym (same_var-is x y same))
+        ∙ bytes-refl (var_text x))
+    by_test false same = same
+
+-- where none has the name of a variable, the variable is none of them
+pub not_among : (x : Var) (xs : List Var) → is_name_of (var_text x) xs ≡ false
+    → is_among x xs ≡ false
+not_among x [] e = refl
+not_among x (y ∷ ys) e =
+    by_test (bytes_eq (var_text x) (var_text y)) refl e (not_among x ys)
+  where
+    by_test : (b : Bool) → bytes_eq (var_text x) (var_text y) ≡ b
+        → (b || is_name_of (var_text x) ys) ≡ false
+        → (is_name_of (var_text x) ys ≡ false → is_among x ys ≡ false)
+        → (same_var x y || is_among x ys) ≡ false
+    by_test true is f others = false≢true (sym f)
+    by_test false is f others = ap (λ b. b || is_among x ys) (apart x y is) ∙ others f
+
+-- one more variable, whose name the table has
+pub places_kept : (old new : NameTable ℕ) (xs : List Var) (text : List ℕ) (place : ℕ)
+    → HasPlaces old xs
+    → ((q : List ℕ) → found new q ≡ cond (bytes_eq q text) (Some place) (found old q))
+    → HasPlaces new xs
+places_kept old new xs text place has after q none =
+    by_test (bytes_eq q text) (sym (after q) ∙ none)
+  where
+    by_test : (b : Bool) → cond b (Some place) (found old q) ≡ None → is_name_of q xs ≡ false
+    by_test true e = absurd (cc)
+    by_test false e = has q e
+
+pub places_more : (table : NameTable ℕ) (xs : List Var) (x : Var) → HasPlaces table xs
+    → (found table (var_text x) ≡ None → ⊥) → HasPlaces table (xs ++ x ∷ [])
+places_more table xs x has there q none = list_any-append (λ y. bytes_eq q (var_text y)) xs (x ∷ [])
+    ∙ ap (λ b. b || (bytes_eq q (var_text x) || false)) (has q none)
+    ∙ by_test (bytes_eq q (var_text x)) refl
+  where
+    by_test : (b : Bool) → bytes_eq q (var_text x) ≡ b → (b || false) ≡ false
+    by_test true e =
+        absurd (there (ap (found table) (sym ((bytes_eq-Decides q (var_text x)).0 e)) ∙ none))
+    by_test false e = refl

@@ -1,6 +1,6 @@
 // The free variables of a formula.
-ghost use Rattle.std.specs.Prelude.{◌≡◌, ◌↔◌, IsTrue, IfOk, [], ◌∷◌, ◌++◌, map};
-ghost use Rattle.std.specs.List.{list_any, IsDistinct};
+ghost use Rattle.std.specs.Prelude.{◌≡◌, ◌↔◌, IsTrue, IfOk, ◌∷◌, [], ◌++◌, map};
+ghost use Rattle.std.specs.List.{IsDistinct};
 ghost use Rattle.model_terms.specs.VariableTests.{same_var};
 ghost use Rattle.model_terms.specs.Variables.{Var};
 ghost use Rattle.model_formulas.specs.Formulas.{Named};
@@ -16,9 +16,10 @@ ghost use Rattle.formula_syntax.specs.Gathering.{outside, with_each};
 
 use crate::binders::Binders;
 use crate::formulas::Formula;
-use crate::replaced::{Name, is_named};
+use crate::gathered::Gathered;
+use crate::replaced::Name;
 use crate::variables::AnyVar;
-use dom_terms::{Copied, OutOfMemory, Term, same_logic_var};
+use dom_terms::{OutOfMemory, Term, same_logic_var};
 use std::alloc::Global;
 
 /// The free variables of the formula, each once, in the order of their first occurrences. A
@@ -29,9 +30,9 @@ pub fn free_vars(alloc: Global, formula: &Formula) -> Result<Vec<AnyVar>, OutOfM
     ensures { IfOk result
         (λ vars. map any_var_of vars.items ≡ free_in_order (formula_of formula.now)) }
 {
-    let mut found = Vec::new(alloc);
+    let mut found = Gathered::new(alloc);
     add_free(alloc, formula, &Binders::Empty, &mut found)?;
-    Ok(found)
+    Ok(found.into_variables())
 }
 
 /// A variable is in the list of the free ones exactly where it stands free in the nameless formula,
@@ -45,14 +46,14 @@ pub fn the_list_has_the_free_variables()
 // puts the free variables of the formula below the binders behind those that were found
 #[cycle(add_free)]
 #[tactic(auto, using(crate::proofs::Gathering::step_rules))]
-fn add_free(
+fn add_free<'a>(
     alloc: Global,
-    formula: &Formula,
+    formula: &'a Formula,
     over: &Binders,
-    found: &mut Vec<AnyVar>,
+    found: &mut Gathered<'a>,
 ) -> Result<(), OutOfMemory>
-    ensures { IfOk result (λ _. map any_var_of found.new.items
-        ≡ with_each (map any_var_of found.old.items)
+    ensures { IfOk result (λ _. found.new
+        ≡ with_each found.old
         (outside (bound_by over.now) (occurrences (formula_of formula.now)))) }
 {
     match formula {
@@ -93,15 +94,15 @@ fn add_free(
 // the same for two formulas, one behind the other
 #[cycle(add_free)]
 #[tactic(auto, using(crate::proofs::Gathering::step_rules))]
-fn add_both(
+fn add_both<'a>(
     alloc: Global,
-    left: &Formula,
-    right: &Formula,
+    left: &'a Formula,
+    right: &'a Formula,
     over: &Binders,
-    found: &mut Vec<AnyVar>,
+    found: &mut Gathered<'a>,
 ) -> Result<(), OutOfMemory>
-    ensures { IfOk result (λ _. map any_var_of found.new.items
-        ≡ with_each (map any_var_of found.old.items) (outside (bound_by over.now)
+    ensures { IfOk result (λ _. found.new
+        ≡ with_each found.old (outside (bound_by over.now)
         (occurrences (formula_of left.now) ++ occurrences (formula_of right.now)))) }
 {
     add_free(alloc, left, over, found)?;
@@ -110,14 +111,14 @@ fn add_both(
 
 // puts the variables of the term that no binder binds behind those that were found
 #[tactic(auto, using(crate::proofs::Gathering::step_rules))]
-fn add_term(
+fn add_term<'a>(
     alloc: Global,
-    term: &Term,
+    term: &'a Term,
     over: &Binders,
-    found: &mut Vec<AnyVar>,
+    found: &mut Gathered<'a>,
 ) -> Result<(), OutOfMemory>
-    ensures { IfOk result (λ _. map any_var_of found.new.items
-        ≡ with_each (map any_var_of found.old.items)
+    ensures { IfOk result (λ _. found.new
+        ≡ with_each found.old
         (outside (bound_by over.now) (term_variables (term_of term.now)))) }
 {
     match term {
@@ -133,21 +134,20 @@ fn add_term(
 
 // puts the variable behind those that were found, if no binder binds it and it isn't there yet
 #[tactic(auto, using(crate::proofs::Gathering::variable_rules))]
-fn add_variable(
+fn add_variable<'a>(
     alloc: Global,
-    name: &Name,
+    name: &Name<'a>,
     over: &Binders,
-    found: &mut Vec<AnyVar>,
+    found: &mut Gathered<'a>,
 ) -> Result<(), OutOfMemory>
-    ensures { IfOk result (λ _. map any_var_of found.new.items
-        ≡ with_each (map any_var_of found.old.items)
+    ensures { IfOk result (λ _. found.new
+        ≡ with_each found.old
         (outside (bound_by over.now) (var_named name.now ∷ []))) }
 {
-    if binds(over, name) || has(found, name) {
+    if binds(over, name) || found.has(name) {
         return Ok(());
     }
-    found.push(variable_of(alloc, name)?)?;
-    Ok(())
+    found.put(alloc, name)
 }
 
 // whether one of the binders binds the variable
@@ -158,22 +158,5 @@ fn binds(over: &Binders, name: &Name) -> bool
         (Binders::Empty, _) => false,
         (Binders::More(x, outer), Name::Logic(y)) => same_logic_var(y, x) || binds(outer, name),
         (Binders::More(_, outer), Name::Prog(_)) => binds(outer, name),
-    }
-}
-
-// whether the variable is one of those
-fn has(found: &[AnyVar], name: &Name) -> bool
-    ensures { result ≡ list_any (λ v. same_var (var_named name.now) (any_var_of v)) found.now }
-{
-    found.iter().any(|variable| is_named(name, variable))
-}
-
-// a copy of the variable
-fn variable_of(alloc: Global, name: &Name) -> Result<AnyVar, OutOfMemory>
-    ensures { IfOk result (λ variable. any_var_of variable ≡ var_named name.now) }
-{
-    match name {
-        Name::Prog(variable) => Ok(AnyVar::Prog(variable.copy(alloc)?)),
-        Name::Logic(variable) => Ok(AnyVar::Logic(variable.copy(alloc)?)),
     }
 }

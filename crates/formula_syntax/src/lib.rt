@@ -8,6 +8,7 @@ mod binders;
 mod entailments;
 mod formulas;
 mod free;
+mod gathered;
 mod purity;
 mod renaming;
 mod replaced;

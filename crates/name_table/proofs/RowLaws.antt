@@ -1,6 +1,8 @@
 -- What a look-up in a row of names finds, and what it finds after a change.
 use Rattle.std.proofs.Common.{◌≡◌, ◌∙◌, sym, refl, ap, ℕ, zero, suc, ◌+◌, ◌<◌, ◌≤◌, List, [], ◌∷◌, ◌++◌, Bool, true, false, cond, Option, Some, None, bytes_eq, length, get_or, arith, Bor}
 use Rattle.std.specs.List.{position_or_len}
+use Rattle.std.specs.Prelude.{Result, Ok, Err}
+use Rattle.std.specs.Result.{OnErr}
 use Rattle.std.specs.Map.{lookup}
 use Rattle.std.proofs.Math.ListN as list
 use Rattle.std.proofs.lemmas.Cmp.{nat_list_eq_equiv}
@@ -165,3 +167,8 @@ in_first v o p e = ap (λ z. or_other z p) e
 
 pub in_other : {V : Type 0} (r o p : Option V) → o ≡ None → r ≡ p → r ≡ or_other o p
 in_other r o p none e = e ∙ ap (λ z. or_other z p) (sym none)
+
+-- what holds, holds where there is an error
+pub on_err : {A E P : Type 0} (r : Result A E) → P → OnErr r P
+on_err (Ok a) p = tt
+on_err (Err e) p = p

@@ -1,5 +1,5 @@
 // Tables of names, each with a value.
-ghost use Rattle.std.specs.Prelude.{◌≡◌, ℕ, List, None, Some, cond, bytes_eq, OnOk};
+ghost use Rattle.std.specs.Prelude.{◌≡◌, ℕ, List, None, Some, cond, bytes_eq, OnOk, OnErr};
 ghost use Rattle.name_table.specs.Found.{found};
 
 use crate::rows::place_of;
@@ -41,10 +41,12 @@ impl<'a, V: Copy + Drop> NameTable<'a, V> {
         }
     }
 
-    /// Puts the value for the name, in place of one that it has.
+    /// Puts the value for the name, in place of one that it has. Where memory is refused the table is
+    /// unchanged.
     pub fn insert(&mut self, name: &'a str, value: V) -> Result<(), OutOfMemory>
-        ensures { OnOk result ((q : List ℕ) → found self.new q
+        ensures ok { OnOk result ((q : List ℕ) → found self.new q
             ≡ cond (bytes_eq q name.now) (Some value) (found self.old q)) }
+        ensures err { OnErr result ((q : List ℕ) → found self.new q ≡ found self.old q) }
     {
         let place = place_of(&self.few, name);
         if place < self.few.len() {

@@ -17,7 +17,7 @@ raised-both (prog x s) (prog y u) = refl
 raised-both (logic x s) (logic y u) = refl
 raised-both x y = refl
 
-raised-same : (a b : Term) → same_term (raised a) (raised b) ≡ same_term a b
+pub raised-same : (a b : Term) → same_term (raised a) (raised b) ≡ same_term a b
 raised-same (variable x) (variable y) = raised-both x y
 raised-same (literal v) (literal w) = refl
 raised-same (sum a b) (sum c d) = ap₂ ◌&&◌ (raised-same a c) (raised-same b d)

@@ -1,10 +1,10 @@
 -- Reading outside, and below a binder of each formula.
-use Rattle.std.proofs.Common.{◌≡◌, ℕ, zero, Bool, true, false, not, cond, ◌&&◌, sym, refl, ap, ap₂, ◌∙◌, List, [], ◌∷◌}
+use Rattle.std.proofs.Common.{◌≡◌, ℕ, zero, Bool, true, false, not, cond, ◌&&◌, sym, refl, ap, ap₂, ◌∙◌, subst, Bor, IsTrue, List, [], ◌∷◌}
 use Rattle.std.specs.Prelude.{Option, Some, None}
 use mathlib.Core.Path.{fun_ext}
 use Rattle.model_shapes.specs.Sorts.{Sort, ValueSort}
 use Rattle.model_terms.specs.Variables.{Var, prog, logic, bound, var_sort}
-use Rattle.model_terms.specs.VariableTests.{same_var, var_eq, same_var-is, same_var-not}
+use Rattle.model_terms.specs.VariableTests.{same_var, var_eq, same_var-is, same_var-not, same_var-refl}
 use Rattle.model_terms.specs.Terms.{Term, variable, raised, raised_var, Substitution, under_binder, term_with}
 use Rattle.model_formulas.specs.Formulas.{Named, Formula, existential}
 use Rattle.model_formulas.specs.Nameless.{nameless, walked}
@@ -19,8 +19,8 @@ use Rattle.opened_formulas.specs.declared.reading.Scope.TheVariants as s
 use Rattle.opened_formulas.specs.declared.reading.Opened.{Opened}
 use Rattle.opened_formulas.specs.declared.reading.Put.{Put}
 use Rattle.opened_formulas.specs.declared.reading.Reading.{Reading}
-use Rattle.opened_formulas.specs.Readings.{as_terms, under_name, under_var, left_of, right_name, right_of, renamed, renaming, putting, tried_var}
-use Rattle.opened_formulas.proofs.Raised.{lowest, raised-at, raised-below, apart}
+use Rattle.opened_formulas.specs.Readings.{as_terms, under_name, under_var, left_of, right_name, right_of, renamed, renaming, putting, tried_var, reads_same, StaysSame}
+use Rattle.opened_formulas.proofs.Raised.{raised-same, lowest, raised-at, raised-below, apart}
 use Rattle.opened_formulas.proofs.Zeros.{same_var-turned}
 
 -- what is tested in a scope, of a variable and a term, and of two variables
@@ -182,6 +182,27 @@ module _ (f : Substitution) (g : Var → Var) (x y z : Var) (e : same_var x y �
       ap (λ t. same_term t (term_with (as_terms (under_var z g)) a)) kept
       ∙ (raised-below (f x) z g a
       ∙ ap (λ c. not c && same_term (f x) (term_with (as_terms g) a)) n)
+
+-- STAYING THE SAME
+-- below a binder of each that are one variable, a variable is that one, or is read as before
+module _ (f : Substitution) (g : Var → Var) (y x : Var) where
+  pub same-below : IsTrue (reads_same f g x)
+      → IsTrue (reads_same (under_name y f) (under_var y g) x)
+  same-below h = by_test (same_var x y)
+    where
+      by_test : (b : Bool)
+          → same_term (cond b (variable (bound zero (var_sort y))) (raised (f x)))
+          (variable (cond b (bound zero (var_sort y)) (raised_var (g x)))) ≡ true
+      by_test true = same_var-refl (bound zero (var_sort y))
+      by_test false = raised-same (f x) (variable (g x)) ∙ h
+
+pub stays-below : (outside : Option (Bor Scope)) (f : Substitution) (g : Var → Var) (x y : Var)
+    → same_var x y ≡ true → StaysSame outside f g
+    → StaysSame outside (under_name x f) (under_var y g)
+stays-below None f g x y e h = tt
+stays-below (Some o) f g x y e h =
+    subst (λ z. StaysSame (Some o) (under_name x f) (under_var z g)) (same_var-is x y e)
+    (λ v k. same-below f g x v (h v k))
 
 pub ruleset opened_rules = (prog-renamed, prog-apart, apart-prog)
 

@@ -1,11 +1,13 @@
 -- Needn't be believed: a law of a crate above says what comes of it.
 -- What the variables of a written formula are read as: at an opened binder, at a term that is put
 -- for a variable, and below binders.
-use Rattle.std.specs.Prelude.{zero, Bool, not, ◌&&◌, ◌||◌, cond, Option, Some, None}
+use Rattle.std.specs.Prelude.{zero, Bool, not, ◌&&◌, ◌||◌, cond, Option, Some, None, IsTrue}
+use Rattle.std.specs.Borrow.{Bor}
 use Rattle.model_terms.specs.Variables.{Var, bound, var_sort}
 use Rattle.model_terms.specs.VariableTests.{same_var}
 use Rattle.model_terms.specs.Terms.{variable, raised, raised_var, Substitution, term_with}
 use Rattle.model_formulas.specs.Formulas.{Named}
+use Rattle.model_formulas.specs.SameFormulas.{same_term}
 use Rattle.dom_terms.specs.Sorts.{sort_of}
 use Rattle.dom_terms.specs.Terms.{logic_var_of, term_of}
 use Rattle.formula_syntax.specs.FreeVariables.{is_among, occurrences}
@@ -75,3 +77,14 @@ abbrev pub occurs_below : Opened → Var → Named → Bool
 occurs_below o x p =
     (same_var x (tried_var o.stands_for) && is_among (logic_var_of o.binder.now) (occurrences p))
     || (not (same_var x (logic_var_of o.binder.now)) && is_among x (occurrences p))
+
+-- a variable is read at the left and at the right as one
+abbrev pub reads_same : Substitution → (Var → Var) → Var → Bool
+reads_same f g x = same_term (f x) (variable (g x))
+
+-- each that is so in the scope outside, if one is known, is so in these readings
+abbrev pub StaysSame : Option (Bor Scope) → Substitution → (Var → Var) → Type 0
+StaysSame None f g = Unit {0}
+StaysSame (Some outside) f g =
+    (x : Var) → IsTrue (reads_same (left_of outside.now) (right_name outside.now) x)
+    → IsTrue (reads_same f g x)

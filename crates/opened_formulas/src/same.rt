@@ -1,13 +1,14 @@
 // Whether two formulas are the same, each as it is read.
 ghost use Rattle.std.specs.Prelude.{◌≡◌, ◌&&◌, [], ◌∷◌};
-ghost use Rattle.model_terms.specs.Terms.{term_with, under_binder, variable};
+ghost use Rattle.model_terms.specs.Variables.{Var};
+ghost use Rattle.model_terms.specs.Terms.{term_with, under_binder, variable, Substitution};
 ghost use Rattle.model_formulas.specs.Nameless.{naming, nameless, walked};
 ghost use Rattle.model_formulas.specs.Substitution.{formula_with};
 ghost use Rattle.dom_terms.specs.Sorts.{sort_of};
 ghost use Rattle.dom_terms.specs.Terms.{logic_var_of, term_of};
 ghost use Rattle.formula_syntax.specs.Formulas.{formula_of, side_of};
 ghost use Rattle.formula_syntax.specs.Structural.{is_structural};
-ghost use Rattle.opened_formulas.specs.Readings.{tried_var, renaming, left_of, right_name, right_of};
+ghost use Rattle.opened_formulas.specs.Readings.{tried_var, renaming, left_of, right_name, right_of, under_name, under_var, StaysSame};
 ghost use Rattle.model_formulas.specs.SameFormulas as tests;
 ghost use Rattle.model_shapes.specs.Tests as sorts;
 
@@ -130,14 +131,44 @@ fn same_variable(x: &LogicVar, right: &LogicVar, scope: &Scope) -> bool
     }
 }
 
+// the same of two variables: one that is the same outside is so at once, and only for the others
+// are the binders of the scope walked through
+fn same_use(x: &LogicVar, y: &LogicVar, scope: &Scope, outside: Option<&Scope>) -> bool
+    requires { StaysSame outside (left_of scope.now) (right_name scope.now) }
+    ensures { result ≡ tests.same_term
+        (left_of scope.now (logic_var_of x.now))
+        (variable (right_name scope.now (logic_var_of y.now))) }
+{
+    match outside {
+        Some(o) if same_logic_var(x, y) && same_variable(x, y, o) => true,
+        _ => same_variable(x, y, scope),
+    }
+}
+
+// the scope outside, as it is known below a binder of each: if the binders are one variable, what
+// was the same stays so, and else nothing is known
+fn stays_below<'a>(
+    x: &LogicVar,
+    y: &LogicVar,
+    outside: Option<&'a Scope<'a>>,
+) -> Option<&'a Scope<'a>>
+    ensures { (f : Substitution) (g : Var → Var) → StaysSame outside.entry f g
+        → StaysSame result (under_name (logic_var_of x.now) f)
+        (under_var (logic_var_of y.now) g) }
+{
+    if same_logic_var(x, y) { outside } else { None }
+}
+
 // whether the terms are the same, each as it is read
 #[tactic(auto, using(crate::proofs::Scopes::prog_rules))]
-fn same_term_below(left: &Term, right: &Term, scope: &Scope) -> bool
+fn same_term_below(left: &Term, right: &Term, scope: &Scope, outside: Option<&Scope>) -> bool
+    requires { StaysSame outside (left_of scope.now) (right_name scope.now) }
     ensures { result ≡ tests.same_term
         (term_with (left_of scope.now) (term_of left.now))
         (term_with (right_of scope.now) (term_of right.now)) }
 {
     match (left, right) {
+        (Term::Logic(x), Term::Logic(y)) => same_use(x, y, scope, outside),
         (Term::Logic(x), _) => is_read(x, right, scope),
         (Term::NullNode, Term::NullNode) | (Term::NullList, Term::NullList) => true,
         (Term::Int(a), Term::Int(b)) => a == b,
@@ -147,24 +178,35 @@ fn same_term_below(left: &Term, right: &Term, scope: &Scope) -> bool
         (Term::Add(a, b), Term::Add(c, d))
         | (Term::Sub(a, b), Term::Sub(c, d))
         | (Term::Cat(a, b), Term::Cat(c, d)) => {
-            same_term_below(a, c, scope) && same_term_below(b, d, scope)
+            same_term_below(a, c, scope, outside) && same_term_below(b, d, scope, outside)
         }
         _ => false,
     }
 }
 
 // the same of terms that stand in formulas
-fn same_in_formulas(left: &Term, right: &Term, scope: &Scope) -> bool
+fn same_in_formulas(left: &Term, right: &Term, scope: &Scope, outside: Option<&Scope>) -> bool
+    requires { StaysSame outside (left_of scope.now) (right_name scope.now) }
     ensures { result ≡ tests.same_term
         (term_with (left_of scope.now) (term_with (naming []) (term_of left.now)))
         (term_with (right_of scope.now) (term_with (naming []) (term_of right.now))) }
 {
-    same_term_below(left, right, scope)
+    same_term_below(left, right, scope, outside)
 }
 
 /// Whether the formulas are the same, each as it is read, up to the names of bound variables.
-#[cycle(same_formulas)]
 pub fn same_below(left: &Formula, right: &Formula, scope: &Scope) -> bool
+    ensures { result ≡ tests.same_formula
+        (formula_with (left_of scope.now) (nameless (formula_of left.now)))
+        (formula_with (right_of scope.now) (nameless (formula_of right.now))) }
+{
+    same_within(left, right, scope, Some(&*scope))
+}
+
+// the same, where each variable that is the same outside is known to be the same in the scope
+#[cycle(same_formulas)]
+fn same_within(left: &Formula, right: &Formula, scope: &Scope, outside: Option<&Scope>) -> bool
+    requires { StaysSame outside (left_of scope.now) (right_name scope.now) }
     ensures { result ≡ tests.same_formula
         (formula_with (left_of scope.now) (nameless (formula_of left.now)))
         (formula_with (right_of scope.now) (nameless (formula_of right.now))) }
@@ -174,24 +216,34 @@ pub fn same_below(left: &Formula, right: &Formula, scope: &Scope) -> bool
         (Formula::And(p, q), Formula::And(r, s))
         | (Formula::Or(p, q), Formula::Or(r, s))
         | (Formula::Imp(p, q), Formula::Imp(r, s)) => {
-            same_below(p, r, scope) && same_below(q, s, scope)
+            same_within(p, r, scope, outside) && same_within(q, s, scope, outside)
         }
-        (Formula::Not(p), Formula::Not(q)) => same_below(p, q, scope),
-        (Formula::Exists(x, p), Formula::Exists(y, q)) => same_bound(x, p, y, q, scope),
-        (Formula::Forall(x, p), Formula::Forall(y, q)) => same_bound(x, p, y, q, scope),
+        (Formula::Not(p), Formula::Not(q)) => same_within(p, q, scope, outside),
+        (Formula::Exists(x, p), Formula::Exists(y, q)) => same_bound(x, p, y, q, scope, outside),
+        (Formula::Forall(x, p), Formula::Forall(y, q)) => same_bound(x, p, y, q, scope, outside),
         (Formula::Eq(a, b), Formula::Eq(c, d)) | (Formula::Le(a, b), Formula::Le(c, d)) => {
-            same_in_formulas(a, c, scope) && same_in_formulas(b, d, scope)
+            same_in_formulas(a, c, scope, outside) && same_in_formulas(b, d, scope, outside)
         }
         (Formula::Is(x, p), Formula::Is(y, q)) => {
-            same_sort(x.sort, y.sort) && same_variable(x, y, scope) && same_below(p, q, scope)
+            same_sort(x.sort, y.sort)
+                && same_use(x, y, scope, outside)
+                && same_within(p, q, scope, outside)
         }
-        _ => same_structural(left, right, scope),
+        _ => same_structural(left, right, scope, outside),
     }
 }
 
 // whether the binders have one sort and the formulas below them are the same
 #[cycle(same_formulas)]
-fn same_bound(x: &LogicVar, p: &Formula, y: &LogicVar, q: &Formula, scope: &Scope) -> bool
+fn same_bound(
+    x: &LogicVar,
+    p: &Formula,
+    y: &LogicVar,
+    q: &Formula,
+    scope: &Scope,
+    outside: Option<&Scope>,
+) -> bool
+    requires { StaysSame outside (left_of scope.now) (right_name scope.now) }
     ensures { result ≡ (sorts.same_sort (sort_of x.now.sort) (sort_of y.now.sort)
         && tests.same_formula
         (formula_with (under_binder (left_of scope.now))
@@ -200,12 +252,14 @@ fn same_bound(x: &LogicVar, p: &Formula, y: &LogicVar, q: &Formula, scope: &Scop
         (walked (logic_var_of y.now ∷ []) (formula_of q.now)))) }
 {
     let inside = Scope::Inside(&*x, &*y, &*scope);
-    same_sort(x.sort, y.sort) && same_below(p, q, &inside)
+    let below = stays_below(x, y, outside);
+    same_sort(x.sort, y.sort) && same_within(p, q, &inside, below)
 }
 
 // whether the left formula is structural and the right one the same
 #[cycle(same_formulas)]
-fn same_structural(left: &Formula, right: &Formula, scope: &Scope) -> bool
+fn same_structural(left: &Formula, right: &Formula, scope: &Scope, outside: Option<&Scope>) -> bool
+    requires { StaysSame outside (left_of scope.now) (right_name scope.now) }
     ensures { result ≡ (is_structural (formula_of left.now) && tests.same_formula
         (formula_with (left_of scope.now) (nameless (formula_of left.now)))
         (formula_with (right_of scope.now) (nameless (formula_of right.now)))) }
@@ -215,28 +269,32 @@ fn same_structural(left: &Formula, right: &Formula, scope: &Scope) -> bool
             true,
         (Formula::Hole(h), Formula::Hole(k)) => same_data_sort(*h, *k),
         (Formula::Node(a, b, p, c), Formula::Node(d, e, q, f)) => {
-            same_in_formulas(a, d, scope)
-                && same_in_formulas(b, e, scope)
-                && same_below(p, q, scope)
-                && same_in_formulas(c, f, scope)
+            same_in_formulas(a, d, scope, outside)
+                && same_in_formulas(b, e, scope, outside)
+                && same_within(p, q, scope, outside)
+                && same_in_formulas(c, f, scope, outside)
         }
         (Formula::One(p), Formula::One(q)) | (Formula::Root(p), Formula::Root(q)) => {
-            same_below(p, q, scope)
+            same_within(p, q, scope, outside)
         }
         (Formula::Join(d, p, q), Formula::Join(e, r, s)) => {
-            same_side(*d, *e) && same_below(p, r, scope) && same_below(q, s, scope)
+            same_side(*d, *e)
+                && same_within(p, r, scope, outside)
+                && same_within(q, s, scope, outside)
         }
         (Formula::Plus(p, q), Formula::Plus(r, s))
         | (Formula::PlusHole(p, q), Formula::PlusHole(r, s))
         | (Formula::HoleAdj(p, q), Formula::HoleAdj(r, s)) => {
-            same_below(p, r, scope) && same_below(q, s, scope)
+            same_within(p, r, scope, outside) && same_within(q, s, scope, outside)
         }
         (Formula::App(h, p, q), Formula::App(k, r, s))
         | (Formula::CtxAdj(h, p, q), Formula::CtxAdj(k, r, s)) => {
-            same_data_sort(*h, *k) && same_below(p, r, scope) && same_below(q, s, scope)
+            same_data_sort(*h, *k)
+                && same_within(p, r, scope, outside)
+                && same_within(q, s, scope, outside)
         }
-        (Formula::Var(x), Formula::Var(y)) => same_variable(x, y, scope),
-        (Formula::Len(a), Formula::Len(b)) => same_in_formulas(a, b, scope),
+        (Formula::Var(x), Formula::Var(y)) => same_use(x, y, scope, outside),
+        (Formula::Len(a), Formula::Len(b)) => same_in_formulas(a, b, scope, outside),
         _ => false,
     }
 }

@@ -1,6 +1,7 @@
 pub mod AsciiLemmas
 pub mod LexemeLemmas
 pub mod LetterLemmas
+pub mod LimitLemmas
 pub mod LineLemmas
 pub mod NumberLemmas
 pub mod PositionLemmas

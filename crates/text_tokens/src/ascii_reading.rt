@@ -18,7 +18,7 @@ use std::str;
 
 // The bytes of so many from the place on.
 #[inline(always)]
-fn part(bytes: &[u8], place: usize, count: usize) -> &[u8]
+pub(crate) fn part(bytes: &[u8], place: usize, count: usize) -> &[u8]
     requires { place + count ≤ length bytes.now }
     ensures { result.now ≡ take count (drop place bytes.now) }
 {
@@ -37,7 +37,7 @@ fn newlines_in(bytes: &[u8], place: usize, count: usize) -> u32
 
 // What stands at the place.
 #[inline(always)]
-fn piece_from(bytes: &[u8], place: usize) -> Piece
+pub(crate) fn piece_from(bytes: &[u8], place: usize) -> Piece
     requires { place ≤ length bytes.now }
     ensures { piece_of result ≡ piece_at (drop place bytes.now) }
 {
@@ -46,7 +46,7 @@ fn piece_from(bytes: &[u8], place: usize) -> Piece
 
 // Whether a space stands at the place. Most gaps are one.
 #[inline(always)]
-fn is_space_at(bytes: &[u8], place: usize) -> bool
+pub(crate) fn is_space_at(bytes: &[u8], place: usize) -> bool
     requires { place ≤ length bytes.now }
     ensures { OnTrue result (SpaceStands bytes.now place) }
 {
@@ -98,7 +98,7 @@ fn settled(bytes: &[u8], from: usize, line: u32) -> AsciiFront
 
 // The text of ASCII bytes.
 #[inline(always)]
-fn text_of(bytes: &[u8]) -> &str
+pub(crate) fn text_of(bytes: &[u8]) -> &str
     requires { IsAscii bytes.now }
     ensures { result.now ≡ bytes.now }
 {

@@ -5,7 +5,9 @@
 #![tactic(auto)]
 
 mod ascii;
+mod ascii_limits;
 mod ascii_reading;
+mod brackets;
 mod fronts;
 mod letters;
 mod lexemes;

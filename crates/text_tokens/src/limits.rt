@@ -5,29 +5,14 @@ ghost use Rattle.model_text.specs.Nesting as model;
 ghost use Rattle.dom_terms.specs.Limits.{NamesLimit};
 ghost use Rattle.text_tokens.specs.Lexemes.{lexeme_seen, listed, lexemes_in};
 
+use crate::ascii_limits::ascii_limit;
+use crate::brackets::open_behind_symbol;
 use crate::fronts::Front;
 use crate::lexemes::Lexeme;
-use crate::reserved::is_same;
 use crate::tokens::{TokenKind, Tokens};
 use crate::written::is_written_within;
 use dom_terms::LimitKind;
 use dom_terms::limits::TEXT_BYTES;
-
-// Whether the text is that of an opening bracket.
-#[inline(always)]
-fn opens(text: &str) -> bool
-    ensures { result ≡ model.opens (terminal text.now) }
-{
-    is_same(text, "(") || is_same(text, "[") || is_same(text, "{") || is_same(text, "<")
-}
-
-// Whether the text is that of a closing bracket.
-#[inline(always)]
-fn closes(text: &str) -> bool
-    ensures { result ≡ model.closes (terminal text.now) }
-{
-    is_same(text, ")") || is_same(text, "]") || is_same(text, "}") || is_same(text, ">")
-}
 
 // How many brackets are open behind the token, where so many are open before it.
 #[tactic(auto, using(crate::proofs::BracketLemmas::brackets))]
@@ -36,13 +21,8 @@ fn open_behind(before: u64, token: Lexeme) -> u64
     requires { before < 4_294_967_296 }
     ensures { result ≡ model.open_behind before (lexeme_seen token.entry) }
 {
-    if token.kind != TokenKind::Symbol {
-        return before;
-    }
-    if opens(token.text) {
-        before + 1
-    } else if closes(token.text) {
-        before.saturating_sub(1)
+    if token.kind == TokenKind::Symbol {
+        open_behind_symbol(before, token.text)
     } else {
         before
     }
@@ -60,10 +40,8 @@ fn is_text_within(token: Lexeme) -> bool
     }
 }
 
-/// The limit that the first token passes that passes one: Nesting where more brackets are open at
-/// it than the most, and Text where it is a literal for a text of more than 4,096 bytes. None comes
-/// exactly where no token passes one.
-pub fn front_limit(tokens: Front, nesting: u32) -> Option<LimitKind>
+// The limit that the first token passes of those that are left.
+fn limit_in(tokens: Front, nesting: u32) -> Option<LimitKind>
     ensures { NamesLimit result (model.token_limit nesting 0 (lexemes_in tokens.entry)) }
 {
     let mut open = 0u64;
@@ -79,6 +57,19 @@ pub fn front_limit(tokens: Front, nesting: u32) -> Option<LimitKind>
         left = rest;
     }
     None
+}
+
+/// The limit that the first token passes that passes one: Nesting where more brackets are open at
+/// it than the most, and Text where it is a literal for a text of more than 4,096 bytes. None comes
+/// exactly where no token passes one.
+#[tactic(auto, unfolding(crate::specs::Lexemes::lexemes_in))]
+pub fn front_limit(tokens: Front, nesting: u32) -> Option<LimitKind>
+    ensures { NamesLimit result (model.token_limit nesting 0 (lexemes_in tokens.entry)) }
+{
+    match tokens {
+        Front::Listed(_) => limit_in(tokens, nesting),
+        Front::Ascii(front) => ascii_limit(front.bytes, front.from as usize, nesting),
+    }
 }
 
 /// The same for the tokens of a list.

@@ -187,6 +187,7 @@ fn only_token(kind: TokenKind, length: usize) -> Piece
 }
 
 /// What stands at the front of the text. Its first character mostly tells what may.
+#[inline(always)]
 pub fn piece_at<C: Letter>(text: &[C]) -> Piece
     ensures { piece_of result ≡ piece_at (map C.code text.now) }
 {

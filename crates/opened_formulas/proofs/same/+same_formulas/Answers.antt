@@ -19,8 +19,8 @@ formula_test scope p q =
     same_formula (formula_with (left_of scope) (nameless p))
     (formula_with (right_of scope) (nameless q))
 
-pub same_below-returns-in-Exists-Exists : goal.same_below-returns-in-Exists-Exists
-same_below-returns-in-Exists-Exists t c =
+pub same_within-returns-in-Exists-Exists : goal.same_within-returns-in-Exists-Exists
+same_within-returns-in-Exists-Exists t c =
     let p : c.deref-in-Exists-Exists.result.now ≡ c.in-Exists-Exists.p.value =
     search rules in
     let q : c.deref-in-Exists-Exists-2.result.now ≡ c.in-Exists-Exists.q.value =
@@ -32,8 +32,8 @@ same_below-returns-in-Exists-Exists t c =
     ∙ sym (ap₂ (λ l r. formula_test c.args.scope.now (formula_of l) (formula_of r))
     c.in-Exists-Exists.is-0 c.in-Exists-Exists.is-1))
 
-pub same_below-returns-in-Forall-Forall : goal.same_below-returns-in-Forall-Forall
-same_below-returns-in-Forall-Forall t c =
+pub same_within-returns-in-Forall-Forall : goal.same_within-returns-in-Forall-Forall
+same_within-returns-in-Forall-Forall t c =
     let p : c.deref-in-Forall-Forall.result.now ≡ c.in-Forall-Forall.p.value =
     search rules in
     let q : c.deref-in-Forall-Forall-2.result.now ≡ c.in-Forall-Forall.q.value =
@@ -50,4 +50,4 @@ same_bound-returns-then-same_sort t c =
     let e : same_sort (sort_of c.args.x.now.sort) (sort_of c.args.y.now.sort) ≡ true = cc in
     bound-same (left_of c.args.scope.now) (right_name c.args.scope.now)
     (logic_var_of c.args.x.now) (logic_var_of c.args.y.now) (formula_of c.args.p.now)
-    (formula_of c.args.q.now) _ _ e c.same_below.ensures
+    (formula_of c.args.q.now) _ _ e c.same_within.ensures

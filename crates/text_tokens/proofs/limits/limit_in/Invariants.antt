@@ -1,7 +1,7 @@
 use Rattle.std.proofs.Common.{◌≡◌, ◌≤◌, length}
 use Rattle.model_text.specs.Nesting as model
 use Rattle.text_tokens.specs.Lexemes.{lexemes_in}
-use Rattle.text_tokens.proofs.limits.front_limit.Given as goal
+use Rattle.text_tokens.proofs.limits.limit_in.Given as goal
 
 abbrev pub invariant-loop-token : goal.invariant-loop-token
 invariant-loop-token l = record {

@@ -1,0 +1,15 @@
+use Rattle.std.proofs.Common.{◌≡◌, ◌-◌, ◌≤◌, length}
+use Rattle.model_text.specs.Nesting as model
+use Rattle.text_tokens.specs.Ascii.{left_behind}
+use Rattle.text_tokens.proofs.ascii_limits.ascii_limit.Given as goal
+
+abbrev pub invariant-loop-place : goal.invariant-loop-place
+invariant-loop-place l = record {
+  within : l.place ≤ length l.bytes;
+  few : l.open ≤ l.nesting;
+  same : model.token_limit l.nesting 0 (left_behind l.bytes l.from)
+      ≡ model.token_limit l.nesting l.open (left_behind l.bytes l.place);
+}
+
+abbrev pub decreases-loop-place : goal.decreases-loop-place
+decreases-loop-place l = length l.bytes - l.place
