@@ -1,11 +1,13 @@
 // Which procedures are proved, and so which theories are accepted; why another one is refused.
-ghost use Rattle.std.specs.Prelude.{◌≡◌, ◌<◌, IfErr, IfOk, OnOk, length, map};
-ghost use Rattle.model_commands.specs.Theories.{nameless_procedure, procedures_of};
+ghost use Rattle.std.specs.Prelude.{◌≡◌, ◌+◌, ◌<◌, IfErr, IfOk, OnOk, length, map};
+ghost use Rattle.model_commands.specs.Theories.{nameless_procedure};
 ghost use Rattle.model_files.specs.FileFaults.{IsWellFormedTheory};
 ghost use Rattle.model_files.specs.FileLimits.{step_count};
 ghost use Rattle.model_files.specs.Sizes.{ProcedureIsSmall, TheoryIsSmall};
-ghost use Rattle.rule_table.specs.Accepted.{IsAccepted, IsProved};
+ghost use Rattle.rule_table.specs.Accepted.{Each, IsAccepted, IsProved};
 ghost use Rattle.theory_syntax.specs.Theories.{procedure_of, theory_of};
+ghost use Rattle.triple_rules.specs.Callees.{AreReady};
+ghost use Rattle.triple_rules.specs.Procedures.{procedures_in};
 ghost use Rattle.hoare_kernel.specs.Refusals.{Refuses};
 ghost use Rattle.hoare_kernel.specs.Walks.{AllSorted, AreNumbered, EachSorted};
 ghost use Rattle.hoare_kernel.specs.Walks.{ProcedureRefused, ProceduresRefused, ProofIsNumbered};
@@ -15,25 +17,26 @@ use crate::refusals::{Accepted, Refusal};
 use crate::steps::check_steps;
 use std::alloc::Global;
 use theory_syntax::{Procedure, Theory};
+use triple_rules::{Callees, first_by_name};
 
 // Whether the procedure, the one with this number, is proved.
 fn check_procedure(
     alloc: Global,
-    theory: &Theory,
+    callees: Callees,
     procedure: &Procedure,
     number: u32,
 ) -> Result<(), Refusal>
-    requires theory { TheoryIsSmall (theory_of theory.now) }
+    requires callees { AreReady callees }
     requires small { ProcedureIsSmall (procedure_of procedure.now) }
     requires numbered { ProofIsNumbered procedure.now }
     requires few { length procedure.now.proof < 4294967295 }
     requires sorted { AllSorted procedure.now.proof }
-    ensures fine { OnOk result (IsProved (procedures_of (theory_of theory.now))
+    ensures fine { OnOk result (IsProved (procedures_in callees.entry.procedures.now)
         (nameless_procedure (procedure_of procedure.now))) }
-    ensures bad { IfErr result (ProcedureRefused (procedures_of (theory_of theory.now)) number
-        (nameless_procedure (procedure_of procedure.now))) }
+    ensures bad { IfErr result (ProcedureRefused (procedures_in callees.entry.procedures.now)
+        number (nameless_procedure (procedure_of procedure.now))) }
 {
-    check_steps(alloc, theory, number, procedure.proof.as_slice())?;
+    check_steps(alloc, callees, number, procedure.proof.as_slice())?;
     if ends_well(alloc, procedure)? {
         Ok(())
     } else {
@@ -42,18 +45,21 @@ fn check_procedure(
 }
 
 // Whether each procedure is proved.
-fn check_procedures(alloc: Global, theory: &Theory) -> Result<(), Refusal>
-    requires small { TheoryIsSmall (theory_of theory.now) }
-    requires numbered { AreNumbered theory.now.procedures }
-    requires sorted { EachSorted theory.now.procedures }
-    ensures fine { OnOk result (IsAccepted (theory_of theory.now)) }
-    ensures bad { IfErr result (ProceduresRefused (procedures_of (theory_of theory.now))
-        (procedures_of (theory_of theory.now)) 1) }
+fn check_procedures(alloc: Global, callees: Callees) -> Result<(), Refusal>
+    requires callees { AreReady callees }
+    requires few { length callees.procedures.now
+        + step_count (map procedure_of callees.procedures.now) < 4294967295 }
+    requires numbered { AreNumbered callees.procedures.now }
+    requires sorted { EachSorted callees.procedures.now }
+    ensures fine { OnOk result (Each (IsProved (procedures_in callees.entry.procedures.now))
+        (procedures_in callees.entry.procedures.now)) }
+    ensures bad { IfErr result (ProceduresRefused (procedures_in callees.entry.procedures.now)
+        (procedures_in callees.entry.procedures.now) 1) }
 {
     let mut number = 0;
-    for procedure in theory.procedures.as_slice() {
+    for procedure in callees.procedures {
         number += 1;
-        check_procedure(alloc, theory, procedure, number)?;
+        check_procedure(alloc, callees, procedure, number)?;
     }
     Ok(())
 }
@@ -83,8 +89,13 @@ pub fn check_theory(alloc: Global, theory: &Theory) -> Result<Accepted, Refusal>
         × (counts.steps ≡ step_count (theory_of theory.now).procedures)) }
     ensures refused { IfErr result (Refuses theory.now) }
 {
-    check_procedures(alloc, theory)?;
     let procedures = theory.procedures.as_slice();
+    let names = first_by_name(alloc, procedures)?;
+    let callees = Callees {
+        procedures,
+        names: Some(&names),
+    };
+    check_procedures(alloc, callees)?;
     let steps = count_steps(procedures);
     let procedures = procedures.len() as u32;
     Ok(Accepted { procedures, steps })

@@ -1,11 +1,10 @@
 // The verdicts on triples, by the names of rules.
-ghost use Rattle.std.specs.Prelude.{[], ◌∷◌, IfOk, map};
-ghost use Rattle.model_files.specs.Sizes.{ProceduresAreSmall};
+ghost use Rattle.std.specs.Prelude.{[], ◌∷◌, IfOk};
 ghost use Rattle.rule_table.specs.Rules as rules;
 ghost use Rattle.rule_table.specs.Table.{table, triples};
 ghost use Rattle.rule_table.specs.Verdicts.{IsVerdict, readings_in};
 ghost use Rattle.row_patterns.specs.Verdicts.{verdict_in};
-ghost use Rattle.theory_syntax.specs.Theories.{procedure_of};
+ghost use Rattle.triple_rules.specs.Callees.{AreReady};
 ghost use Rattle.triple_rules.specs.Procedures.{procedures_in};
 ghost use Rattle.triple_rules.specs.Written.{IsReady, written_in};
 ghost use Rattle.hoare_kernel.specs.Names.{name_of};
@@ -17,8 +16,7 @@ use dom_syntax::modified;
 use dom_terms::{OutOfMemory, Verdict};
 use rule_rows::rule_of;
 use std::alloc::Global;
-use theory_syntax::Procedure;
-use triple_rules::Written;
+use triple_rules::{Callees, Written};
 
 // The verdict of frame.
 fn frame(alloc: Global, written: &Written) -> Result<Verdict, OutOfMemory>
@@ -35,12 +33,12 @@ fn verdict_of(
     alloc: Global,
     rule: TripleRule,
     written: &Written,
-    procedures: &[Procedure],
+    callees: Callees,
 ) -> Result<Verdict, OutOfMemory>
     requires written { IsReady written.now }
-    requires procedures { ProceduresAreSmall (map procedure_of procedures.now) }
+    requires callees { AreReady callees }
     ensures { IfOk result (λ v. IsVerdict
-        (readings_in (triples (procedures_in procedures.now)) (name_of rule))
+        (readings_in (triples (procedures_in callees.entry.procedures.now)) (name_of rule))
         (written_in written.now) (verdict_in v)) }
 {
     match rule {
@@ -50,7 +48,7 @@ fn verdict_of(
         TripleRule::If => Ok(triple_rules::if_else(alloc, written)),
         TripleRule::While => Ok(triple_rules::while_do(alloc, written)),
         TripleRule::Local => Ok(triple_rules::local(alloc, written)),
-        TripleRule::Call => triple_rules::call(alloc, written, procedures),
+        TripleRule::Call => triple_rules::call(alloc, written, callees),
         TripleRule::Frame => frame(alloc, written),
         TripleRule::Consequence => Ok(triple_rules::consequence(alloc, written)),
         TripleRule::Eliminate => letters::eliminate(alloc, written),
@@ -65,16 +63,16 @@ fn verdict_named(
     alloc: Global,
     name: &str,
     written: &Written,
-    procedures: &[Procedure],
+    callees: Callees,
 ) -> Result<Verdict, OutOfMemory>
     requires written { IsReady written.now }
-    requires procedures { ProceduresAreSmall (map procedure_of procedures.now) }
+    requires callees { AreReady callees }
     ensures { IfOk result (λ v. IsVerdict
-        (readings_in (triples (procedures_in procedures.now)) name.now)
+        (readings_in (triples (procedures_in callees.entry.procedures.now)) name.now)
         (written_in written.now) (verdict_in v)) }
 {
     match triple_rule_of(name) {
-        Some(rule) => verdict_of(alloc, rule, written, procedures),
+        Some(rule) => verdict_of(alloc, rule, written, callees),
         None => Ok(axiom_by(name, written)),
     }
 }
@@ -85,17 +83,17 @@ pub fn triple_by(
     alloc: Global,
     name: &str,
     written: &Written,
-    procedures: &[Procedure],
+    callees: Callees,
 ) -> Result<Verdict, OutOfMemory>
     requires written { IsReady written.now }
-    requires procedures { ProceduresAreSmall (map procedure_of procedures.now) }
+    requires callees { AreReady callees }
     ensures { IfOk result (λ v. IsVerdict
-        (readings_in (table (procedures_in procedures.now)) name.now)
+        (readings_in (table (procedures_in callees.entry.procedures.now)) name.now)
         (written_in written.now) (verdict_in v)) }
 {
     if rule_of(name).is_some() {
         Ok(Verdict::Shape)
     } else {
-        verdict_named(alloc, name, written, procedures)
+        verdict_named(alloc, name, written, callees)
     }
 }

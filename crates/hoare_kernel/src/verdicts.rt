@@ -9,29 +9,31 @@ ghost use Rattle.theory_syntax.specs.Judgements.{judgement_of, reason_of};
 ghost use Rattle.theory_syntax.specs.Theories.{theory_of};
 ghost use Rattle.row_patterns.specs.Verdicts.{verdict_in};
 ghost use Rattle.cited_steps.specs.Earlier.{AreCitable, steps_in};
+ghost use Rattle.triple_rules.specs.Callees.{AreReady};
+ghost use Rattle.triple_rules.specs.Procedures.{procedures_in};
 
 use crate::entailments::entailment_named;
 use crate::triples::triple_by;
 use dom_terms::{Numbers, OutOfMemory, Terms, Text, Verdict};
 use std::alloc::Global;
 use theory_syntax::{Judgement, Reason, Step, Theory};
-use triple_rules::Written;
+use triple_rules::{Callees, Written};
 
 // The verdict on the judgement by the rule of that name, over the steps before it.
 fn verdict_by(
     alloc: Global,
-    theory: &Theory,
+    callees: Callees,
     earlier: &[Step],
     name: &Text,
     citations: &Numbers,
     arguments: &Terms,
     judgement: &Judgement,
 ) -> Result<Verdict, OutOfMemory>
-    requires theory { TheoryIsSmall (theory_of theory.now) }
+    requires callees { AreReady callees }
     requires earlier { AreCitable earlier.now }
     requires small { JudgementIsSmall (judgement_of judgement.now) }
     requires sorted { judgement_sorted (judgement_of judgement.now) ≡ true }
-    ensures { IfOk result (λ v. VerdictBy (procedures_of (theory_of theory.now))
+    ensures { IfOk result (λ v. VerdictBy (procedures_in callees.entry.procedures.now)
         (by_rule name.now citations.now (map term_of arguments.now)) (steps_in earlier.now)
         (nameless_judgement (judgement_of judgement.now)) (verdict_in v)) }
 {
@@ -49,7 +51,44 @@ fn verdict_by(
                 arguments,
                 triple,
             };
-            triple_by(alloc, name, &written, theory.procedures.as_slice())
+            triple_by(alloc, name, &written, callees)
+        }
+    }
+}
+
+/// The verdict on the step, which is no gap, over the steps before it, in a theory with these
+/// procedures.
+pub(crate) fn step_verdict(
+    alloc: Global,
+    callees: Callees,
+    earlier: &[Step],
+    step: &Step,
+) -> Result<Verdict, OutOfMemory>
+    requires callees { AreReady callees }
+    requires earlier { AreCitable earlier.now }
+    requires small { JudgementIsSmall (judgement_of step.now.judgement) }
+    requires sorted { judgement_sorted (judgement_of step.now.judgement) ≡ true }
+    requires reason { reason_of step.now.reason ≡ auto → ⊥ }
+    ensures { IfOk result (λ v. VerdictBy (procedures_in callees.entry.procedures.now)
+        (reason_of step.now.reason) (steps_in earlier.now)
+        (nameless_judgement (judgement_of step.now.judgement)) (verdict_in v)) }
+{
+    match &step.reason {
+        Reason::Auto => unreachable!(),
+        Reason::Rule {
+            name,
+            premises,
+            arguments,
+        } => {
+            verdict_by(
+                alloc,
+                callees,
+                earlier,
+                name,
+                premises,
+                arguments,
+                &step.judgement,
+            )
         }
     }
 }
@@ -71,22 +110,9 @@ pub fn check_step(
         (reason_of step.now.reason) (steps_in earlier.now)
         (nameless_judgement (judgement_of step.now.judgement)) (verdict_in v)) }
 {
-    match &step.reason {
-        Reason::Auto => unreachable!(),
-        Reason::Rule {
-            name,
-            premises,
-            arguments,
-        } => {
-            verdict_by(
-                alloc,
-                theory,
-                earlier,
-                name,
-                premises,
-                arguments,
-                &step.judgement,
-            )
-        }
-    }
+    let callees = Callees {
+        procedures: theory.procedures.as_slice(),
+        names: None,
+    };
+    step_verdict(alloc, callees, earlier, step)
 }

@@ -9,6 +9,7 @@ pub mod WrittenProgVars
 pub mod FrameVerdicts
 pub mod BlockVerdicts
 pub mod Passing
+pub mod Naming
 pub mod CallVerdicts
 pub mod OnWritten
 pub mod Covering

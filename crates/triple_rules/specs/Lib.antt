@@ -8,5 +8,6 @@ pub mod FrameTests
 pub mod BlockTests
 pub mod CallTests
 pub mod Procedures
+pub mod Callees
 pub mod Covered
 pub mod InstanceTests

@@ -1,10 +1,10 @@
 // The rule for calls.
-ghost use Rattle.std.specs.Prelude.{◌≡◌, ◌++◌, IfOk, MatchOption, Some, None, map};
-ghost use Rattle.model_files.specs.Sizes.{IsSmall, JudgementIsSmall, ProcedureIsSmall, ProceduresAreSmall};
+ghost use Rattle.std.specs.Prelude.{◌≡◌, ◌++◌, IfOk, map};
+ghost use Rattle.model_files.specs.Sizes.{IsSmall, JudgementIsSmall, ProcedureIsSmall};
 ghost use Rattle.model_formulas.specs.Nameless.{nameless};
 ghost use Rattle.model_formulas.specs.SameFormulas.{same_formula};
 ghost use Rattle.model_formulas.specs.Substitution.{formula_with};
-ghost use Rattle.model_commands.specs.Theories.{nameless_procedure, procedure_named};
+ghost use Rattle.model_commands.specs.Theories.{nameless_procedure};
 ghost use Rattle.rule_table.specs.Notation.{prog_term};
 ghost use Rattle.rule_table.specs.Rules.{itself, passing};
 ghost use Rattle.row_patterns.specs.Verdicts.{verdict_in};
@@ -13,37 +13,20 @@ ghost use Rattle.dom_terms.specs.Terms.{prog_var_of, term_of};
 ghost use Rattle.formula_syntax.specs.Formulas.{formula_of, pair_of};
 ghost use Rattle.theory_syntax.specs.Judgements.{triple_of};
 ghost use Rattle.theory_syntax.specs.Theories.{procedure_of};
+ghost use Rattle.triple_rules.specs.Callees.{AreReady};
 ghost use Rattle.triple_rules.specs.CallTests as test;
 ghost use Rattle.triple_rules.specs.Procedures.{procedures_in};
 ghost use Rattle.triple_rules.specs.Tested.{tested};
 ghost use Rattle.triple_rules.specs.Written.{IsReady};
 
+use crate::callees::Callees;
 use crate::same::{is_nothing, is_put};
 use crate::simple::{cites_nothing, staged};
 use crate::written::Written;
-use dom_terms::{
-    Copied, List, OutOfMemory, ProgVar, Term, Text, Verdict, same_data_sort, same_text,
-};
+use dom_terms::{Copied, List, OutOfMemory, ProgVar, Term, Verdict, same_data_sort};
 use formula_syntax::{AnyVar, Formula, Pair};
 use std::alloc::Global;
 use theory_syntax::{Command, Procedure, Triple};
-
-// The procedure that the name means.
-fn meant<'a>(name: &Text, procedures: &'a [Procedure]) -> Option<&'a Procedure>
-    requires { ProceduresAreSmall (map procedure_of procedures.now) }
-    ensures { MatchOption result
-        (procedure_named name.now (procedures_in procedures.now) ≡ None)
-        (λ f. (procedure_named name.now (procedures_in procedures.now)
-        ≡ Some (nameless_procedure (procedure_of f.now)))
-        × ProcedureIsSmall (procedure_of f.now)) }
-{
-    for procedure in procedures {
-        if same_text(name, &procedure.name) {
-            return Some(procedure);
-        }
-    }
-    None
-}
 
 // The pairs, and behind them the variables, each with the term at its place.
 fn with_pairs(
@@ -155,18 +138,19 @@ fn is_met(
 pub(crate) fn call(
     alloc: Global,
     written: &Written,
-    procedures: &[Procedure],
+    callees: Callees,
 ) -> Result<Verdict, OutOfMemory>
     requires written { IsReady written.now }
-    requires procedures { ProceduresAreSmall (map procedure_of procedures.now) }
+    requires callees { AreReady callees }
     ensures { IfOk result (λ v. verdict_in v ≡ tested (λ arguments are_cited.
-        test.call_test arguments are_cited (procedures_in procedures.now)) written.now) }
+        test.call_test arguments are_cited (procedures_in callees.entry.procedures.now))
+        written.now) }
 {
     let triple = written.triple;
     let Command::Call(results, name, arguments) = &triple.command else {
         return Ok(Verdict::Shape);
     };
-    let Some(procedure) = meant(name, procedures) else {
+    let Some(procedure) = callees.meant(name) else {
         return Ok(Verdict::Shape);
     };
     let met = is_met(

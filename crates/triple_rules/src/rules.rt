@@ -1,23 +1,22 @@
 // The verdicts of the rules for triples on what is written at a step.
 ghost use Rattle.std.specs.Prelude.{◌≡◌, [], ◌∷◌, map, codes, IfOk};
 ghost use Rattle.model_commands.specs.Theories.{Procedures};
-ghost use Rattle.model_files.specs.Sizes.{ProceduresAreSmall};
 ghost use Rattle.rule_table.specs.Rules as rules;
 ghost use Rattle.rule_table.specs.Table.{table};
 ghost use Rattle.rule_table.specs.Verdicts.{IsVerdict, readings_in};
 ghost use Rattle.row_patterns.specs.Verdicts.{verdict_in};
 ghost use Rattle.dom_terms.specs.Terms.{prog_var_of};
 ghost use Rattle.theory_syntax.specs.Commands.{command_of};
-ghost use Rattle.theory_syntax.specs.Theories.{procedure_of};
+ghost use Rattle.triple_rules.specs.Callees.{AreReady};
 ghost use Rattle.triple_rules.specs.Changed.{AreChanged};
 ghost use Rattle.triple_rules.specs.Procedures.{procedures_in};
 ghost use Rattle.triple_rules.specs.Written.{IsReady, written_in};
 
+use crate::callees::Callees;
 use crate::written::Written;
 use crate::{assignments, blocks, calls, framing, instancing, locals, sequences, simple};
 use dom_terms::{OutOfMemory, ProgVar, Verdict};
 use std::alloc::Global;
-use theory_syntax::Procedure;
 
 /// The rows of the rules, by the names that steps give.
 pub fn the_rows_are_those_of_the_table()
@@ -134,18 +133,14 @@ pub fn frame(alloc: Global, written: &Written, changed: &[ProgVar]) -> Verdict
 
 /// The verdict of call, in a theory with these procedures. OutOfMemory comes only where memory is
 /// refused.
-pub fn call(
-    alloc: Global,
-    written: &Written,
-    procedures: &[Procedure],
-) -> Result<Verdict, OutOfMemory>
+pub fn call(alloc: Global, written: &Written, callees: Callees) -> Result<Verdict, OutOfMemory>
     requires written { IsReady written.now }
-    requires procedures { ProceduresAreSmall (map procedure_of procedures.now) }
+    requires callees { AreReady callees }
     ensures { IfOk result (λ v. IsVerdict
-        ((λ letters. rules.call_rule letters (procedures_in procedures.now)) ∷ [])
+        ((λ letters. rules.call_rule letters (procedures_in callees.entry.procedures.now)) ∷ [])
         (written_in written.now) (verdict_in v)) }
 {
-    calls::call(alloc, written, procedures)
+    calls::call(alloc, written, callees)
 }
 
 /// The verdict of instance, from the program variables that the command changes. OutOfMemory comes

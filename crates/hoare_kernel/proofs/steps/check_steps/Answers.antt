@@ -1,14 +1,13 @@
 -- A step that is an instance, and the first that is none.
 use Rattle.std.proofs.Common.{◌≡◌, ◌+◌, sym, refl, ap, subst, arith, true, take, length}
 use Rattle.std.proofs.lemmas.List.{length-take-le}
-use Rattle.model_commands.specs.Theories.{procedures_of}
 use Rattle.model_files.specs.FileFaults.{judgement_sorted}
 use Rattle.model_files.specs.Sizes.{JudgementIsSmall}
 use Rattle.theory_syntax.specs.declared.steps.Step.{Step}
 use Rattle.theory_syntax.specs.Judgements.{judgement_of}
-use Rattle.theory_syntax.specs.Theories.{theory_of}
 use Rattle.cited_steps.specs.Earlier.{steps_in}
 use Rattle.cited_steps.proofs.Numbers.{citable_before}
+use Rattle.triple_rules.specs.Procedures.{procedures_in}
 use Rattle.hoare_kernel.specs.Walks.{StepsRefused}
 use Rattle.hoare_kernel.proofs.Walks.{handed_out, passed_step, refused_step, small_at, sorted_at}
 use Rattle.hoare_kernel.proofs.steps.check_steps.Goals as goal
@@ -32,7 +31,7 @@ stands-requires-clause-sorted c =
 
 pub returns-in_err-stands-clause-bad : goal.returns-in_err-stands-clause-bad
 returns-in_err-stands-clause-bad c =
-    let ps = procedures_of (theory_of c.args.theory.now) in
+    let ps = procedures_in c.args.callees.procedures.now in
     handed_out (StepsRefused ps c.args.procedure (steps_in c.args.steps.now))
     c.from_residual.result c.in_err-stands.field-0.0 c.from_residual.ensures.1
     (refused_step ps c.args.steps.now (take c.loop-place.place c.args.steps.now)
@@ -45,7 +44,7 @@ returns-in_err-stands-clause-bad c =
 
 pub loop-place-preserved : goal.loop-place-preserved
 loop-place-preserved c =
-    passed_step (procedures_of (theory_of c.args.theory.now)) c.args.steps.now
+    passed_step (procedures_in c.args.callees.procedures.now) c.args.steps.now
     (take c.loop-place.place c.args.steps.now)
     c.index-steps-place.result c.index-steps-place.result c.loop-place.place
     (omega (arith, c.loop-place-test.true)) refl c.index-steps-place.is

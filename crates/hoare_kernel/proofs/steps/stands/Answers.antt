@@ -1,24 +1,24 @@
 -- What the verdict on a step tells.
 use Rattle.std.proofs.Common.{◌+◌, length}
 use Rattle.std.proofs.lemmas.Result.{on_ok_weaker, IfErr-weaker}
-use Rattle.model_commands.specs.Theories.{nameless_judgement, procedures_of}
+use Rattle.model_commands.specs.Theories.{nameless_judgement}
 use Rattle.theory_syntax.specs.Judgements.{judgement_of, reason_of}
-use Rattle.theory_syntax.specs.Theories.{theory_of}
 use Rattle.cited_steps.specs.Earlier.{steps_in}
+use Rattle.triple_rules.specs.Procedures.{procedures_in}
 use Rattle.hoare_kernel.proofs.Walks.{instance_by, refused_by}
 use Rattle.hoare_kernel.proofs.steps.stands.Goals as goal
 
 pub returns-in_ok-verdict-in-Rule-clause-fine : goal.returns-in_ok-verdict-in-Rule-clause-fine
 returns-in_ok-verdict-in-Rule-clause-fine c =
     on_ok_weaker c.judged.result
-    (instance_by (procedures_of (theory_of c.args.theory.now)) (reason_of c.args.step.now.reason)
+    (instance_by (procedures_in c.args.callees.procedures.now) (reason_of c.args.step.now.reason)
     (steps_in c.args.earlier.now) (nameless_judgement (judgement_of c.args.step.now.judgement))
     c.in_ok-verdict-in-Rule.verdict c.in_ok-verdict-in-Rule.ensures) c.judged.ensures.fine
 
 pub returns-in_ok-verdict-in-Rule-clause-bad : goal.returns-in_ok-verdict-in-Rule-clause-bad
 returns-in_ok-verdict-in-Rule-clause-bad c =
     IfErr-weaker c.judged.result _ _
-    (λ e h. refused_by (procedures_of (theory_of c.args.theory.now))
+    (λ e h. refused_by (procedures_in c.args.callees.procedures.now)
     (reason_of c.args.step.now.reason) (steps_in c.args.earlier.now)
     (nameless_judgement (judgement_of c.args.step.now.judgement)) c.in_ok-verdict-in-Rule.verdict
     c.in_ok-verdict-in-Rule.ensures c.args.procedure (length c.args.earlier.now + 1) e h.0 h.1)

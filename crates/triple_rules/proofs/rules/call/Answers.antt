@@ -7,5 +7,5 @@ use Rattle.triple_rules.proofs.rules.call.Goals as goal
 pub returns : goal.returns
 returns c =
     IfOk-weaker c.call.result _ _
-    (λ v. call-on c.args.written.now (verdict_in v) (procedures_in c.args.procedures.now))
+    (λ v. call-on c.args.written.now (verdict_in v) (procedures_in c.args.callees.procedures.now))
     c.call.ensures

@@ -3,7 +3,7 @@ use Rattle.model_commands.specs.Theories.{procedure_named}
 use Rattle.model_files.specs.Sizes.{ProceduresAreSmall}
 use Rattle.theory_syntax.specs.Theories.{procedure_of}
 use Rattle.triple_rules.specs.Procedures.{procedures_in}
-use Rattle.triple_rules.proofs.calls.meant.Given as goal
+use Rattle.triple_rules.proofs.callees.find_named.Given as goal
 
 abbrev pub invariant-loop-procedure : goal.invariant-loop-procedure
 invariant-loop-procedure l = record {
