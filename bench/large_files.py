@@ -23,6 +23,8 @@ that it can see. With --write the files are written, and nothing is measured.
     levels       mono rules through 44 levels of nodes
     binders      40 quantifiers brought in with written arguments and taken out again
     generated    the theory that `make N` prints: 226 procedures in 0.25 MB, 3,560 in 4 MB
+    calls        procedures of which each calls the last one
+    letters      rules for quantifiers over a formula of thousands of logic variables
 
 Each file is accepted.
 """
@@ -386,6 +388,46 @@ def generated(room):
     return filled(room, GENERATED_HEAD, procedure_text)
 
 
+def calling(number):
+    """A procedure that calls the last one, with its proof."""
+    call = "call () := last()"
+    head = f"proc p{number}() returns () sort g\nrequires true\nensures true\n"
+    proof = f"proof\nstep 1 by call(): pre true do {call} post true at g;\nend\n"
+    return f"{head}body {call}\n{proof}"
+
+
+def calls(room):
+    """Procedures that call the one behind all of them."""
+    triple = "pre true do skip post true at g"
+    head = "proc last() returns () sort g\nrequires true\nensures true\n"
+    last = f"{head}body skip\nproof\nstep 1 by skip(): {triple};\nend\n"
+    return filled(room, HEAD, calling, last)
+
+
+def equalities(names):
+    """The conjunction, by halves, that each of the variables is itself."""
+    if len(names) == 1:
+        return f"{names[0]} = {names[0]}"
+    half = len(names) // 2
+    return f"({equalities(names[:half])} and {equalities(names[half:])})"
+
+
+def letters(room):
+    """Rules for quantifiers whose formulas have a logic variable of its own in each part."""
+    variables = [f"$v{number}" for number in range(room // 170)]
+    whole = equalities(variables)
+    steps = [
+        f"id(): {whole} entails {whole} at g",
+        f"exists_out(1): (exists $z . {whole}) entails {whole} at g",
+        f"exists_in() with ($z): {whole} entails (exists $z . {whole}) at g",
+        "skip(): pre 0g do skip post 0g at g",
+    ]
+    text = f"{HEAD}logic int {', '.join(variables)}, $z;\n"
+    text += "proc main() returns () sort g\nrequires 0g ensures 0g\nbody skip\nproof\n"
+    text += "".join(f"step {k + 1} by {step};\n" for k, step in enumerate(steps))
+    return f"{text}end\n"
+
+
 SHAPES = {
     "assignments": assignments,
     "citations": citations,
@@ -400,8 +442,9 @@ SHAPES = {
     "levels": levels,
     "binders": binders,
     "generated": generated,
+    "calls": calls,
+    "letters": letters,
 }
-
 
 
 def run(words, file, statuses):

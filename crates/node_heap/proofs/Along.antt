@@ -92,7 +92,7 @@ module _ (s : Slab Record) (nodes lists : List Pair) (g : Trees) (l : Linking s 
 
   pub at_key : (list place key : ℕ) (current : Option ℕ) → Along s nodes g list place current
       → current ≡ Some key → Stop s nodes g list place key
-  at_key list place key current w c = go w.rest w.whole (sym w.at ∙ c)
+  at_key list place key current w c = by_rest w.rest w.whole (sym w.at ∙ c)
     where
       up_some : (o : Option Entry) (p : ℕ) → parent_of o ≡ Some p → IsSome o
       up_some None p h = absurd (cc)
@@ -105,10 +105,10 @@ module _ (s : Slab Record) (nodes lists : List Pair) (g : Trees) (l : Linking s 
       found_in x (Some e) h i p k = let f = found_at s nodes lists g l x key e h k in
           (f, sym (ap parent_of f.is) ∙ p)
 
-      go : (rest : List ℕ) → w.entry.kids ≡ w.passed ++ rest
+      by_rest : (rest : List ℕ) → w.entry.kids ≡ w.passed ++ rest
           → option_map (key_in nodes) (head_of rest) ≡ Some key → Stop s nodes g list place key
-      go [] whole h = absurd (cc)
-      go (x ∷ rest) whole h =
+      by_rest [] whole h = absurd (cc)
+      by_rest (x ∷ rest) whole h =
           let kin = Kin-rows_of g l.once in
           let kids : kids_of (rows_of g w.owner) ≡ w.passed ++ x ∷ rest = ap kids_of w.is ∙ whole in
           let parts = ap (count x) kids ∙ count-append x w.passed (x ∷ rest) in
@@ -150,10 +150,10 @@ module _ (s : Slab Record) (nodes lists : List Pair) (g : Trees) (l : Linking s 
       → slice_get e.kids more ≡ None
   at_end list place more current w c h n e is same =
       let one : e ≡ w.entry = one_owner n w.owner e w.entry is w.is (same ∙ sym w.list_is) in
-      ap (λ (e : Entry). slice_get e.kids more) one ∙ go w.rest w.whole (sym w.at ∙ c)
+      ap (λ (e : Entry). slice_get e.kids more) one ∙ by_rest w.rest w.whole (sym w.at ∙ c)
     where
-      go : (rest : List ℕ) → w.entry.kids ≡ w.passed ++ rest
+      by_rest : (rest : List ℕ) → w.entry.kids ≡ w.passed ++ rest
           → option_map (key_in nodes) (head_of rest) ≡ None → slice_get w.entry.kids more ≡ None
-      go [] whole z = slice_get_past w.entry.kids more
+      by_rest [] whole z = slice_get_past w.entry.kids more
           (omega (arith, ap length (whole ∙ append-nil w.passed), w.len, h))
-      go (x ∷ rest) whole z = absurd (cc)
+      by_rest (x ∷ rest) whole z = absurd (cc)

@@ -155,7 +155,7 @@ detached_root c rows kin up n = elim (cases_eq n c) [
 pub takes_out : (s s' : Slab Record) (nodes lists : List Pair) (g : Trees) (c k : ℕ)
     → Linking s nodes lists g → (f : Found s nodes g c k) → TakesOut s s' k f.it → slab_len s'
     ≡ slab_len s → Linking s' nodes lists (removed c g)
-takes_out s s' nodes lists g c k l f t len = go f.entry.parent refl
+takes_out s s' nodes lists g c k l f t len = by_parent f.entry.parent refl
   where
     kin : Kin (rows_of g)
     kin = Kin-rows_of g l.once
@@ -167,15 +167,15 @@ takes_out s s' nodes lists g c k l f t len = go f.entry.parent refl
         (λ parent. Becomes s s' (linked f.it.previous parent f.it.next f.it.next f.it.previous k
         None None None))) e t
 
-    go : (q : Option ℕ) → f.entry.parent ≡ q → Linking s' nodes lists (removed c g)
-    go None e =
+    by_parent : (q : Option ℕ) → f.entry.parent ≡ q → Linking s' nodes lists (removed c g)
+    by_parent None e =
         let same : s' ≡ s = at_parent None (f.fits.parent ∙ ap (option_map (key_in nodes)) e) in
         let root : parent_of (rows_of g c) ≡ None = ap parent_of f.is ∙ e in
         rw same (linked_same s nodes lists g (removed c g) (removed_once c g l.once)
         (removed_holes c g l.whole) (removed_size c g (l.once c))
         (λ n. rows-removed c g l.once n ∙ detached_root c (rows_of g) kin root n)
         (removed_well c g (l.once c) l.whole l.well_formed) l)
-    go (Some p) e =
+    by_parent (Some p) e =
         let up : parent_of (rows_of g c) ≡ Some p = ap parent_of f.is ∙ e in
         let w = split c (kids_of (rows_of g p)) (kin.down p c up) in
         let m = detach_moved (rows_of g) p c kin up (not_own g p c l.once up) w in
@@ -219,11 +219,12 @@ attached_along f p c a b n e = ap (λ o. cond (eqb n c) (option_map (below (Some
 
 end_kids : (f : List ℕ → List ℕ) (p c : ℕ) (rows : Rows) → p ≢ c → IsSome (rows p)
     → kids_of (attached_by f p c rows p) ≡ f (kids_of (rows p))
-end_kids f p c rows d h = rw (test_no p c d, test_yes p p refl) (go (rows p) h)
+end_kids f p c rows d h = rw (test_no p c d, test_yes p p refl) (by_entry (rows p) h)
   where
-    go : (o : Option Entry) → IsSome o → kids_of (option_map (kids_by true f) o) ≡ f (kids_of o)
-    go None h = absurd (cc)
-    go (Some e) h = refl
+    by_entry : (o : Option Entry) → IsSome o
+        → kids_of (option_map (kids_by true f) o) ≡ f (kids_of o)
+    by_entry None h = absurd (cc)
+    by_entry (Some e) h = refl
 
 -- AFTER AN APPEND, whose first part took the tree out
 pub puts_last : (s s' : Slab Record) (nodes lists : List Pair) (g : Trees) (p c pk ck : ℕ)

@@ -60,11 +60,11 @@ module _ (s s' : Slab Record) (nodes lists : List Pair) (g : Trees) (l : Linking
     (other_list : (m : ℕ) (e : Entry) → rows_of g m ≡ Some e → e.list ≢ a) (vacant : get s k ≡ None)
     (updates : Updates s s' k (Some r)) where
   there : (m : ℕ) → IsSome (rows_of g m) → m ≢ n
-  there m h e = go (rows_of g m) refl h
+  there m h e = by_entry (rows_of g m) refl h
     where
-      go : (o : Option Entry) → rows_of g m ≡ o → IsSome o → ⊥
-      go None x i = cc
-      go (Some w) x i = let z : rows_of g m ≡ None = entry_absent None g m
+      by_entry : (o : Option Entry) → rows_of g m ≡ o → IsSome o → ⊥
+      by_entry None x i = cc
+      by_entry (Some w) x i = let z : rows_of g m ≡ None = entry_absent None g m
           (subst (λ m. uses m g ≡ 0) (sym e) fresh) in cc
 
   rows_old : (m : ℕ) → m ≢ n → rows_of (created t n a g) m ≡ rows_of g m
@@ -95,11 +95,11 @@ module _ (s s' : Slab Record) (nodes lists : List Pair) (g : Trees) (l : Linking
   ) refl
 
   key_apart : (m : ℕ) → IsSome (rows_of g m) → key_in nodes m ≢ k
-  key_apart m h e = go (rows_of g m) refl h
+  key_apart m h e = by_entry (rows_of g m) refl h
     where
-      go : (o : Option Entry) → rows_of g m ≡ o → IsSome o → ⊥
-      go None x i = cc
-      go (Some w) x i =
+      by_entry : (o : Option Entry) → rows_of g m ≡ o → IsSome o → ⊥
+      by_entry None x i = cc
+      by_entry (Some w) x i =
           let f = found_at s nodes lists g l m k w x (sym e) in
           let z : Some f.it ≡ None = sym f.at ∙ vacant in
           cc
@@ -199,11 +199,11 @@ module _ (s s' : Slab Record) (nodes lists : List Pair) (g : Trees) (l : Linking
   was m d h = subst IsSome (rows_old m d) h
 
   no_list : lookup a lists ≡ None
-  no_list = none_of (lookup a lists) (λ h. go (lookup a lists) refl h)
+  no_list = none_of (lookup a lists) (λ h. by_place (lookup a lists) refl h)
     where
-      go : (o : Option ℕ) → lookup a lists ≡ o → IsSome o → ⊥
-      go None e h = cc
-      go (Some x) e h = let w = l.listed_only a x e in other_list w.0 w.1 w.2 w.3
+      by_place : (o : Option ℕ) → lookup a lists ≡ o → IsSome o → ⊥
+      by_place None e h = cc
+      by_place (Some x) e h = let w = l.listed_only a x e in other_list w.0 w.1 w.2 w.3
 
   keys_apart : (m p : ℕ) → IsSome (rows_of (created t n a g) m)
       → IsSome (rows_of (created t n a g) p) → key_in (nodes ++ record { number = n; key = k } ∷ [])
@@ -371,10 +371,10 @@ linked_created s s' nodes lists g l n a k t r above above_list vacant updates we
     ]
 
     below_list : (m : ℕ) → IsSome (lookup m lists) → m < a
-    below_list m h = go (lookup m lists) refl h
+    below_list m h = by_place (lookup m lists) refl h
       where
-        go : (o : Option ℕ) → lookup m lists ≡ o → IsSome o → m < a
-        go None e h = absurd (cc)
-        go (Some x) e h =
+        by_place : (o : Option ℕ) → lookup m lists ≡ o → IsSome o → m < a
+        by_place None e h = absurd (cc)
+        by_place (Some x) e h =
             let w = l.links.listed_only m x e in
             omega (arith, above_list w.0 w.1 w.2, w.3)

@@ -82,14 +82,14 @@ module _ (s : Slab Record) (nodes lists : List Pair) (g : Trees) (l : Linked s n
       ] in
       let down : greatest_of lists ≤ greatest_list g = elim (greatest_there lists) [
         | inl z ↦ omega (arith, z)
-        | inr h ↦ go (lookup (greatest_of lists) lists) refl h
+        | inr h ↦ by_place (lookup (greatest_of lists) lists) refl h
       ] in
       omega (arith, up, down)
     where
-      go : (o : Option ℕ) → lookup (greatest_of lists) lists ≡ o → IsSome o
+      by_place : (o : Option ℕ) → lookup (greatest_of lists) lists ≡ o → IsSome o
           → greatest_of lists ≤ greatest_list g
-      go None e h = absurd (cc)
-      go (Some x) e h = let w = l.links.listed_only (greatest_of lists) x e in
+      by_place None e h = absurd (cc)
+      by_place (Some x) e h = let w = l.links.listed_only (greatest_of lists) x e in
           omega (arith, list_bound None g w.0 w.1 w.2, w.3)
 
 -- room changes no record
@@ -98,25 +98,26 @@ read_room : (s : Slab Record) (c f : ℕ) (k : Option ℕ) → read f (record s 
 unfolding read
 read_room s c zero k = refl
 read_room s c (suc f) None = refl
-read_room s c (suc f) (Some k) = go (get s k)
+read_room s c (suc f) (Some k) = by_record (get s k)
     (λ o. read_room s c f o)
   where
-    go : (o : Option Record) → ((o : Option ℕ) → read f (record s { capacity = c }) o ≡ read f s o)
+    by_record : (o : Option Record)
+        → ((o : Option ℕ) → read f (record s { capacity = c }) o ≡ read f s o)
         → on_record o (λ r. node r.name r.number (read f (record s { capacity = c }) r.first) r.list
         (read f (record s { capacity = c }) r.next)) ≡ on_record o
         (λ r. node r.name r.number (read f s r.first) r.list (read f s r.next))
-    go None h = refl
-    go (Some r) h = rw (h r.first, h r.next) refl
+    by_record None h = refl
+    by_record (Some r) h = rw (h r.first, h r.next) refl
 
 root_room : (s : Slab Record) (c f k : ℕ) → root_of f (record s { capacity = c }) k ≡ root_of f s k
 unfolding root_of
-root_room s c f k = go (get s k)
+root_room s c f k = by_record (get s k)
   where
-    go : (o : Option Record) → on_record o (λ r. if_root r.parent
+    by_record : (o : Option Record) → on_record o (λ r. if_root r.parent
         (node r.name r.number (read f (record s { capacity = c }) r.first) r.list none))
         ≡ on_record o (λ r. if_root r.parent (node r.name r.number (read f s r.first) r.list none))
-    go None = refl
-    go (Some r) = rw (read_room s c f r.first) refl
+    by_record None = refl
+    by_record (Some r) = rw (read_room s c f r.first) refl
 
 roots_room : (s : Slab Record) (c f : ℕ) (key : ℕ → ℕ) (ns : List ℕ)
     → roots_of f (record s { capacity = c }) key ns ≡ roots_of f s key ns

@@ -35,11 +35,11 @@ found_at s nodes lists g l n k e is key = found_record s nodes g n k e is key (g
 
 pub found : (s : Slab Record) (nodes lists : List Pair) (g : Trees) (l : Linking s nodes lists g)
     (n k : ℕ) → Some k ≡ lookup n nodes → Found s nodes g n k
-found s nodes lists g l n k h = go (rows_of g n) refl
+found s nodes lists g l n k h = by_entry (rows_of g n) refl
   where
-    go : (o : Option Entry) → rows_of g n ≡ o → Found s nodes g n k
-    go None e = absurd (let i = l.indexed n in cc)
-    go (Some e) is = found_at s nodes lists g l n k e is (ap (λ o. unwrap_or o 0) h)
+    by_entry : (o : Option Entry) → rows_of g n ≡ o → Found s nodes g n k
+    by_entry None e = absurd (let i = l.indexed n in cc)
+    by_entry (Some e) is = found_at s nodes lists g l n k e is (ap (λ o. unwrap_or o 0) h)
 
 -- what a key in a record points to
 pub record Points (s : Slab Record) (nodes : List Pair) (g : Trees) (o : Option ℕ) (k : ℕ) : Type
@@ -51,11 +51,11 @@ pub record Points (s : Slab Record) (nodes : List Pair) (g : Trees) (o : Option 
 pub points_parent : (s : Slab Record) (nodes lists : List Pair) (g : Trees)
     (l : Linking s nodes lists g) (n k pk : ℕ) (f : Found s nodes g n k) → f.it.parent ≡ Some pk
     → Points s nodes g f.entry.parent pk
-points_parent s nodes lists g l n k pk f h = go f.entry.parent refl
+points_parent s nodes lists g l n k pk f h = by_parent f.entry.parent refl
   where
-    go : (o : Option ℕ) → f.entry.parent ≡ o → Points s nodes g f.entry.parent pk
-    go None e = absurd (let a = f.fits.parent ∙ ap (option_map (key_in nodes)) e in cc)
-    go (Some p) e =
+    by_parent : (o : Option ℕ) → f.entry.parent ≡ o → Points s nodes g f.entry.parent pk
+    by_parent None e = absurd (let a = f.fits.parent ∙ ap (option_map (key_in nodes)) e in cc)
+    by_parent (Some p) e =
         let a : f.it.parent ≡ Some (key_in nodes p) = f.fits.parent
         ∙ ap (option_map (key_in nodes)) e in
         let kin = Kin-rows_of g l.once in

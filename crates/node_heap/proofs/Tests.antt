@@ -18,13 +18,13 @@ use Rattle.node_heap.proofs.Found.{Found, found_at}
 
 pub before_count : (n x : ℕ) (xs : List ℕ) → before n xs ≡ Some x → 1 ≤ count x xs
 before_count n x [] h = absurd (cc)
-before_count n x (y ∷ ys) h = go (holds (head_of ys) n) refl (before_count n x ys)
+before_count n x (y ∷ ys) h = by_test (holds (head_of ys) n) refl (before_count n x ys)
   where
-    go : (b : Bool) → holds (head_of ys) n ≡ b → (before n ys ≡ Some x → 1 ≤ count x ys)
+    by_test : (b : Bool) → holds (head_of ys) n ≡ b → (before n ys ≡ Some x → 1 ≤ count x ys)
         → 1 ≤ count x (y ∷ ys)
-    go true e k = let w : y ≡ x = let z : Some y ≡ Some x = rw e at h in cc in
+    by_test true e k = let w : y ≡ x = let z : Some y ≡ Some x = rw e at h in cc in
         omega (arith, one_here x y (sym w))
-    go false e k = omega (arith, k (rw e at h))
+    by_test false e k = omega (arith, k (rw e at h))
 
 head_counts : (x : ℕ) (xs : List ℕ) → head_of xs ≡ Some x → 1 ≤ count x xs
 head_counts x [] h = absurd (cc)
@@ -48,11 +48,11 @@ some_of (Some e) p h = refl
 
 module _ (s : Slab Record) (nodes lists : List Pair) (g : Trees) (l : Linking s nodes lists g) where
   pub contained : (x : ℕ) → IsSome (rows_of g x) → ContainsKey s (key_in nodes x)
-  contained x h = go (rows_of g x) refl h
+  contained x h = by_entry (rows_of g x) refl h
     where
-      go : (o : Option Entry) → rows_of g x ≡ o → IsSome o → ContainsKey s (key_in nodes x)
-      go None e h = absurd (cc)
-      go (Some w) e h = subst IsSome (sym (found_at s nodes lists g l x (key_in nodes x) w e
+      by_entry : (o : Option Entry) → rows_of g x ≡ o → IsSome o → ContainsKey s (key_in nodes x)
+      by_entry None e h = absurd (cc)
+      by_entry (Some w) e h = subst IsSome (sym (found_at s nodes lists g l x (key_in nodes x) w e
           refl).at) refl
 
   pointer : (q o : Option ℕ) → q ≡ option_map (key_in nodes) o
@@ -69,11 +69,11 @@ module _ (s : Slab Record) (nodes lists : List Pair) (g : Trees) (l : Linking s 
   in_row (Some p) x h = kid_stands p x h
 
   parent_stands : (n p : ℕ) → parent_of (rows_of g n) ≡ Some p → IsSome (rows_of g p)
-  parent_stands n p h = go (rows_of g p) ((Kin-rows_of g l.once).down p n h)
+  parent_stands n p h = by_entry (rows_of g p) ((Kin-rows_of g l.once).down p n h)
     where
-      go : (o : Option Entry) → 1 ≤ count n (kids_of o) → IsSome o
-      go None h = absurd (omega (arith, h))
-      go (Some e) h = refl
+      by_entry : (o : Option Entry) → 1 ≤ count n (kids_of o) → IsSome o
+      by_entry None h = absurd (omega (arith, h))
+      by_entry (Some e) h = refl
 
   pub neighbours : (n k : ℕ) (f : Found s nodes g n k) (r : Record) → get s k ≡ Some r
       → Neighbours s r

@@ -106,11 +106,11 @@ module _ (s : Slab Record) (nodes lists : List Pair) (g : Trees) (l : Linking s 
       ap (λ o. count x (kids_of o)) (same p h) in
       let u : 1 ≤ uses x (root_at root g) = omega
       (arith, c, b, kids_use None (root_at root g) p x) in
-      (go (rows_of g x) refl (present None g x (omega (arith, u, root_use x root g))), u)
+      (by_entry (rows_of g x) refl (present None g x (omega (arith, u, root_use x root g))), u)
     where
-      go : (o : Option Entry) → rows_of g x ≡ o → is_some o ≡ true → Found s nodes g x k
-      go None z i = absurd (cc)
-      go (Some w) z i = found_at s nodes lists g l x k w z e
+      by_entry : (o : Option Entry) → rows_of g x ≡ o → is_some o ≡ true → Found s nodes g x k
+      by_entry None z i = absurd (cc)
+      by_entry (Some w) z i = found_at s nodes lists g l x k w z e
 
   head_counts : (x : ℕ) (xs : List ℕ) → head_of xs ≡ Some x → 1 ≤ count x xs
   head_counts x [] h = absurd (cc)
@@ -187,7 +187,7 @@ module _ (s : Slab Record) (nodes lists : List Pair) (g : Trees) (l : Linking s 
       let kin = Kin-rows_of (root_at root g) once in
       let c : 1 ≤ count n (kids_of (entry None (root_at root g) p)) =
       kin.down p n (ap parent_of (same n h) ∙ up) in
-      let i : 1 ≤ uses p (root_at root g) = go c in
+      let i : 1 ≤ uses p (root_at root g) = used_below c in
       record {
         has = subst (λ o. 1 ≤ count n (kids_of o)) (same p i) c;
         inside = i;
@@ -195,8 +195,9 @@ module _ (s : Slab Record) (nodes lists : List Pair) (g : Trees) (l : Linking s 
             ap kids_of (same p i);
       }
     where
-      go : 1 ≤ count n (kids_of (entry None (root_at root g) p)) → 1 ≤ uses p (root_at root g)
-      go c = elim (cases_eq (uses p (root_at root g)) 0) [
+      used_below : 1 ≤ count n (kids_of (entry None (root_at root g) p))
+          → 1 ≤ uses p (root_at root g)
+      used_below c = elim (cases_eq (uses p (root_at root g)) 0) [
         | inl z ↦ absurd (omega (
           arith,
           c,
@@ -214,15 +215,15 @@ module _ (s : Slab Record) (nodes lists : List Pair) (g : Trees) (l : Linking s 
       let it : w.found.it ≡ r = let x = w.found.at in cc in
       let x = from (after w.number (row (rows_of g) w.found.entry.parent)) k
       (sym w.found.fits.next ∙ ap (λ (r : Record). r.next) it ∙ h) in
-      go w.found.entry.parent refl x.0 x.1 x.2
+      by_parent w.found.entry.parent refl x.0 x.1 x.2
     where
-      go : (q : Option ℕ) → w.found.entry.parent ≡ q → (x : ℕ)
+      by_parent : (q : Option ℕ) → w.found.entry.parent ≡ q → (x : ℕ)
           → after w.number (row (rows_of g) w.found.entry.parent) ≡ Some x → k ≡ key_in nodes x
           → (n : At s nodes g root (out ++ closes w.number ∷ []) true k)
           × (length (opening n.number (root_at root g)) < length
           (closing w.number (root_at root g)))
-      go None e x y z = absurd (let b = ap (λ q. after w.number (row (rows_of g) q)) e in cc)
-      go (Some p) e x y z =
+      by_parent None e x y z = absurd (let b = ap (λ q. after w.number (row (rows_of g) q)) e in cc)
+      by_parent (Some p) e x y z =
           let b = below w.number p w.inside (ap parent_of w.found.is ∙ e) in
           let next : after w.number (kids_of (rows_of g p)) ≡ Some x =
           ap (λ q. after w.number (row (rows_of g) q)) (sym e) ∙ y in
@@ -336,26 +337,26 @@ module _ (s : Slab Record) (nodes lists : List Pair) (g : Trees) (l : Linking s 
     pub turn_on : (key : ℕ) (e : Bool) → get s key ≡ Some r → (w : At s nodes g root out e key)
         → Next s nodes g root (out ++ mark_of e w.number ∷ []) (record { key = key; opens = e })
         (onward_from r (record { key = key; opens = e }))
-    turn_on key true a w = go r.first refl
+    turn_on key true a w = by_first r.first refl
       where
-        go : (o : Option ℕ) → r.first ≡ o
+        by_first : (o : Option ℕ) → r.first ≡ o
             → Next s nodes g root (out ++ opens w.number ∷ []) (record { key = key; opens = true })
             (Some (down_to o key))
-        go None e = let x = turn s nodes lists g l root out key w r a e in
+        by_first None e = let x = turn s nodes lists g l root out key w r a e in
             next_at true false key key _ w x.0 x.1
-        go (Some k) e = let x = down s nodes lists g l root out key w r k a e in
+        by_first (Some k) e = let x = down s nodes lists g l root out key w r k a e in
             next_at true true key k _ w x.0 x.1
-    turn_on key false a w = go r.next r.parent refl refl
+    turn_on key false a w = by_next r.next r.parent refl refl
       where
-        go : (o q : Option ℕ) → r.next ≡ o → r.parent ≡ q
+        by_next : (o q : Option ℕ) → r.next ≡ o → r.parent ≡ q
             → Next s nodes g root (out ++ closes w.number ∷ [])
             (record { key = key; opens = false })
             (across_to o q)
-        go (Some k) q e f = let x = onward s nodes lists g l root out key w r k a e in
+        by_next (Some k) q e f = let x = onward s nodes lists g l root out key w r k a e in
             next_at false true key k _ w x.0 x.1
-        go None (Some k) e f = let x = upward s nodes lists g l root out key w r k a e f in
+        by_next None (Some k) e f = let x = upward s nodes lists g l root out key w r k a e f in
             next_at false false key k _ w x.0 x.1
-        go None None e f = record {
+        by_next None None e f = record {
           at = finished s nodes lists g l root out key is_root w r a f;
           nearer = omega arith;
         }

@@ -214,18 +214,19 @@ module _ (s : Slab Record) (nodes lists : List Pair) (g : Trees) (d : IsDraft s 
         omega (arith, x, unused)
 
     unknown : lookup i nodes ≡ None
-    unknown = go (lookup i nodes) refl
+    unknown = by_place (lookup i nodes) refl
       where
-        go : (o : Option ℕ) → lookup i nodes ≡ o → lookup i nodes ≡ None
-        go None e = e
-        go (Some k) e = absurd (let x = entry_absent None g i fresh in let y = l.indexed i in cc)
+        by_place : (o : Option ℕ) → lookup i nodes ≡ o → lookup i nodes ≡ None
+        by_place None e = e
+        by_place (Some k) e =
+            absurd (let x = entry_absent None g i fresh in let y = l.indexed i in cc)
 
     unlisted : lookup a lists ≡ None
-    unlisted = go (lookup a lists) refl
+    unlisted = by_place (lookup a lists) refl
       where
-        go : (o : Option ℕ) → lookup a lists ≡ o → lookup a lists ≡ None
-        go None e = e
-        go (Some k) e = let w = l.listed_only a k e in absurd (other_list w.0 w.1 w.2 w.3)
+        by_place : (o : Option ℕ) → lookup a lists ≡ o → lookup a lists ≡ None
+        by_place None e = e
+        by_place (Some k) e = let w = l.listed_only a k e in absurd (other_list w.0 w.1 w.2 w.3)
 
     -- the parent doesn't stand in the tree
     apart : (p : ℕ) → parent q ≡ Some p → uses p (node name i kids a none) ≡ 0

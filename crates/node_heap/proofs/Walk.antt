@@ -44,11 +44,11 @@ module _ (s : Slab Record) (nodes lists : List Pair) (g : Trees) (l : Linking s 
 
   pub walk_up : k ≢ ck → (r : Record) (next : ℕ) → get s k ≡ Some r → r.parent ≡ Some next
       → Up s nodes g p c k next
-  walk_up d r next a up = go (parent_found s nodes lists g g l w.number k next r w.found a up)
+  walk_up d r next a up = up_from (parent_found s nodes lists g g l w.number k next r w.found a up)
     where
-      go : (f : Found s nodes g w.number k) × Points s nodes g f.entry.parent next
+      up_from : (f : Found s nodes g w.number k) × Points s nodes g f.entry.parent next
           → Up s nodes g p c k next
-      go q =
+      up_from q =
           let kin = Kin-rows_of g l.once in
           let has : 1 ≤ count w.number (kids_of (rows_of g q.1.number)) =
           kin.down q.1.number w.number (ap parent_of q.0.is ∙ q.1.is) in
