@@ -122,7 +122,8 @@ pub adds-prog : (a b : LinearForm) (x : List ℕ) (s : ValueSort) (n : ℤ)
     → b.constant ≡ a.constant → Adds a b (times n (prog x s) ∷ [])
 adds-prog a b x s n e p l c = record {
   progs = λ name. p name
-      ∙ ap (λ z. count_in a.progs name +ℤ z) (counted n (bytes_eq name x) (same_value_sort int_sort s) e);
+      ∙ ap (λ z. count_in a.progs name +ℤ z)
+      (counted n (bytes_eq name x) (same_value_sort int_sort s) e);
   logics = λ name. l name ∙ sym (+ℤ_idr (count_in a.logics name));
   constant_is = c ∙ sym (+ℤ_idr a.constant);
 }
@@ -137,7 +138,8 @@ pub adds-logic : (a b : LinearForm) (x : List ℕ) (s : Sort) (n : ℤ)
 adds-logic a b x s n e p l c = record {
   progs = λ name. p name ∙ sym (+ℤ_idr (count_in a.progs name));
   logics = λ name. l name
-      ∙ ap (λ z. count_in a.logics name +ℤ z) (counted n (bytes_eq name x) (same_sort (value int_sort) s) e);
+      ∙ ap (λ z. count_in a.logics name +ℤ z)
+      (counted n (bytes_eq name x) (same_sort (value int_sort) s) e);
   constant_is = c ∙ sym (+ℤ_idr a.constant);
 }
 

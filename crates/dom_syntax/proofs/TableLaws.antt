@@ -73,7 +73,8 @@ module _ {V W : Type 0} (seen : V → W) where
         ≡ or_else (option_map seen (found table q)) (cond b (Some w) None)
     again-at q true e =
         some-is (found table q) w
-        (subst (λ z. is_some (found table z) ≡ true) (sym ((bytes_eq-Decides q name).0 e)) there) true
+        (subst (λ z. is_some (found table z) ≡ true) (sym ((bytes_eq-Decides q name).0 e)) there)
+        true
     again-at q false e = or-none (option_map seen (found table q))
       where
         or-none : (o : Option W) → o ≡ or_else o None

@@ -54,8 +54,8 @@ has-step theory bad f h n e =
     let same : a.procedure ≡ f = some_same a.procedure f
     (sym (at-place theory.procedures bad.procedure a.place a.procedure a.counted a.there) ∙ e) in
     subst (λ (z : Procedure). HasStep z bad.step) same (of_step a
-    (step-there (procedures_of (theory_of theory)) (nameless_procedure (procedure_of a.procedure)) []
-    a.procedure.proof 1 bad.step bad.fault a.first n))
+    (step-there (procedures_of (theory_of theory)) (nameless_procedure (procedure_of a.procedure))
+    [] a.procedure.proof 1 bad.step bad.fault a.first n))
   where
     of_step : (a : ProcedureThere theory bad) → StepThere a.procedure.proof 1 bad.step
         → HasStep a.procedure bad.step
@@ -88,8 +88,8 @@ not-left-open : (ps : model.Procedures) (f : model.Procedure) (earlier : List mo
     → slice_get steps k ≡ Some x → reason_of x.reason ≡ auto → ⊥
 not-left-open ps f earlier [] at bad k v x h n there e = failure-no-end v h.1
 not-left-open ps f earlier (y ∷ steps) at bad zero v x h n there e = ⊎_elim
-    (λ here. no-verdict ps (reason_of y.reason) earlier (nameless_step (step_of y)).judgement v here.1.0
-    (ap (λ (z : Step). reason_of z.reason) (some_same y x there) ∙ e))
+    (λ here. no-verdict ps (reason_of y.reason) earlier (nameless_step (step_of y)).judgement v
+    here.1.0 (ap (λ (z : Step). reason_of z.reason) (some_same y x there) ∙ e))
     (λ later. behind (step-there ps f (earlier ++ nameless_step (step_of y) ∷ []) steps (at + 1) bad
     (fails v) later.1 (failure-no-end v))) h
   where
@@ -97,8 +97,8 @@ not-left-open ps f earlier (y ∷ steps) at bad zero v x h n there e = ⊎_elim
     behind a = absurd (omega (arith, a.counted, n))
 not-left-open ps f earlier (y ∷ steps) at bad (suc k) v x h n there e = ⊎_elim
     (λ here. absurd (omega (arith, here.0, n)))
-    (λ later. not-left-open ps f (earlier ++ nameless_step (step_of y) ∷ []) steps (at + 1) bad k v x
-    later.1 (omega (arith, n)) there e) h
+    (λ later. not-left-open ps f (earlier ++ nameless_step (step_of y) ∷ []) steps (at + 1) bad k v
+    x later.1 (omega (arith, n)) there e) h
 
 -- by its number
 not-open-at : (ps : model.Procedures) (f : model.Procedure) (steps : List Step) (bad : ℕ)
@@ -118,8 +118,8 @@ has-rule theory procedure place v f x h e d q =
     let a : ProcedureThere theory bad = procedure-there theory bad h in
     let same : a.procedure ≡ f = some_same a.procedure f
     (sym (at-place theory.procedures procedure a.place a.procedure a.counted a.there) ∙ e) in
-    not-open-at (procedures_of (theory_of theory)) (nameless_procedure (procedure_of f)) f.proof place
-    v x (subst (λ (z : Procedure). FirstBadStep (procedures_of (theory_of theory))
+    not-open-at (procedures_of (theory_of theory)) (nameless_procedure (procedure_of f)) f.proof
+    place v x (subst (λ (z : Procedure). FirstBadStep (procedures_of (theory_of theory))
     (nameless_procedure (procedure_of z)) [] (steps_in z.proof) 1 place (fails v)) same a.first) d q
 
 -- the gap, as it is read
@@ -140,7 +140,8 @@ pub fail-verdict : (theory : Theory) (procedure place : ℕ) (f : Procedure) (x 
     → Verdict (theory_of theory) status.StepFails (fail_line x.number f.name x.line name v)
 fail-verdict theory procedure place f x name v first e d named =
     step_fails procedure place (procedure_of f) (step_of x) name named.citations named.arguments v
-    first (seen procedure_of theory.procedures procedure f e) (seen step_of f.proof place x d) named.is
+    first (seen procedure_of theory.procedures procedure f e) (seen step_of f.proof place x d)
+    named.is
 
 -- the end without the procedure's own triple
 pub end-verdict : (theory : Theory) (procedure place : ℕ) (f : Procedure)

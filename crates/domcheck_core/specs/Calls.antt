@@ -60,8 +60,8 @@ CallAnswer theory call fuel document s output =
     → DocumentAnswer (theory_of theory) (procedure_of f) (map value_seen call.values) fuel document
     s output
 
--- A run on a heap came out so, by the definitions: with the heap's grove at its end, up to the order
--- of roots.
+-- A run on a heap came out so, by the definitions: with the heap's grove at its end, up to the
+-- order of roots.
 abbrev pub CameOut : HeapOutcome → Trees → Outcome → Type 0
 CameOut (h.Ended steps values) trees came_out =
     (left : Trees) × (came_out ≡ model.ends steps (map value_seen values) left)

@@ -21,8 +21,8 @@ abbrev pub OfFile : Option Request → Books → (List ℕ → Type 0) → Type 
 OfFile (Some (check file)) books P = Told (books file) P
 OfFile r books P = Unit
 
--- The bytes are a file of a theory, and each of its procedures, started in any context round data that
--- meets its requires, faults in no number of steps and ends with data that meets its ensures.
+-- The bytes are a file of a theory, and each of its procedures, started in any context round data
+-- that meets its requires, faults in no number of steps and ends with data that meets its ensures.
 abbrev pub IsProved : List ℕ → Type 0
 IsProved bytes =
     (theory : Theory) × IsFile bytes theory

@@ -36,8 +36,8 @@ pub use status::Status;
 use std::alloc::Global;
 
 /// Does what the words after the program's name ask for, and answers how it ended. The forms today
-/// are `check FILE`, `run FILE PROC DOC FUEL ARG*`, `make N` and `trial N`. The output is built whole
-/// and then written.
+/// are `check FILE`, `run FILE PROC DOC FUEL ARG*`, `make N` and `trial N`. The output is built
+/// whole and then written.
 pub fn domcheck<L: Library, S: Sink>(
     alloc: Global,
     words: &[String],

@@ -105,7 +105,8 @@ apart x y e = by_test (same_var x y) refl
   where
     by_test : (b : Bool) → same_var x y ≡ b → same_var x y ≡ false
     by_test true same =
-        false≢true (sym e ∙ ap (λ z. bytes_eq (var_text x) (var_text z)) (sym (same_var-is x y same))
+        false≢true (sym e
+        ∙ ap (λ z. bytes_eq (var_text x) (var_text z)) (sym (same_var-is x y same))
         ∙ bytes-refl (var_text x))
     by_test false same = same
 

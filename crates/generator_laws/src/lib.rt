@@ -11,7 +11,8 @@ ghost use Rattle.model_round_trip.specs.ReadBack.{without_lines};
 ghost use Rattle.model_answers.specs.Texts.{IsFile};
 ghost use Rattle.rule_table.specs.Accepted.{IsAccepted};
 
-/// Each step of the theory is an instance of its rule, and each proof ends in its procedure's triple.
+/// Each step of the theory is an instance of its rule, and each proof ends in its procedure's
+/// triple.
 pub fn the_generated_theory_is_accepted()
     ensures { (n : ℕ) → IsAccepted (generated_theory n) }
 {}

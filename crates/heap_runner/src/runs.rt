@@ -33,11 +33,12 @@ use std::alloc::Global;
 use theory_syntax::{Procedure, Theory};
 
 /// Runs the procedure at a place, counted from 0, with these arguments on the grove that the heap
-/// stands for, in any order of its roots, for at most `fuel` steps. A new node takes one more than the greatest node number,
-/// and one more than the greatest list number, of the grove. Before each step it is asked, in this
-/// order, whether nothing is pending, whether the fuel is spent, and whether a limit is passed:
-/// Number or Text of the terms of the first piece, then Nodes or Depth, then Identifier. At every
-/// answer the heap stands for the grove of the steps taken, up to the order of its roots.
+/// stands for, in any order of its roots, for at most `fuel` steps. A new node takes one more than
+/// the greatest node number, and one more than the greatest list number, of the grove. Before each
+/// step it is asked, in this order, whether nothing is pending, whether the fuel is spent, and
+/// whether a limit is passed: Number or Text of the terms of the first piece, then Nodes or Depth,
+/// then Identifier. At every answer the heap stands for the grove of the steps taken, up to the
+/// order of its roots.
 pub fn run_heap(
     alloc: Global,
     theory: &Theory,

@@ -106,7 +106,8 @@ module _ (x y : LogicVar) (n : Named) (p : Formula) where
   -- NOTHING IS BOUND, where the variable isn't free in the formula
   pub keeps-not : for_some x p ≡ nameless bound → (FreeIn X p → ⊥) → keeps bound p ≡ true
   keeps-not e absent =
-      let h = both_true (same_sort x.sort y.sort && (same_var X Y || not (is_among X (occurrences n))))
+      let h = both_true
+      (same_sort x.sort y.sort && (same_var X Y || not (is_among X (occurrences n))))
       (same_formula p (opened_at X Y n)) (is-binds e) in
       let opened : p ≡ opened_at X Y n = same_formula-is p (opened_at X Y n) h.1 in
       let kept : FreeIn Y (nameless n) → ⊥ =

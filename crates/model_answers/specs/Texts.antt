@@ -11,7 +11,8 @@ use Rattle.model_grammar.specs.Theories.{SpellsTheory}
 -- the limit that a text passes before it is read: that of its bytes, or that of its first token
 -- that passes one, where at most so many brackets may be open
 abbrev pub text_limit : ℕ → List ℕ → Option LimitKind
-text_limit most bytes = or_else (unless (nat_le (length bytes) standard_limits.file_bytes) file_limit)
+text_limit most bytes =
+    or_else (unless (nat_le (length bytes) standard_limits.file_bytes) file_limit)
     (token_limit most 0 (lexemes_of bytes))
 
 -- the limit that a theory passes: the variables of a procedure, or the steps of all proofs

@@ -1,7 +1,7 @@
 //! The definitions of the grammar of theory files and of what is printed, with no Rust data; they
-//! stand in `specs/`. Promises that what is spelled is no larger than its text, and that the lexemes
-//! of a printed formula or command spell it, but for the sorts of its variables. Stands on the other
-//! definitions.
+//! stand in `specs/`. Promises that what is spelled is no larger than its text, and that the
+//! lexemes of a printed formula or command spell it, but for the sorts of its variables. Stands on
+//! the other definitions.
 #![tactic(auto)]
 
 ghost use Rattle.std.specs.Prelude.{◌<◌, List, length};

@@ -41,8 +41,8 @@ impl<'a, V: Copy + Drop> NameTable<'a, V> {
         }
     }
 
-    /// Puts the value for the name, in place of one that it has. Where memory is refused the table is
-    /// unchanged.
+    /// Puts the value for the name, in place of one that it has. Where memory is refused the table
+    /// is unchanged.
     pub fn insert(&mut self, name: &'a str, value: V) -> Result<(), OutOfMemory>
         ensures ok { OnOk result ((q : List ℕ) → found self.new q
             ≡ cond (bytes_eq q name.now) (Some value) (found self.old q)) }

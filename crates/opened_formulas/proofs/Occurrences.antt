@@ -78,7 +78,8 @@ module _ (o : Opened) (x : Var) (p : Named) where
   forth : occurs_below o x p ≡ true → IsFree
   forth e = by-cases (same_var x c) (occurs y) (same_var x y) (occurs x) refl refl refl refl e
     where
-      by-cases : (a b d e : Bool) → same_var x c ≡ a → occurs y ≡ b → same_var x y ≡ d → occurs x ≡ e
+      by-cases : (a b d e : Bool) → same_var x c ≡ a → occurs y ≡ b → same_var x y ≡ d
+          → occurs x ≡ e
           → ((a && b) || (not d && e)) ≡ true → IsFree
       by-cases true true d e f g h i j = read f g
       by-cases a b false true f g h i j = kept h i

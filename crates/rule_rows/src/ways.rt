@@ -41,7 +41,8 @@ fn equation_way(number: usize) -> Way
     requires { number < 6 }
     ensures way { way_in result ≡ slice_index_or patterns.equations number (matched []) }
     ensures single { single_way result ≡ true }
-    ensures computed { (rule : AComputed) → result ≡ w.Computed rule → 19 + number ≡ computed_place rule }
+    ensures computed { (rule : AComputed) → result ≡ w.Computed rule
+        → 19 + number ≡ computed_place rule }
 {
     match number {
         0 => Way::Matched(eq_refl_rows()),
@@ -96,7 +97,8 @@ fn way_at(place: usize) -> Way
 pub fn way_of(rule: EntailRule) -> Way
     ensures way { patterns.way_of (name_of rule) ≡ way_in result }
     ensures single { single_way result ≡ true }
-    ensures computed { (other : AComputed) → result ≡ w.Computed other → name_of rule ≡ computed_name other }
+    ensures computed { (other : AComputed) → result ≡ w.Computed other
+        → name_of rule ≡ computed_name other }
 {
     way_at(place_of(rule))
 }

@@ -165,7 +165,9 @@ end_limit bytes place most before few e = by_end (place_of bytes place == length
     by_end : (b : Bool) → (place_of bytes place == length bytes) ≡ b
         → token_limit most before (left_behind bytes place) ≡ None
     by_end true test =
-        ap (λ l. token_limit most before (map lexeme_of l)) (left_none bytes bytes place true e test)
+        ap (λ l. token_limit most before (map lexeme_of l))
+        (left_none bytes bytes place true e test)
     by_end false test =
-        ap (λ l. token_limit most before (map lexeme_of l)) (left_none bytes bytes place false e test)
+        ap (λ l. token_limit most before (map lexeme_of l))
+        (left_none bytes bytes place false e test)
         ∙ bad_limit most before few

@@ -29,6 +29,7 @@ returns-in-Ok-clause-small c =
 pub returns-in-Err-BadText-clause-told : goal.returns-in-Err-BadText-clause-told
 returns-in-Err-BadText-clause-told c =
     nothing SpellsTheory standard_limits.file_nesting bad_text_line c.args.bytes.now _
-    c.in-Err-BadText.token (c.front.ensures ∙ c.in_ok-source.ensures.same) c.in_ok-source.ensures.passes
+    c.in-Err-BadText.token (c.front.ensures ∙ c.in_ok-source.ensures.same)
+    c.in_ok-source.ensures.passes
     (rw c.in-Err-BadText.field-0-is at c.in-Err-BadText.ensures.bad_text)
     (rw c.in-Err-BadText.field-0-is at c.in-Err-BadText.ensures.fault_token)

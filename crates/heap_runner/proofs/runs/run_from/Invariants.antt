@@ -16,6 +16,6 @@ invariant-loop-steps l = record {
   reached : (run : ℕ → Outcome)
       → Reached run (procedures_of (theory_of l.theory)) (map prog_var_of l.fn.config.results) 0
       (on_heap l.fn.config l.fn.heap.grove)
-      → Reached run (procedures_of (theory_of l.theory)) (map prog_var_of l.fn.config.results) l.steps
-      (on_heap l.config l.heap.grove);
+      → Reached run (procedures_of (theory_of l.theory)) (map prog_var_of l.fn.config.results)
+      l.steps (on_heap l.config l.heap.grove);
 }

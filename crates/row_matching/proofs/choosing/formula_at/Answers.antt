@@ -4,5 +4,5 @@ use Rattle.row_matching.proofs.ReadOff.{formula-read}
 use Rattle.row_matching.proofs.choosing.formula_at.Goals as goal
 
 pub returns : goal.returns
-returns c = formula-read c.args.source.now c.args.candidate (letter_in c.args.letter) c.found_at.result
-    c.found_at.ensures
+returns c = formula-read c.args.source.now c.args.candidate (letter_in c.args.letter)
+    c.found_at.result c.found_at.ensures

@@ -36,7 +36,8 @@ fits_formula-returns-in-Exists-a t c =
     let d : c.deref.result.now ≡ c.in-Exists-a.b.value = cc in
     c.fits_bound.ensures
     ∙ (ap (binds (choice_of c.args.source.now c.args.candidate) c.args.opened c.in-Exists.p.now
-    c.in-Exists-a.y) d ∙ sym (ap₂ (fits (choice_of c.args.source.now c.args.candidate) c.args.opened)
+    c.in-Exists-a.y) d
+    ∙ sym (ap₂ (fits (choice_of c.args.source.now c.args.candidate) c.args.opened)
     c.in-Exists.is c.in-Exists-a.is))
 
 pub fits_formula-returns-in-Forall-a : goal.fits_formula-returns-in-Forall-a
@@ -44,7 +45,8 @@ fits_formula-returns-in-Forall-a t c =
     let d : c.deref-in-Forall-a.result.now ≡ c.in-Forall-a.b.value = cc in
     c.fits_bound-in-Forall-a.ensures
     ∙ (ap (binds (choice_of c.args.source.now c.args.candidate) c.args.opened c.in-Forall.p.now
-    c.in-Forall-a.y) d ∙ sym (ap₂ (fits (choice_of c.args.source.now c.args.candidate) c.args.opened)
+    c.in-Forall-a.y) d
+    ∙ sym (ap₂ (fits (choice_of c.args.source.now c.args.candidate) c.args.opened)
     c.in-Forall.is c.in-Forall-a.is))
 
 pub fits_bound-returns-in-None : goal.fits_bound-returns-in-None

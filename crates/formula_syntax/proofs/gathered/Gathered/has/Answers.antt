@@ -11,7 +11,8 @@ use Rattle.formula_syntax.proofs.gathered.Gathered.has.Goals as goal
 pub returns-in-None : goal.returns-in-None
 returns-in-None c =
     let x = var_named c.args.name.now in
-    sym (ap (is_among x) (sym c.self.view_is) ∙ not_among x (map any_var_of c.self.inside.found.items)
+    sym (ap (is_among x) (sym c.self.view_is)
+    ∙ not_among x (map any_var_of c.self.inside.found.items)
     (c.self.invariant _ (ap (found c.self.inside.places) (sym c.text_of.ensures)
     ∙ sym c.get.ensures ∙ c.in-None.is)))
 

@@ -38,7 +38,8 @@ returns-in_ok-insert-clause-ok g c q =
 pub returns-in_err-push-clause-err : goal.returns-in_err-push-clause-err
 unfolding found
 returns-in_err-push-clause-err g c = on_err c.from_residual.result
-    (λ q. ap (λ row. or_other (in_row row q) (get_by (λ k. bytes_eq q k.now) c.args.self.now.others))
+    (λ q. ap (λ row. or_other (in_row row q)
+    (get_by (λ k. bytes_eq q k.now) c.args.self.now.others))
     c.in_err-push.ensures.items)
 
 pub returns-in_err-insert-clause-err : goal.returns-in_err-insert-clause-err

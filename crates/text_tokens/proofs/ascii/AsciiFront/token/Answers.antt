@@ -44,4 +44,5 @@ returns-in_default c =
     let is = of_kind _ _ _ _ _ _ self.settled c.requires in
     plain_first _ _ _ _ _ is c.in_default.not-Literal
     ∙ ap (λ t. lexeme_at (kind_of c.args.kind) (meant c.args.kind false t) self.line
-    ∷ drop 1 (left_behind self.bytes.now self.from)) (sym (c.text_of-in_default.ensures ∙ c.part-own.ensures))
+    ∷ drop 1 (left_behind self.bytes.now self.from))
+    (sym (c.text_of-in_default.ensures ∙ c.part-own.ensures))
