@@ -1,4 +1,5 @@
--- The procedures that a call may enter, and how one is found by its name.
+-- Needn't be believed: the promises speak of the procedures alone. The procedures that a call may
+-- enter, and how one is found by its name.
 use Rattle.std.specs.Prelude.{◌≡◌, ℕ, cond, map, List, [], ◌∷◌, Option, Some, None, MatchOption, bytes_eq}
 use Rattle.std.specs.Borrow.{Bor}
 use Rattle.std.specs.Option.{option_map}
