@@ -1,12 +1,15 @@
 -- What the tables of a scope say of the names that may be used there.
 use Rattle.std.proofs.Common.{◌≡◌, ◌∙◌, sym, refl, ap, ℕ, List, [], ◌∷◌, ◌++◌, Bool, true, false, not, ◌&&◌, ◌||◌, cond, Option, Some, is_some, bytes_eq, map, append_assoc}
-use Rattle.std.specs.List.{list_any, list_all}
+use Rattle.std.specs.List.{flat_map, list_any, list_all}
+use Rattle.std.proofs.lemmas.Grind.{flat_map-append}
 use Rattle.std.proofs.lemmas.List.{map-append}
 use Rattle.std.proofs.lemmas.List.Folds.{list_any-append}
 use Rattle.model_shapes.specs.Sorts.{ValueSort, Sort}
 use Rattle.model_shapes.specs.Tests.{same_value_sort, same_sort}
 use Rattle.model_terms.specs.Variables.{Var, prog, logic, bound}
 use Rattle.model_terms.specs.Stores.{ProgVar, named, as_var, same_name}
+use Rattle.model_commands.specs.Commands.{Block}
+use Rattle.model_commands.specs.CommandParts.{commands_of, locals}
 use Rattle.model_commands.specs.SortTests.{distinct_by, is_among}
 use Rattle.model_commands.specs.Theories.{Procedure, procedure_named}
 use Rattle.model_files.specs.FileFaults.{share_name, is_known, is_as_declared, only_among}
@@ -14,9 +17,9 @@ use Rattle.dom_terms.specs.Sorts.{sort_of}
 use Rattle.dom_terms.specs.Terms.{logic_var_of}
 use Rattle.dom_terms.specs.declared.terms.LogicVar.{LogicVar}
 use Rattle.dom_syntax.specs.Callees.{procedure_entry}
-use Rattle.dom_syntax.specs.Scopes.{variable_entry, logic_entry}
+use Rattle.dom_syntax.specs.Scopes.{block_locals, variable_entry, logic_entry}
 use Rattle.dom_syntax.specs.ScopeTests.{may_stand, sort_fits, logic_sort_fits}
-use Rattle.dom_syntax.specs.Tables.{first_of, share}
+use Rattle.dom_syntax.specs.Tables.{Declaration, first_of, share}
 
 -- three lists of variables, one behind another
 pub entries-joined : (ps rs ls : List ProgVar)
@@ -26,6 +29,23 @@ entries-joined ps rs ls =
     append_assoc (map variable_entry ps) (map variable_entry rs) (map variable_entry ls)
     ∙ ap (λ es. map variable_entry ps ++ es) (sym (map-append variable_entry rs ls))
     ∙ sym (map-append variable_entry ps (rs ++ ls))
+
+-- a list of variables behind another, both behind what is declared
+pub entries-behind : (ds : List (Declaration ValueSort)) (ps rs : List ProgVar)
+    → (ds ++ map variable_entry ps) ++ map variable_entry rs
+    ≡ ds ++ map variable_entry (ps ++ rs)
+entries-behind ds ps rs =
+    append_assoc ds (map variable_entry ps) (map variable_entry rs)
+    ∙ ap (λ es. ds ++ es) (sym (map-append variable_entry ps rs))
+
+-- the local variables of two blocks
+pub blocks-behind : (ds : List (Declaration ValueSort)) (a b : Block)
+    → (ds ++ map variable_entry (block_locals a)) ++ map variable_entry (block_locals b)
+    ≡ ds ++ map variable_entry (flat_map locals (commands_of a ++ commands_of b))
+blocks-behind ds a b =
+    entries-behind ds (block_locals a) (block_locals b)
+    ∙ ap (λ xs. ds ++ map variable_entry xs)
+    (sym (flat_map-append locals (commands_of a) (commands_of b)))
 
 -- KNOWN NAMES: of program variables
 module _ (name : List ℕ) (s : ValueSort) where
