@@ -47,5 +47,6 @@ declare_locals-returns-in_ok-declare-in-Local t c =
     ∙ ap (λ y. ds ++ map variable_entry (locals_of y)) (sym seen))
     (below (ds ++ map variable_entry (x ∷ []))
     (subst (λ t. Declares value_sort_of c.declare.new.self
-    (ds ++ (t, value_sort_of c.in-Local.variable.sort) ∷ [])) c.as_str.ensures (c.in_ok-declare-in-Local.ensures ds told))))
+    (ds ++ (t, value_sort_of c.in-Local.variable.sort) ∷ []))
+    c.as_str.ensures (c.in_ok-declare-in-Local.ensures ds told))))
     c.declare_block_locals-in-Local.ensures
