@@ -88,9 +88,11 @@ impl Text {
     pub fn from_str(alloc: Global, characters: &str) -> Result<Text, OutOfMemory>
         ensures { IfOk result (λ text. text ≡ characters.now) }
     {
-        let mut text = Text::new(alloc);
-        join(alloc, &mut text.letters, characters)?;
-        Ok(text)
+        let letters = match ShortText::new().joined(characters) {
+            Some(short) => Letters::Short(short),
+            None => long(alloc, characters, "")?,
+        };
+        Ok(Text { letters, alloc })
     }
 
     /// Puts the bytes of a character at the end. Where memory is refused the text is unchanged.

@@ -2,16 +2,19 @@
 -- concludes an entailment, and of another name those of the rest, each of which concludes a triple.
 use Rattle.std.proofs.Common.{◌≡◌, ◌∙◌, refl, sym, ap, subst, ⊎_elim, Bool, true, false, not, ◌&&◌, ◌||◌, cond, List, [], ◌∷◌, ◌++◌, map, bytes_eq, ℕ}
 use Rattle.std.specs.List.{list_any}
+use Rattle.std.proofs.lemmas.Bool.{and_cases}
+use Rattle.std.proofs.lemmas.Map.Views.{any-filter_same}
+use Rattle.std.proofs.lemmas.Slice.Eq.{bytes_eq-Decides}
 use Rattle.model_shapes.specs.Values.{Name}
 use Rattle.model_shapes.proofs.Truth.{both_true, false≢true}
 use Rattle.model_terms.specs.Terms.{Term}
 use Rattle.model_commands.specs.Theories.{Judgement, by_rule, Step, Procedures}
-use Rattle.model_files.specs.RuleNames.{entailment_rule_names}
+use Rattle.model_files.specs.RuleNames.{entailment_rule_names, triple_rule_names}
 use Rattle.rule_table.specs.Letters.{Letters}
 use Rattle.rule_table.specs.Accepted.{written_at, VerdictBy}
 use Rattle.rule_table.specs.Entries.{Row, Entry}
 use Rattle.rule_table.specs.Table.{table, entailments, triples}
-use Rattle.rule_table.specs.Verdicts.{Written, Concludes, SomeLine, Verdict, shape_verdict, IsVerdict, readings_in}
+use Rattle.rule_table.specs.Verdicts.{Written, Concludes, SomeLine, Verdict, instance_verdict, shape_verdict, premises_verdict, side_verdict, IsVerdict, readings_in}
 use Rattle.rule_table.proofs.SomeLetters.{is_entailment}
 
 -- THE PARTS OF THE TABLE
@@ -123,12 +126,39 @@ entailment-by ps name rule_name w v e q h =
     subst (λ rows. IsVerdict rows w v) (sym (of-entailment ps name e))
     (subst (λ z. IsVerdict (readings_in entailments z) w v) (sym q) h)
 
--- a triple by another name
+-- no rule of entailment has rows among those for triples
+apart : (ps : Procedures) (name : Name) → list_any (bytes_eq name) entailment_rule_names ≡ true
+    → readings_in (triples ps) name ≡ []
+apart ps name e = behind name (triples ps) [] no
+  where
+    other : Name → Bool
+    other n = list_any (bytes_eq n) triple_rule_names
+    no : other name ≡ false
+    no = ⊎_elim (λ f. f) (λ f. false≢true (sym f ∙ e))
+        (and_cases (other name) (list_any (bytes_eq name) entailment_rule_names)
+        (sym (any-filter_same (bytes_eq name) other (other name)
+        (λ n t. ap other (sym ((bytes_eq-Decides name n).0 t))) entailment_rule_names)))
+
+-- a triple by any name: where there are no rows, only the shape may be refused
 pub triple-by : (ps : Procedures) (name : Name) (w : Written) (v : Verdict)
-    → list_any (bytes_eq name) entailment_rule_names ≡ false
+    → is_entailment w.conclusion ≡ false
     → IsVerdict (readings_in (triples ps) name) w v
     → IsVerdict (readings_in (table ps) name) w v
-triple-by ps name w v e = subst (λ rows. IsVerdict rows w v) (sym (of-triples ps name e))
+triple-by ps name w v n = by_test (list_any (bytes_eq name) entailment_rule_names) refl
+  where
+    without_rows : (v : Verdict) → list_any (bytes_eq name) entailment_rule_names ≡ true
+        → IsVerdict [] w v → IsVerdict (readings_in (table ps) name) w v
+    without_rows instance_verdict e h = absurd h
+    without_rows shape_verdict e h = triple-misshapen ps name w e n
+    without_rows premises_verdict e h = absurd h.0
+    without_rows (side_verdict side) e h = absurd h.1.0
+
+    by_test : (b : Bool) → list_any (bytes_eq name) entailment_rule_names ≡ b
+        → IsVerdict (readings_in (triples ps) name) w v
+        → IsVerdict (readings_in (table ps) name) w v
+    by_test true e h =
+        without_rows v e (subst (λ rows. IsVerdict rows w v) (apart ps name e) h)
+    by_test false e h = subst (λ rows. IsVerdict rows w v) (sym (of-triples ps name e)) h
 
 -- a verdict on what is written, said of the reason
 pub verdict-as : (ps : Procedures) (name name' : Name) (ns ns' : List ℕ) (es es' : List Term)

@@ -14,7 +14,6 @@ use crate::letters;
 use crate::names::{TripleRule, triple_rule_of};
 use dom_syntax::modified;
 use dom_terms::{OutOfMemory, Verdict};
-use rule_rows::rule_of;
 use std::alloc::Global;
 use triple_rules::{Callees, Written};
 
@@ -91,9 +90,5 @@ pub fn triple_by(
         (readings_in (table (procedures_in callees.entry.procedures.now)) name.now)
         (written_in written.now) (verdict_in v)) }
 {
-    if rule_of(name).is_some() {
-        Ok(Verdict::Shape)
-    } else {
-        verdict_named(alloc, name, written, callees)
-    }
+    verdict_named(alloc, name, written, callees)
 }

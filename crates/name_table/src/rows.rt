@@ -2,6 +2,13 @@
 ghost use Rattle.std.specs.Prelude.{◌≡◌, bytes_eq};
 ghost use Rattle.std.specs.List.{position_or_len};
 
+// Whether the bytes are the same.
+fn same_bytes(left: &[u8], right: &[u8]) -> bool
+    ensures { result ≡ bytes_eq left.now right.now }
+{
+    left == right
+}
+
 // Whether the names are the same. Most that differ differ in length or in their last byte.
 #[inline(always)]
 fn same_name(left: &str, right: &str) -> bool
@@ -11,7 +18,7 @@ fn same_name(left: &str, right: &str) -> bool
     if left.len() != right.len() || left.last() != right.last() {
         return false;
     }
-    left == right
+    same_bytes(left, right)
 }
 
 /// The place of the name in the row: its length where the name isn't there.

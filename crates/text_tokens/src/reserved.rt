@@ -1,56 +1,7 @@
 // The words that are no names.
-ghost use Rattle.std.specs.Prelude.{◌≡◌, ℕ, List, bytes_eq, length};
+ghost use Rattle.std.specs.Prelude.{◌≡◌, ℕ, List, ◌∷◌, bytes_eq};
 ghost use Rattle.std.specs.List.{list_any};
 ghost use Rattle.model_text.specs.Lexemes.{is_reserved};
-
-/// The words that are no names.
-const RESERVED: [&str; 45] = [
-    "domlogic",
-    "logic",
-    "proc",
-    "returns",
-    "sort",
-    "requires",
-    "ensures",
-    "body",
-    "proof",
-    "step",
-    "by",
-    "with",
-    "auto",
-    "end",
-    "entails",
-    "pre",
-    "do",
-    "post",
-    "at",
-    "skip",
-    "if",
-    "else",
-    "while",
-    "local",
-    "call",
-    "true",
-    "false",
-    "not",
-    "and",
-    "or",
-    "exists",
-    "forall",
-    "is",
-    "len",
-    "null",
-    "nolist",
-    "yes",
-    "no",
-    "appendChild",
-    "removeChild",
-    "createNode",
-    "nodeName",
-    "parentNode",
-    "childNodes",
-    "item",
-];
 
 /// Whether the texts are the same. Most that are compared differ in length or in their first byte.
 #[inline(always)]
@@ -67,25 +18,29 @@ pub fn is_same(own: &str, wanted: &str) -> bool
     }
 }
 
-/// The words that decide whether a word of so many bytes is reserved: those that have as many, and
-/// all where few do.
-fn words_of_size(size: usize) -> &'static [&'static str]
-    ensures { (word : List ℕ) → length word ≡ size
-        → list_any (λ w. bytes_eq word w.now) result.now ≡ is_reserved word }
+/// The words that decide whether a word with this first byte is reserved.
+fn words_from(first: u8) -> &'static [&'static str]
+    ensures { (rest : List ℕ)
+        → list_any (λ w. bytes_eq (first ∷ rest) w.now) result.now ≡ is_reserved (first ∷ rest) }
 {
-    match size {
-        1 => &[],
-        2 => &["by", "do", "at", "if", "or", "is", "no"],
-        3 => &["end", "pre", "not", "and", "len", "yes"],
-        4 => &[
-            "proc", "sort", "body", "step", "with", "auto", "post", "skip", "else", "call", "true",
-            "null", "item",
-        ],
-        5 => &["logic", "proof", "while", "local", "false"],
-        6 => &["exists", "forall", "nolist"],
-        7 => &["returns", "ensures", "entails"],
-        8 => &["domlogic", "requires", "nodeName"],
-        _ => &RESERVED,
+    match first {
+        b'a' => &["auto", "at", "and", "appendChild"],
+        b'b' => &["body", "by"],
+        b'c' => &["call", "createNode", "childNodes"],
+        b'd' => &["domlogic", "do"],
+        b'e' => &["ensures", "end", "entails", "else", "exists"],
+        b'f' => &["false", "forall"],
+        b'i' => &["if", "is", "item"],
+        b'l' => &["logic", "local", "len"],
+        b'n' => &["not", "null", "nolist", "no", "nodeName"],
+        b'o' => &["or"],
+        b'p' => &["proc", "proof", "pre", "post", "parentNode"],
+        b'r' => &["returns", "requires", "removeChild"],
+        b's' => &["sort", "step", "skip"],
+        b't' => &["true"],
+        b'w' => &["with", "while"],
+        b'y' => &["yes"],
+        _ => &[],
     }
 }
 
@@ -97,8 +52,12 @@ fn is_among(words: &[&str], word: &str) -> bool
 }
 
 /// Whether the word is no name.
+#[tactic(auto, unfolding(model_text::specs::Lexemes::reserved_words))]
 pub fn is_reserved(word: &str) -> bool
     ensures { result ≡ is_reserved word.now }
 {
-    is_among(words_of_size(word.len()), word)
+    match word.as_bytes() {
+        [first, ..] => is_among(words_from(*first), word),
+        [] => false,
+    }
 }
