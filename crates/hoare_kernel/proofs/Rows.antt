@@ -133,6 +133,7 @@ apart ps name e = behind name (triples ps) [] no
   where
     other : Name → Bool
     other n = list_any (bytes_eq n) triple_rule_names
+
     no : other name ≡ false
     no = ⊎_elim (λ f. f) (λ f. false≢true (sym f ∙ e))
         (and_cases (other name) (list_any (bytes_eq name) entailment_rule_names)
