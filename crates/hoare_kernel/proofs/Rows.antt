@@ -152,7 +152,7 @@ triple-by ps name w v n = by_test (list_any (bytes_eq name) entailment_rule_name
     without_rows instance_verdict e h = absurd h
     without_rows shape_verdict e h = triple-misshapen ps name w e n
     without_rows premises_verdict e h = absurd h.0
-    without_rows (side_verdict side) e h = absurd h.1.0
+    without_rows (side_verdict side) e h = absurd h.1
 
     by_test : (b : Bool) → list_any (bytes_eq name) entailment_rule_names ≡ b
         → IsVerdict (readings_in (triples ps) name) w v
