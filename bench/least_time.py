@@ -1,0 +1,85 @@
+#!/usr/bin/env python3
+"""Measures the least that a check of the large files can take, beside gzip and the built program.
+
+    bench/least_time.py [PROGRAM] [SHAPE..]
+
+A theory holds its formulas as parts, each in a box of its own. Whoever checks one finds the tokens,
+takes and gives back the memory of each part, and looks at it. A small program in C does this alone,
+with no grammar, no names and no comparisons: it finds the tokens twice, since a token that passes a
+limit comes before any other fault; it asks the same memory allocator for the same blocks in the same
+order as PROGRAM does on the file, which is recorded; and it looks at each block four times, once
+each to set the sorts of variables, to find undeclared ones, to ask the sorts of formulas and to
+compare it with what the rule wants. It wants gcc and a program that takes memory from the C library.
+
+For each shape of bench/large_files.py at 4 MB it prints user seconds, the least of some runs, and
+how many times those of gzip they are.
+"""
+import array
+import os
+import pathlib
+import subprocess
+import sys
+import tempfile
+
+import large_files as bench
+
+HERE = pathlib.Path(__file__).resolve().parent / "least"
+LOOKS = 4
+
+
+def compiled(folder):
+    """The recorder and the least program."""
+    recorder, least = f"{folder}/record.so", f"{folder}/least"
+    subprocess.run(["gcc", "-O2", "-shared", "-fPIC", HERE / "record.c", "-o", recorder, "-ldl"],
+                   check=True)
+    subprocess.run(["gcc", "-O2", HERE / "least.c", "-o", least], check=True)
+    return recorder, least
+
+
+def places(record):
+    """The calls of a record, with the numbers of places in the stead of addresses."""
+    told, taken, free, calls = array.array("Q"), {}, [], array.array("I")
+    told.frombytes(pathlib.Path(record).read_bytes())
+    most = 0
+    for address, size in zip(told[::2], told[1::2]):
+        if size:
+            taken[address] = free.pop() if free else most
+            most = max(most, taken[address] + 1)
+            calls.extend((taken[address], min(size, 2**32 - 1)))
+        elif address in taken:
+            free.append(taken.pop(address))
+            calls.extend((free[-1], 0))
+    return calls
+
+
+def measure(program, shape, folder, recorder, least):
+    """Prints the line of a shape."""
+    file, record = bench.write(shape, bench.MOST_BYTES, folder), f"{folder}/record"
+    subprocess.run([program, "check", file], stdout=subprocess.DEVNULL, check=True,
+                   env={**os.environ, "LD_PRELOAD": recorder, "RECORD": record})
+    with open(f"{folder}/calls", "wb") as it:
+        places(record).tofile(it)
+    words = [least, file, f"{folder}/calls", str(LOOKS)]
+    told = min(subprocess.run(words, capture_output=True, text=True, check=True).stdout.split()
+               for _ in range(bench.RUNS))
+    gzip = min(bench.run(["gzip"], file, (0,))[0] for _ in range(bench.RUNS))
+    check = min(bench.run([program, "check", file], file, (0,))[0] for _ in range(bench.RUNS))
+    print(f"{shape}: least {told[0]} s, of which tokens {told[1]}, memory {told[2]}, looks {told[3]};"
+          f" gzip {gzip:.3f} s; least {float(told[0]) / gzip:.1f} times gzip, check"
+          f" {check / gzip:.1f}; {int(told[4]):,} tokens, {int(told[5]):,} blocks", flush=True)
+
+
+def main(words):
+    shapes = [word for word in words if word in bench.SHAPES] or list(bench.SHAPES)
+    others = [word for word in words if word not in bench.SHAPES]
+    if len(others) > 1 or others == ["--help"]:
+        sys.exit(__doc__)
+    program = str(pathlib.Path(others[0]).resolve() if others else bench.PROGRAM)
+    with tempfile.TemporaryDirectory() as folder:
+        recorder, least = compiled(folder)
+        for shape in shapes:
+            measure(program, shape, folder, recorder, least)
+
+
+if __name__ == "__main__":
+    main(sys.argv[1:])
