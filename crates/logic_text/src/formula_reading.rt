@@ -192,6 +192,7 @@ fn node<'a>(
 // What stands behind the first term of a formula.
 #[cycle(formula)]
 #[tactic(auto, unfolding(crate::specs::FormulaReaders::compared_at))]
+#[inline(always)]
 fn compared<'a>(
     alloc: Global,
     depth: u32,

@@ -18,6 +18,7 @@ fn logic_name_of(token: Lexeme) -> Option<&str>
 }
 
 /// A logic name.
+#[inline(always)]
 pub fn logic_name(alloc: Global, tokens: Front) -> Result<(Text, Front), ReadFault>
     ensures { Gives (λ x. (x.0, lexemes_in x.1)) result
         (leaf leaf_logic (lexemes_in tokens.entry)) }

@@ -26,6 +26,7 @@ pub enum Place {
 }
 
 // The term that a token is which is no reserved word and no symbol.
+#[inline(always)]
 fn leaf_of(alloc: Global, place: Place, first: Lexeme) -> Result<Option<Term>, OutOfMemory>
     ensures { IfOk result
         (λ found. option_map term_of found ≡ leaf_term (place_of place) (lexeme_seen first.entry)) }
@@ -57,6 +58,7 @@ fn leaf_of(alloc: Global, place: Place, first: Lexeme) -> Result<Option<Term>, O
 }
 
 /// A term of one token that is no reserved word and no symbol. The token is handed over too.
+#[inline(always)]
 pub fn leaf_term<'a>(
     alloc: Global,
     place: Place,

@@ -42,6 +42,7 @@ fn asked(query: Query, x: ProgVar, argument: Term) -> Command
 
 // A query, behind its word.
 #[tactic(auto, unfolding(crate::specs::Commands::one_at))]
+#[inline(always)]
 fn one<'a>(
     alloc: Global,
     depth: u32,
@@ -79,6 +80,7 @@ fn changed(change: Change, first: Term, second: Term) -> Command
 
 // Two terms in brackets.
 #[tactic(auto, unfolding(crate::specs::Commands::two_at))]
+#[inline(always)]
 fn two<'a>(
     alloc: Global,
     depth: u32,

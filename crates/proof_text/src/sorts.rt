@@ -84,6 +84,7 @@ pub fn data_sort(tokens: Front) -> Result<(DataSort, Front), ReadFault>
 }
 
 /// A variable as it is used, before it has its sort.
+#[inline(always)]
 pub fn variable(alloc: Global, tokens: Front) -> Result<(ProgVar, Front), ReadFault>
     ensures { Gives (λ x. (prog_var_of x.0, lexemes_in x.1)) result
         (leaf leaf_variable (lexemes_in tokens.entry)) }

@@ -67,6 +67,7 @@ fn arguments<'a>(
 
 // Why the step holds.
 #[tactic(auto, unfolding(crate::specs::Theories::reason_at))]
+#[inline(always)]
 fn reason<'a>(
     alloc: Global,
     depth: u32,

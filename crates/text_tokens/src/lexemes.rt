@@ -120,6 +120,7 @@ impl<'a> Lexeme<'a> {
 
     /// The text that the literal stands for: none exactly where the token is of another kind.
     /// OutOfMemory comes only where memory is refused.
+    #[inline(always)]
     pub fn literal(self, alloc: Global) -> Result<Option<Text>, OutOfMemory>
         ensures { IfOk result (λ found. MatchOption found
             ((text : List ℕ) → lexeme_seen self.entry ≢ literal_lexeme text)

@@ -75,7 +75,7 @@ fn length_from<C: Letter>(first: char, rest: &[C]) -> usize
 }
 
 /// How many characters the longest symbol at the front of the text has; 0 where none stands there.
-#[inline]
+#[inline(always)]
 pub fn symbol_length<C: Letter>(text: &[C]) -> usize
     ensures { result ≡ longest_at_front symbols (map C.code text.now) }
 {

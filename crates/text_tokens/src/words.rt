@@ -127,7 +127,7 @@ fn starts_word(character: char) -> bool
 }
 
 /// How many characters the word at the front of the text has; 0 where none stands there.
-#[inline]
+#[inline(always)]
 pub fn word_length<C: Letter>(text: &[C]) -> usize
     ensures value { result ≡ word_length (map C.code text.now) }
     ensures within { result ≤ length text.now }
@@ -140,6 +140,7 @@ pub fn word_length<C: Letter>(text: &[C]) -> usize
 }
 
 /// How many characters the logic name at the front of the text has; 0 where none stands there.
+#[inline(always)]
 pub fn logic_length<C: Letter>(text: &[C]) -> usize
     ensures value { result ≡ logic_length (map C.code text.now) }
     ensures within { result ≤ length text.now }

@@ -47,6 +47,7 @@ fn line_of(token: Lexeme) -> Option<u32>
 }
 
 /// A word that isn't reserved.
+#[inline(always)]
 pub fn name<'a>(alloc: Global, tokens: Front<'a>) -> Result<(Text, Front<'a>), ReadFault>
     ensures { Gives (λ x. (x.0, lexemes_in x.1)) result
         (leaf leaf_name (lexemes_in tokens.entry)) }
