@@ -1,5 +1,5 @@
 // The tokens of ASCII bytes, each read where it is asked for.
-ghost use Rattle.std.specs.Prelude.{◌≡◌, [], ◌∷◌, ◌+◌, ◌<◌, ◌≤◌, drop, take, length, count_by, ◌==◌, ◌≢◌, Some, None, MatchOption};
+ghost use Rattle.std.specs.Prelude.{◌≡◌, [], ◌∷◌, ◌+◌, ◌<◌, ◌≤◌, drop, take, length, count_by, ◌==◌, ◌≢◌, Some, None, MatchBool, MatchOption};
 ghost use Rattle.std.specs.Bool.{OnTrue};
 ghost use Rattle.std.specs.Str.{IsAscii, IsNotAscii};
 ghost use Rattle.model_text.specs.Nesting.{lexemes_of};
@@ -105,6 +105,17 @@ pub(crate) fn text_of(bytes: &[u8]) -> &str
     unsafe { str::from_utf8_unchecked(bytes) }
 }
 
+// Whether all bytes are ASCII. To find the greatest takes less time than to test each.
+fn is_ascii(bytes: &[u8]) -> bool
+    ensures { MatchBool result (IsAscii bytes.now) (IsNotAscii bytes.now) }
+{
+    let mut greatest = 0;
+    for byte in bytes {
+        greatest = u8::max(greatest, *byte);
+    }
+    greatest < 128
+}
+
 impl<'a> AsciiFront<'a> {
     /// The tokens of the bytes: none exactly where they aren't ASCII.
     pub fn of_bytes(bytes: &'a [u8]) -> Option<AsciiFront<'a>>
@@ -112,7 +123,7 @@ impl<'a> AsciiFront<'a> {
         ensures { MatchOption result (IsNotAscii bytes.now)
             (λ front. left_at front ≡ lexemes_of bytes.now) }
     {
-        if !bytes.is_ascii() {
+        if !is_ascii(bytes) {
             return None;
         }
         Some(settled(bytes, 0, 1))
