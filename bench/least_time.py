@@ -3,13 +3,14 @@
 
     bench/least_time.py [PROGRAM] [SHAPE..]
 
-A theory holds its formulas as parts, each in a box of its own. Whoever checks one finds the tokens,
-takes and gives back the memory of each part, and looks at it. A small program in C does this alone,
-with no grammar, no names and no comparisons: it finds the tokens twice, since a token that passes a
-limit comes before any other fault; it asks the same memory allocator for the same blocks in the same
-order as PROGRAM does on the file, which is recorded; and it looks at each block four times, once
-each to set the sorts of variables, to find undeclared ones, to ask the sorts of formulas and to
-compare it with what the rule wants. It wants gcc and a program that takes memory from the C library.
+A theory holds its formulas as parts, each in a box of its own. Whoever checks one finds the
+tokens, takes and gives back the memory of each part, and looks at it. A small program in C does
+this alone, with no grammar, no names and no comparisons: it finds the tokens twice, since a token
+that passes a limit comes before any other fault; it asks the same memory allocator for the same
+blocks in the same order as PROGRAM does on the file, which is recorded; and it looks at each block
+four times, once each to set the sorts of variables, to find undeclared ones, to ask the sorts of
+formulas and to compare it with what the rule wants. It wants gcc and a program that takes memory
+from the C library.
 
 For each shape of bench/large_files.py at 4 MB it prints user seconds, the least of some runs, and
 how many times those of gzip they are.
@@ -64,9 +65,11 @@ def measure(program, shape, folder, recorder, least):
                for _ in range(bench.RUNS))
     gzip = min(bench.run(["gzip"], file, (0,))[0] for _ in range(bench.RUNS))
     check = min(bench.run([program, "check", file], file, (0,))[0] for _ in range(bench.RUNS))
-    print(f"{shape}: least {told[0]} s, of which tokens {told[1]}, memory {told[2]}, looks {told[3]};"
-          f" gzip {gzip:.3f} s; least {float(told[0]) / gzip:.1f} times gzip, check"
-          f" {check / gzip:.1f}; {int(told[4]):,} tokens, {int(told[5]):,} blocks", flush=True)
+    tokens, memory, looks = told[1:4]
+    print(f"{shape}: least {told[0]} s (tokens {tokens}, memory {memory}, looks {looks}),"
+          f" check {check:.2f} s, gzip {gzip:.3f} s; least {float(told[0]) / gzip:.1f} times gzip,"
+          f" check {check / gzip:.1f}; {int(told[4]):,} tokens, {int(told[5]):,} blocks",
+          flush=True)
 
 
 def main(words):

@@ -1,6 +1,6 @@
 // Preloaded into a program, writes what memory it takes and gives back to the file that RECORD
-// names: two numbers of 64 bits for each call, the address and the bytes, which are 0 where it gives
-// back. A block that grows counts as given back and taken anew.
+// names: two numbers of 64 bits for each call, the address and the bytes, which are 0 where it
+// gives back. A block that grows counts as given back and taken anew.
 #define _GNU_SOURCE
 #include <dlfcn.h>
 #include <stdint.h>
