@@ -1,5 +1,5 @@
 #!/usr/bin/env python3
-"""Measures the least that a check of the large files can take, beside gzip and the built program.
+"""Measures what tokens and the memory of parts take alone in large files, beside gzip and `check`.
 
     bench/least_time.py [PROGRAM] [SHAPE..]
 
