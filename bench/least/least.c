@@ -1,6 +1,6 @@
-// What a check of the file does that holds its formulas as parts in boxes, and no more: it finds the
-// tokens twice, for the limits and for the grammar, takes, fills and gives back the memory of each
-// part in the recorded order, and looks at each part as often as is said. It reads no grammar,
+// What a check of the file does that holds its formulas as parts in boxes, and no more: it finds
+// the tokens twice, for the limits and for the grammar, takes, fills and gives back the memory of
+// each part in the recorded order, and looks at each part as often as is said. It reads no grammar,
 // looks up no name and compares nothing. Prints its user seconds, and what they are for.
 #include <fcntl.h>
 #include <stdint.h>
