@@ -9,7 +9,7 @@ use Rattle.model_commands.specs.SortTests.{distinct_by, is_among}
 use Rattle.dom_terms.specs.declared.terms.ProgVar as program
 use Rattle.dom_terms.specs.Terms.{prog_var_of}
 use Rattle.dom_syntax.specs.Fresh.{fresh}
-use Rattle.dom_syntax.proofs.TableLaws.{same-truth}
+use Rattle.dom_terms.proofs.SameTruth.{same_truth}
 
 -- variables are the same either way round
 name-turned-to : (x y : ProgVar) → same_name x y ≡ true → same_name y x ≡ true
@@ -18,7 +18,7 @@ name-turned-to x y e =
 
 pub name-turned : (x y : ProgVar) → same_name x y ≡ same_name y x
 name-turned x y =
-    same-truth (same_name x y) (same_name y x) (name-turned-to x y) (name-turned-to y x)
+    same_truth (same_name x y) (same_name y x) (name-turned-to x y) (name-turned-to y x)
 
 -- one more that nothing may be
 four : (a b c d : Bool) → (not (a || (b || false)) && (c && not d)) ≡ ((not a && c) && not (b || d))

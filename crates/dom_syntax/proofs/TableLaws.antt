@@ -10,12 +10,6 @@ use Rattle.name_table.proofs.RowLaws.{turned}
 use Rattle.dom_syntax.specs.declared.tables.Table.{Table}
 use Rattle.dom_syntax.specs.Tables.{Declaration, Declares, first_of, found, share}
 
--- two tests that are true together
-pub same-truth : (a b : Bool) → (a ≡ true → b ≡ true) → (b ≡ true → a ≡ true) → a ≡ b
-same-truth true b f g = sym (f refl)
-same-truth false true f g = g refl
-same-truth false false f g = refl
-
 module _ {W : Type 0} where
   first-step : (b : Bool) (o p q : Option W) (w : W) → q ≡ or_else o p
       → cond b (Some w) q ≡ or_else (cond b (Some w) o) p

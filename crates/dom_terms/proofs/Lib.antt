@@ -1,3 +1,5 @@
+pub mod SameTruth
+mod Padding
 mod PlainTerms
 mod SortedParts
 mod StoreLaws

@@ -11,16 +11,12 @@ use crate::terms::{LogicVar, ProgVar};
 use crate::text::Text;
 use crate::values::Value;
 
-/// Whether the texts have the same bytes. Most names that differ differ in length or in their last
-/// byte.
+/// Whether the texts have the same bytes.
+#[inline(always)]
 pub fn same_text(left: &Text, right: &Text) -> bool
     ensures { result ≡ bytes_eq left.now right.now }
 {
-    let (left, right) = (left.as_str().as_bytes(), right.as_str().as_bytes());
-    if left.len() != right.len() || left.last() != right.last() {
-        return false;
-    }
-    left == right
+    left.is_same(right)
 }
 
 /// Whether the sorts of values are the same.

@@ -1,5 +1,5 @@
 //! Short texts, which lie in the value itself and take no memory.
-ghost use Rattle.std.specs.Prelude.{◌≡◌, [], ◌++◌, IfSome, MatchBool};
+ghost use Rattle.std.specs.Prelude.{◌≡◌, [], ◌++◌, IfSome, MatchBool, bytes_eq};
 ghost use Rattle.std.specs.Char.{encode_utf8};
 
 use std::marker::Model;
@@ -8,7 +8,8 @@ use std::str;
 /// The most bytes of a short text: what fits beside its length and the tag of a text in two words.
 const MOST_SHORT: usize = 14;
 
-/// A text of few bytes, seen as the list of its UTF-8 bytes.
+/// A text of few bytes, seen as the list of its UTF-8 bytes. Those behind its length are 0, so that
+/// two texts are compared without a loop.
 #[derive(Drop)]
 pub(crate) struct ShortText {
     bytes: [u8; MOST_SHORT],
@@ -16,13 +17,14 @@ pub(crate) struct ShortText {
 }
 
 impl Model for ShortText {
-    ghost use Rattle.std.specs.Prelude.{◌≤◌, List, ℕ, take, IsUtf8};
+    ghost use Rattle.std.specs.Prelude.{◌≡◌, ◌≤◌, ◌-◌, List, ℕ, take, drop, replicate, IsUtf8};
 
     ghost Value = { List ℕ };
 
     ghost view = { λ short. take short.len short.bytes };
 
-    ghost invariant = { λ short. (short.len ≤ 14) × ∥ IsUtf8 (take short.len short.bytes) ∥₁ };
+    ghost invariant = { λ short. (short.len ≤ 14) × ∥ IsUtf8 (take short.len short.bytes) ∥₁
+        × (drop short.len short.bytes ≡ replicate (14 - short.len) 0) };
 }
 
 impl ShortText {
@@ -65,6 +67,14 @@ impl ShortText {
         self.bytes[len] = character as u8;
         self.len += 1;
         true
+    }
+
+    /// Whether the texts have the same bytes.
+    #[inline(always)]
+    pub(crate) fn is_same(&self, other: &ShortText) -> bool
+        ensures { result ≡ bytes_eq self.now other.now }
+    {
+        self.len == other.len && self.bytes == other.bytes
     }
 
     /// The characters.

@@ -1,5 +1,5 @@
 //! Texts: names, symbols and literals.
-ghost use Rattle.std.specs.Prelude.{◌≡◌, ◌≤◌, ◌↔◌, [], ◌++◌, length, slice_get, option_copied};
+ghost use Rattle.std.specs.Prelude.{◌≡◌, ◌≤◌, ◌↔◌, [], ◌++◌, length, slice_get, option_copied, bytes_eq};
 ghost use Rattle.std.specs.Prelude.{IsNone, IfOk, OnOk, OnErr, MatchBool};
 ghost use Rattle.std.specs.Char.{encode_utf8};
 ghost use Rattle.dom_terms.specs.Letters.{letters_bytes};
@@ -133,6 +133,17 @@ impl Text {
         ensures absent { IsNone result ↔ (length self.now ≤ place) }
     {
         self.as_str().as_bytes().get(place)
+    }
+
+    /// Whether the texts have the same bytes.
+    #[inline(always)]
+    pub fn is_same(&self, other: &Text) -> bool
+        ensures { result ≡ bytes_eq self.now other.now }
+    {
+        match (&self.letters, &other.letters) {
+            (Letters::Short(left), Letters::Short(right)) => left.is_same(right),
+            _ => self.as_str() == other.as_str(),
+        }
     }
 
     /// The characters of the text.

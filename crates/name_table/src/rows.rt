@@ -1,24 +1,31 @@
 // Rows of a few names, each with a value, that are walked from the first on.
 ghost use Rattle.std.specs.Prelude.{◌≡◌, bytes_eq};
+ghost use Rattle.std.specs.Bool.{OnTrue};
 ghost use Rattle.std.specs.List.{position_or_len};
 
-// Whether the bytes are the same.
-fn same_bytes(left: &[u8], right: &[u8]) -> bool
-    ensures { result ≡ bytes_eq left.now right.now }
+// Whether the bytes are one or two, and the same.
+#[inline(always)]
+fn are_few_and_same(left: &[u8], right: &[u8]) -> bool
+    ensures { OnTrue result (left.now ≡ right.now) }
 {
-    left == right
+    match (left, right) {
+        ([first], [other]) => first == other,
+        ([first, last], [other, other_last]) => first == other && last == other_last,
+        _ => false,
+    }
 }
 
-// Whether the names are the same. Most that differ differ in length or in their last byte.
+// Whether the names are the same. Most that differ differ in length or in their last byte, and most
+// have one letter or two.
 #[inline(always)]
 fn same_name(left: &str, right: &str) -> bool
     ensures { result ≡ bytes_eq left.now right.now }
 {
-    let (left, right) = (left.as_bytes(), right.as_bytes());
-    if left.len() != right.len() || left.last() != right.last() {
+    let (own, other) = (left.as_bytes(), right.as_bytes());
+    if own.len() != other.len() || own.last() != other.last() {
         return false;
     }
-    same_bytes(left, right)
+    are_few_and_same(own, other) || left == right
 }
 
 /// The place of the name in the row: its length where the name isn't there.

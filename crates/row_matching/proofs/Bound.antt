@@ -15,6 +15,7 @@ use Rattle.model_formulas.proofs.Nameless.{formula-then, formula-variable}
 use Rattle.model_formulas.proofs.Renaming.{exists-renamed}
 use Rattle.model_formulas.proofs.SameFormulas.{same_formula-is, same_formula-refl}
 use Rattle.formula_syntax.specs.FreeVariables.{is_among, occurrences}
+use Rattle.dom_terms.proofs.SameTruth.{same_truth}
 use Rattle.rule_table.specs.Letters.{LogicVar, as_logic}
 use Rattle.rule_table.proofs.Opening.{opening}
 use Rattle.opened_formulas.specs.declared.candidates.Candidate.{Candidate}
@@ -59,12 +60,6 @@ replaced-fits x y t u p q n r a b d e =
     ∙ (λ i. same_formula (formula_with (replacing (sym a i) (b i)) (d i)) n))
 
 -- BINDERS
-alike : (a b : Bool) → (a ≡ true → b ≡ true) → (b ≡ true → a ≡ true) → a ≡ b
-alike true true f g = refl
-alike true false f g = sym (f refl)
-alike false true f g = g refl
-alike false false f g = refl
-
 closed-other : (x z : Var) → (z ≡ x → ⊥) → (d : Dec (z ≡ x))
     → closing_at {x = x} d ≡ raised (variable z)
 closed-other x z n (yes e) = absurd (n e)
@@ -156,7 +151,7 @@ module _ (x y : LogicVar) (f : Formula) (n : Named) where
 
   bound-fits : x.sort ≡ y.sort → (is_absent && same_formula f inside)
       ≡ same_formula (formula_with (closing X) f) (formula_with (closing Y) (nameless n))
-  bound-fits s = alike _ _ forth (λ h. back-again (same_formula-is _ _ h))
+  bound-fits s = same_truth _ _ forth (λ h. back-again (same_formula-is _ _ h))
     where
       forth : (is_absent && same_formula f inside) ≡ true
           → same_formula (formula_with (closing X) f) (formula_with (closing Y) (nameless n))

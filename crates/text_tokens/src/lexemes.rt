@@ -48,17 +48,6 @@ impl<'a> Lexeme<'a> {
         }
     }
 
-    /// Whether the token may be a symbol or a reserved word: where it isn't, it is none.
-    pub fn may_be_terminal(self) -> bool
-        ensures { result ≡ false → (text : List ℕ) → lexeme_seen self.entry ≢ terminal text }
-    {
-        match self.kind {
-            TokenKind::Symbol => true,
-            TokenKind::Word => is_reserved(self.text),
-            _ => false,
-        }
-    }
-
     /// Whether the token is the reserved word `step`; its line is the token's.
     #[inline(always)]
     pub fn is_step(self) -> bool

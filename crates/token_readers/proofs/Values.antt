@@ -1,15 +1,11 @@
 -- What the answers of the questions on a token say of what the grammar sees of it.
 use Rattle.std.proofs.Common.{◌≡◌, ℕ, Bool, true, false, List, Some, None, refl, sym, ap, ◌∙◌, bytes_eq, IsTrue, codes, if◌then◌else◌}
 use Rattle.std.proofs.lemmas.Slice.Eq.{bytes_eq-Decides}
+use Rattle.dom_terms.proofs.SameTruth.{same_truth}
 use Rattle.model_text.specs.Lexemes.{Lexeme, terminal, step_word, name_lexeme, number_lexeme, word_lexeme, is_reserved}
 use Rattle.token_readers.specs.Reading.{is_terminal}
 use Rattle.token_readers.specs.Leaves.{leaf_name, leaf_word, leaf_number}
 use Rattle.token_readers.proofs.TerminalTests.{is_terminal_is, text_refl}
-
-same_truth : (b c : Bool) → (b ≡ true → c ≡ true) → (c ≡ true → b ≡ true) → b ≡ c
-same_truth true c f g = sym (f refl)
-same_truth false true f g = g refl
-same_truth false false f g = refl
 
 -- whether a lexeme is a terminal
 pub terminal_value : (b : Bool) (text : List ℕ) (l : Lexeme) → (IsTrue b → l ≡ terminal text)

@@ -12,4 +12,4 @@ mod terminals;
 pub use fault::{ReadFault, TextFault};
 pub use leaves::{name, number, step_line, word};
 pub use listed::{Gathers, Reader, repeated, separated};
-pub use terminals::{after, expect, is_this, may_be_terminal};
+pub use terminals::{after, expect, is_this};

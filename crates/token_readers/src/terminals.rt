@@ -16,15 +16,6 @@ pub fn is_this(token: Lexeme, text: &str) -> bool
     token.is_terminal(text)
 }
 
-/// Whether the token may be a reserved word or a symbol.
-#[tactic(auto, using(crate::proofs::TerminalTests::is_no_terminal))]
-pub fn may_be_terminal(token: Lexeme) -> bool
-    ensures { result ≡ false → (text : List ℕ)
-        → is_terminal text (lexeme_seen token.entry) ≡ false }
-{
-    token.may_be_terminal()
-}
-
 /// What stands behind the reserved word or symbol, where it comes first.
 #[inline(always)]
 pub fn after<'a>(tokens: Front<'a>, text: &str) -> Option<Front<'a>>
