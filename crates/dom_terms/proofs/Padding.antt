@@ -19,7 +19,7 @@ same_before n xs ys behind =
     let whole = bytes_eq-Decides xs ys in
     let before = bytes_eq-Decides (take n xs) (take n ys) in
     same_truth (bytes_eq xs ys) (bytes_eq (take n xs) (take n ys))
-        (λ is. before.1 (ap (take n) (whole.0 is)))
-        (λ is. whole.1 (sym (take-append-drop n xs)
-        ∙ ap (λ front. front ++ drop n xs) (before.0 is)
-        ∙ ap (λ rest. take n ys ++ rest) behind ∙ take-append-drop n ys))
+    (λ is. before.1 (ap (take n) (whole.0 is)))
+    (λ is. whole.1 (sym (take-append-drop n xs)
+    ∙ ap (λ front. front ++ drop n xs) (before.0 is)
+    ∙ ap (λ rest. take n ys ++ rest) behind ∙ take-append-drop n ys))

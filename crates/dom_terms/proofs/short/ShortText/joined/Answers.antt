@@ -24,5 +24,5 @@ invariant_of-result c =
           (omega (arith, c.if-more-len.false))
           (omega (arith, c.self.told, c.self.invariant.0))
           (omega (arith, longer))
-      ∙ padded_behind len (length c.args.more.now) c.self.inside.bytes c.self.invariant.2,
+          ∙ padded_behind len (length c.args.more.now) c.self.inside.bytes c.self.invariant.2,
     )

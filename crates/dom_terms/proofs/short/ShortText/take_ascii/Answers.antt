@@ -22,5 +22,5 @@ invariant_of-self c =
           (IsUtf8-append _ _ (IsUtf8-had _ c.self.invariant.1) own)
           ∣₁,
       drop-set-lt (len + 1) c.self.inside.bytes len c.args.character (omega arith)
-      ∙ padded_behind len 1 c.self.inside.bytes c.self.invariant.2,
+          ∙ padded_behind len 1 c.self.inside.bytes c.self.invariant.2,
     )
