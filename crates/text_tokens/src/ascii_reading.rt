@@ -193,6 +193,7 @@ impl<'a> AsciiFront<'a> {
         let lines = newlines_in(self.bytes, from, length);
         settled(self.bytes, from + length, self.line + lines)
     }
+
     /// How many tokens are left. It reads them all.
     pub fn count(self) -> usize
         ensures { result ≡ length (left_at self.entry) }

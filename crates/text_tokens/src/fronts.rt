@@ -62,6 +62,7 @@ impl<'a> Front<'a> {
 
     /// The tokens behind the first.
     #[tactic(auto, unfolding(crate::specs::Lexemes::lexemes_in))]
+    #[inline(always)]
     pub fn behind(self) -> Front<'a>
         ensures { lexemes_in result ≡ drop 1 (lexemes_in self.entry) }
     {
@@ -91,8 +92,9 @@ impl<'a> Front<'a> {
         self.first().is_none()
     }
 
-    /// How many tokens are left. It reads them all.
+    /// How many tokens are left. It reads them all, and is asked where a text is refused.
     #[tactic(auto, unfolding(crate::specs::Lexemes::lexemes_in))]
+    #[inline(never)]
     pub fn count(self) -> usize
         ensures { result ≡ length (lexemes_in self.entry) }
     {
