@@ -1,7 +1,10 @@
 -- What the tables of a scope answer is what the tests of a variable ask.
-use Rattle.std.proofs.Common.{◌≡◌, ◌∙◌, sym, refl, ap, ℕ, List, Option, Some, None, is_some}
+use Rattle.std.proofs.Common.{◌≡◌, ◌∙◌, sym, refl, ap, ℕ, List, [], ◌∷◌, Bool, true, false, ◌&&◌, Option, Some, None, is_some}
 use Rattle.std.specs.Option.{option_map}
-use Rattle.model_terms.specs.Variables.{prog, logic}
+use Rattle.std.specs.Bool.{OnTrue}
+use Rattle.std.specs.List.{list_all}
+use Rattle.std.proofs.lemmas.Bool.{and_from, and_parts}
+use Rattle.model_terms.specs.Variables.{Var, prog, logic}
 use Rattle.model_shapes.specs.Sorts as sorts
 use Rattle.model_files.specs.FileFaults.{declared_by, is_known, is_as_declared}
 use Rattle.dom_terms.specs.Sorts.{value_sort_of, sort_of}
@@ -13,7 +16,7 @@ use Rattle.dom_syntax.specs.declared.scopes.Names.{Names}
 use Rattle.dom_syntax.specs.Callees.{callee_of}
 use Rattle.dom_syntax.specs.Tables.{found}
 use Rattle.dom_syntax.specs.Scopes.{HasNames, IsScope, callees_in, names_in, procedure_in}
-use Rattle.dom_syntax.specs.ScopeTests.{sort_fits, logic_sort_fits}
+use Rattle.dom_syntax.specs.ScopeTests.{is_settled, sort_fits, logic_sort_fits}
 use Rattle.dom_syntax.proofs.ScopeLaws.{first-procedure, known-prog, known-logic, as-declared-prog, as-declared-logic}
 
 some-seen : {V W : Type 0} (seen : V → W) (o : Option V) → is_some o ≡ is_some (option_map seen o)
@@ -52,6 +55,46 @@ module _ (scope : Scope) (is : IsScope scope) (name : List ℕ) where
       ∙ sym (as-declared-logic name s (declared_by (procedure_in scope))
       scope.names.now.theory.now.logic)
 
+  pub prog-settled : (s : sorts.ValueSort) (o : Option ValueSort)
+      → o ≡ found scope.variables name
+      → (is_some o && sort_fits (option_map value_sort_of o) s)
+      ≡ is_settled (names_in scope) (prog name s)
+  prog-settled s o e =
+      (λ j. is_some (e j) && prog-declared s o e j)
+      ∙ (λ j. prog-known s j && is_as_declared (names_in scope) (prog name s))
+
+  pub logic-settled : (s : sorts.Sort) (o : Option Sort)
+      → o ≡ found scope.names.now.logic name
+      → (is_some o && logic_sort_fits (option_map sort_of o) s)
+      ≡ is_settled (names_in scope) (logic name s)
+  logic-settled s o e =
+      (λ j. is_some (e j) && logic-declared s o e j)
+      ∙ (λ j. logic-known s j && is_as_declared (names_in scope) (logic name s))
+
+all-weaker : (p q : Var → Bool) → ((x : Var) → p x ≡ true → q x ≡ true) → (xs : List Var)
+    → list_all p xs ≡ true → list_all q xs ≡ true
+all-weaker p q f [] all = refl
+all-weaker p q f (x ∷ xs) all =
+    and_from _ _ (f x (and_parts _ _ all).0) (all-weaker p q f xs (and_parts _ _ all).1)
+
+-- variables that are settled pass both tests
+module _ (declared : List Var) where
+  pub settled-known : (b : Bool) (xs : List Var)
+      → OnTrue b (list_all (is_settled declared) xs ≡ true)
+      → OnTrue b (list_all (is_known declared) xs ≡ true)
+  settled-known false xs all = all
+  settled-known true xs all =
+      all-weaker (is_settled declared) (is_known declared)
+      (λ x e. (and_parts _ _ e).0) xs all
+
+  pub settled-declared : (b : Bool) (xs : List Var)
+      → OnTrue b (list_all (is_settled declared) xs ≡ true)
+      → OnTrue b (list_all (is_as_declared declared) xs ≡ true)
+  settled-declared false xs all = all
+  settled-declared true xs all =
+      all-weaker (is_settled declared) (is_as_declared declared)
+      (λ x e. (and_parts _ _ e).1) xs all
+
 -- what a table of procedures has is the first of the name
 pub called : (names : Names) → HasNames names → (name : List ℕ)
     → option_map callee_of (found names.procedures name) ≡ procedure_named name (callees_in names)
@@ -62,3 +105,5 @@ pub ruleset callee_rules = (called)
 pub ruleset known_rules = (prog-known, logic-known)
 
 pub ruleset declared_rules = (prog-declared, logic-declared)
+
+pub ruleset settled_rules = (settled-known, settled-declared)

@@ -1,5 +1,6 @@
 // What stands in the header of a procedure or in a step: formulas, a command and arguments.
-ghost use Rattle.std.specs.Prelude.{◌≡◌, ◌++◌, map, IfOk};
+ghost use Rattle.std.specs.Prelude.{◌≡◌, ◌++◌, map, true, IfOk};
+ghost use Rattle.std.specs.Bool.{OnTrue};
 ghost use Rattle.std.specs.List.{flat_map, list_all};
 ghost use Rattle.model_commands.specs.CommandParts.{arguments_of, commands_in};
 ghost use Rattle.model_commands.specs.CommandParts.{commands_of_judgement, variables_of};
@@ -102,6 +103,22 @@ impl<'a> Contents<'a> {
         let in_formulas = all_in_formula(test, self.left) && all_in_formula(test, self.right);
         let in_terms = in_formulas && all_in_terms(test, self.arguments);
         Ok(in_terms && all_in_command(test, self.command)?)
+    }
+
+    /// The same where it may be sure that each passes: then none is asked.
+    pub(crate) fn all_pass<T: VariableTest>(
+        &self,
+        test: &T,
+        is_sure: bool,
+    ) -> Result<bool, OutOfMemory>
+        requires ready { T.ready test.now }
+        requires sure { OnTrue is_sure (list_all (T.test test.now) (variables_in self.now) ≡ true) }
+        ensures { IfOk result (λ b. b ≡ list_all (T.test test.now) (variables_in self.now)) }
+    {
+        if is_sure {
+            return Ok(true);
+        }
+        self.all_variables(test)
     }
 
     /// Whether each command that stands there passes.

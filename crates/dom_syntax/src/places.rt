@@ -1,5 +1,6 @@
 // The places of a theory, and the first kind of fault at one.
-ghost use Rattle.std.specs.Prelude.{◌≡◌, ◌&&◌, ◌++◌, Bool, map, IfOk};
+ghost use Rattle.std.specs.Prelude.{◌≡◌, ◌&&◌, ◌++◌, Bool, map, true, IfOk};
+ghost use Rattle.std.specs.Bool.{OnTrue};
 ghost use Rattle.std.specs.Option.{option_map};
 ghost use Rattle.std.specs.List.{list_all};
 ghost use Rattle.model_shapes.specs.Sorts.{shape};
@@ -12,7 +13,8 @@ ghost use Rattle.theory_syntax.specs.Judgements.{judgement_of, reason_of, step_o
 ghost use Rattle.dom_syntax.specs.Contents.{commands_there, variables_in};
 ghost use Rattle.dom_syntax.specs.Faults.{kind_of};
 ghost use Rattle.dom_syntax.specs.Heads.{earlier_for};
-ghost use Rattle.dom_syntax.specs.Scopes.{HasNames, IsScope, procedure_in, theory_in};
+ghost use Rattle.dom_syntax.specs.Scopes.{HasNames, IsScope, names_in, procedure_in, theory_in};
+ghost use Rattle.dom_syntax.specs.ScopeTests.{is_settled, HeadSettled, StepSettled};
 ghost use Rattle.model_files.specs.Sizes.{IsSmall, JudgementIsSmall};
 
 use crate::contents::Contents;
@@ -69,25 +71,30 @@ pub(crate) fn first_kind<P: Place>(place: &P) -> Result<Option<FileKind>, OutOfM
     Ok(None)
 }
 
-// Whether there is no fault of the kind among the variables and commands that stand in a procedure.
+// Whether there is no fault of the kind among the variables and commands that stand in a procedure,
+// whose variables may be settled.
+#[tactic(auto, using(crate::proofs::ScopeTestLaws::settled_rules))]
 fn passes_inside(
     alloc: Global,
     scope: &Scope,
     contents: &Contents,
+    are_settled: bool,
     kind: FileKind,
 ) -> Result<bool, OutOfMemory>
-    requires { IsScope scope.now }
+    requires scope { IsScope scope.now }
+    requires settled { OnTrue are_settled
+        (list_all (is_settled (names_in scope.now)) (variables_in contents.now) ≡ true) }
     ensures { IfOk result (λ b. b ≡ model.inside (theory_in scope.now.names.now)
         (procedure_in scope.now) (variables_in contents.now) (commands_there contents.now)
         (kind_of kind)) }
 {
     match kind {
         FileKind::Unknown => Ok(
-            contents.all_variables(&Known(scope))?
+            contents.all_pass(&Known(scope), are_settled)?
                 && contents.all_commands(&CalleeKnown(scope.names))?,
         ),
         FileKind::Sort => Ok(
-            contents.all_variables(&AsDeclared(scope))?
+            contents.all_pass(&AsDeclared(scope), are_settled)?
                 && contents.all_commands(&PartsFit(scope.names))?,
         ),
         FileKind::Constant => contents.all_commands(&Spares(scope)),
@@ -142,6 +149,8 @@ pub(crate) struct Header<'a> {
     pub(crate) alloc: Global,
     pub(crate) scope: &'a Scope<'a>,
     pub(crate) is_new: bool,
+    /// Its variables are declared, with their sorts; where not, that isn't known.
+    pub(crate) are_settled: bool,
 }
 
 // Whether both formulas of the header may be judged at its sort.
@@ -180,7 +189,8 @@ fn is_head_in_scope(scope: &Scope) -> bool
 impl<'a> Place for Header<'a> {
     ghost ready = { λ head. IsScope head.scope.now
         × IsSmall (procedure_in head.scope.now).pre
-        × IsSmall (procedure_in head.scope.now).post };
+        × IsSmall (procedure_in head.scope.now).post
+        × HeadSettled head.are_settled head.scope.now };
 
     ghost tests = { λ head kind. model.header (theory_in head.scope.now.names.now)
         (earlier_for head.is_new (procedure_in head.scope.now)) (procedure_in head.scope.now)
@@ -200,12 +210,13 @@ impl<'a> Place for Header<'a> {
 impl<'a> Header<'a> {
     // Whether there is no fault of the kind among its variables and commands.
     fn passes_inside(&self, kind: FileKind) -> Result<bool, OutOfMemory>
-        requires { IsScope self.now.scope.now }
+        requires scope { IsScope self.now.scope.now }
+        requires settled { HeadSettled self.now.are_settled self.now.scope.now }
         ensures { IfOk result (λ b. b ≡ model.inside_head (theory_in self.now.scope.now.names.now)
             (procedure_in self.now.scope.now) (kind_of kind)) }
     {
         let contents = Contents::of_head(self.scope.procedure);
-        passes_inside(self.alloc, self.scope, &contents, kind)
+        passes_inside(self.alloc, self.scope, &contents, self.are_settled, kind)
     }
 }
 
@@ -265,23 +276,28 @@ pub(crate) struct ProofStep<'a> {
     pub(crate) scope: &'a Scope<'a>,
     pub(crate) place: u32,
     pub(crate) step: &'a Step,
+    /// Its variables are declared, with their sorts; where not, that isn't known.
+    pub(crate) are_settled: bool,
 }
 
 impl<'a> ProofStep<'a> {
     // Whether there is no fault of the kind among its variables and commands.
     fn passes_inside(&self, kind: FileKind) -> Result<bool, OutOfMemory>
-        requires { IsScope self.now.scope.now }
+        requires scope { IsScope self.now.scope.now }
+        requires settled { StepSettled self.now.are_settled self.now.scope.now
+            (step_of self.now.step.now) }
         ensures { IfOk result (λ b. b ≡ model.inside_step (theory_in self.now.scope.now.names.now)
             (procedure_in self.now.scope.now) (step_of self.now.step.now) (kind_of kind)) }
     {
         let contents = Contents::of_step(self.step);
-        passes_inside(self.alloc, self.scope, &contents, kind)
+        passes_inside(self.alloc, self.scope, &contents, self.are_settled, kind)
     }
 }
 
 impl<'a> Place for ProofStep<'a> {
     ghost ready = { λ at. IsScope at.scope.now
-        × JudgementIsSmall (judgement_of at.step.now.judgement) };
+        × JudgementIsSmall (judgement_of at.step.now.judgement)
+        × StepSettled at.are_settled at.scope.now (step_of at.step.now) };
 
     ghost tests = { λ at kind. model.proof_step (theory_in at.scope.now.names.now)
         (procedure_in at.scope.now) at.place (step_of at.step.now) kind };

@@ -14,8 +14,10 @@ ghost use Rattle.model_files.specs.Sizes.{ProcedureIsSmall, TheoryIsSmall};
 ghost use Rattle.std.specs.Option.{option_map};
 ghost use Rattle.dom_syntax.specs.declared.programs.ProgramFault.TheVariants as f;
 
+use crate::contents::Contents;
 use crate::kinds::FileKind;
 use crate::places::{Declarations, Header, ProofStep, first_kind};
+use crate::scope_tests::Settled;
 use crate::scopes::{Names, Scope};
 use crate::tables::Table;
 use dom_terms::OutOfMemory;
@@ -72,11 +74,13 @@ fn check_step_at(
         (model.step_kind (theory_in scope.now.names.now) (procedure_in scope.now) place
         (step_of step.now))) }
 {
+    let are_settled = Contents::of_step(step).all_variables(&Settled(scope))?;
     let at = ProofStep {
         alloc,
         scope,
         place,
         step,
+        are_settled,
     };
     verdict(procedure, place, first_kind(&at)?)
 }
@@ -113,10 +117,12 @@ fn check_header(
         → Reports result (step_fault procedure 0
         (model.head_kind (theory_in scope.now.names.now) earlier (procedure_in scope.now))) }
 {
+    let are_settled = Contents::of_head(scope.procedure).all_variables(&Settled(scope))?;
     let head = Header {
         alloc,
         scope,
         is_new,
+        are_settled,
     };
     verdict(procedure, 0, first_kind(&head)?)
 }

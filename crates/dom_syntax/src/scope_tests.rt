@@ -1,10 +1,10 @@
-// Tests of variables against the names that may be used: known, declared with their sorts, and some
-// of the parameters or results.
+// Tests of variables against the names that may be used: known, declared with their sorts, both, and
+// some of the parameters or results.
 ghost use Rattle.std.specs.Prelude.{◌++◌, cond, true};
 ghost use Rattle.model_terms.specs.Variables.{Var};
 ghost use Rattle.model_files.specs.FileFaults.{is_as_declared, is_known};
 ghost use Rattle.dom_syntax.specs.Scopes.{IsScope, names_in};
-ghost use Rattle.dom_syntax.specs.ScopeTests.{allowed_in, may_stand};
+ghost use Rattle.dom_syntax.specs.ScopeTests.{allowed_in, is_settled, may_stand};
 
 use crate::scopes::Scope;
 use crate::variable_tests::VariableTest;
@@ -52,6 +52,33 @@ impl<'a> VariableTest for AsDeclared<'a> {
         match self.0.names.logic.get(variable.name.as_str()) {
             Some(sort) => same_sort(sort, variable.sort),
             None => true,
+        }
+    }
+}
+
+/// Whether the name of the variable is declared, first with its sort: both tests above, in one
+/// look-up.
+#[derive(Drop)]
+pub(crate) struct Settled<'a>(pub(crate) &'a Scope<'a>);
+
+impl<'a> VariableTest for Settled<'a> {
+    ghost ready = { λ settled. IsScope settled.0.now };
+
+    ghost test = { λ settled x. is_settled (names_in settled.0.now) x };
+
+    #[tactic(auto, using(crate::proofs::ScopeTestLaws::settled_rules))]
+    fn takes_prog(&self, variable: &ProgVar) -> bool {
+        match self.0.variables.get(variable.name.as_str()) {
+            Some(sort) => same_value_sort(sort, variable.sort),
+            None => false,
+        }
+    }
+
+    #[tactic(auto, using(crate::proofs::ScopeTestLaws::settled_rules))]
+    fn takes_logic(&self, variable: &LogicVar) -> bool {
+        match self.0.names.logic.get(variable.name.as_str()) {
+            Some(sort) => same_sort(sort, variable.sort),
+            None => false,
         }
     }
 }
