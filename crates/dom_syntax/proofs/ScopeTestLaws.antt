@@ -16,12 +16,17 @@ use Rattle.dom_syntax.specs.declared.scopes.Names.{Names}
 use Rattle.dom_syntax.specs.Callees.{callee_of}
 use Rattle.dom_syntax.specs.Tables.{found}
 use Rattle.dom_syntax.specs.Scopes.{HasNames, IsScope, callees_in, names_in, procedure_in}
-use Rattle.dom_syntax.specs.ScopeTests.{is_settled, sort_fits, logic_sort_fits}
+use Rattle.dom_syntax.specs.ScopeTests.{is_settled, may_be_declared, sort_fits, logic_sort_fits}
 use Rattle.dom_syntax.proofs.ScopeLaws.{first-procedure, known-prog, known-logic, as-declared-prog, as-declared-logic}
 
 some-seen : {V W : Type 0} (seen : V → W) (o : Option V) → is_some o ≡ is_some (option_map seen o)
 some-seen seen None = refl
 some-seen seen (Some v) = refl
+
+-- whether a variable passes whose name is declared or not, with its sort or not
+abbrev pub passes : Bool → Bool → Bool → Bool
+passes true known fits = fits
+passes false known fits = known && fits
 
 module _ (scope : Scope) (is : IsScope scope) (name : List ℕ) where
   pub prog-known : (s : sorts.ValueSort)
@@ -55,21 +60,32 @@ module _ (scope : Scope) (is : IsScope scope) (name : List ℕ) where
       ∙ sym (as-declared-logic name s (declared_by (procedure_in scope))
       scope.names.now.theory.now.logic)
 
-  pub prog-settled : (s : sorts.ValueSort) (o : Option ValueSort)
+  pub prog-passes : (b : Bool) (s : sorts.ValueSort) (o : Option ValueSort)
       → o ≡ found scope.variables name
-      → (is_some o && sort_fits (option_map value_sort_of o) s)
-      ≡ is_settled (names_in scope) (prog name s)
-  prog-settled s o e =
+      → passes b (is_some o) (sort_fits (option_map value_sort_of o) s)
+      ≡ may_be_declared b (names_in scope) (prog name s)
+  prog-passes true s o e = prog-declared s o e
+  prog-passes false s o e =
       (λ j. is_some (e j) && prog-declared s o e j)
       ∙ (λ j. prog-known s j && is_as_declared (names_in scope) (prog name s))
 
-  pub logic-settled : (s : sorts.Sort) (o : Option Sort)
+  pub logic-passes : (b : Bool) (s : sorts.Sort) (o : Option Sort)
       → o ≡ found scope.names.now.logic name
-      → (is_some o && logic_sort_fits (option_map sort_of o) s)
-      ≡ is_settled (names_in scope) (logic name s)
-  logic-settled s o e =
+      → passes b (is_some o) (logic_sort_fits (option_map sort_of o) s)
+      ≡ may_be_declared b (names_in scope) (logic name s)
+  logic-passes true s o e = logic-declared s o e
+  logic-passes false s o e =
       (λ j. is_some (e j) && logic-declared s o e j)
       ∙ (λ j. logic-known s j && is_as_declared (names_in scope) (logic name s))
+
+-- where it is found, its sort decides, and where not, whether unknown ones pass
+pub found-passes : (b r : Bool) → passes b true r ≡ r
+found-passes true r = refl
+found-passes false r = refl
+
+pub absent-passes : (b : Bool) → passes b false true ≡ b
+absent-passes true = refl
+absent-passes false = refl
 
 all-weaker : (p q : Var → Bool) → ((x : Var) → p x ≡ true → q x ≡ true) → (xs : List Var)
     → list_all p xs ≡ true → list_all q xs ≡ true

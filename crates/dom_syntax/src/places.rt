@@ -71,6 +71,18 @@ pub(crate) fn first_kind<P: Place>(place: &P) -> Result<Option<FileKind>, OutOfM
     Ok(None)
 }
 
+/// Whether each variable that stands there is declared, first with its sort.
+pub(crate) fn are_settled(scope: &Scope, contents: &Contents) -> Result<bool, OutOfMemory>
+    requires { IsScope scope.now }
+    ensures { IfOk result (λ b. b
+        ≡ list_all (is_settled (names_in scope.now)) (variables_in contents.now)) }
+{
+    contents.all_variables(&AsDeclared {
+        scope,
+        takes_unknown: false,
+    })
+}
+
 // Whether there is no fault of the kind among the variables and commands that stand in a procedure,
 // whose variables may be settled.
 #[tactic(auto, using(crate::proofs::ScopeTestLaws::settled_rules))]
@@ -88,13 +100,17 @@ fn passes_inside(
         (procedure_in scope.now) (variables_in contents.now) (commands_there contents.now)
         (kind_of kind)) }
 {
+    let declared = AsDeclared {
+        scope,
+        takes_unknown: true,
+    };
     match kind {
         FileKind::Unknown => Ok(
             contents.all_pass(&Known(scope), are_settled)?
                 && contents.all_commands(&CalleeKnown(scope.names))?,
         ),
         FileKind::Sort => Ok(
-            contents.all_pass(&AsDeclared(scope), are_settled)?
+            contents.all_pass(&declared, are_settled)?
                 && contents.all_commands(&PartsFit(scope.names))?,
         ),
         FileKind::Constant => contents.all_commands(&Spares(scope)),

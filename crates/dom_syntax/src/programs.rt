@@ -16,8 +16,7 @@ ghost use Rattle.dom_syntax.specs.declared.programs.ProgramFault.TheVariants as 
 
 use crate::contents::Contents;
 use crate::kinds::FileKind;
-use crate::places::{Declarations, Header, ProofStep, first_kind};
-use crate::scope_tests::Settled;
+use crate::places::{Declarations, Header, ProofStep, are_settled, first_kind};
 use crate::scopes::{Names, Scope};
 use crate::tables::Table;
 use dom_terms::OutOfMemory;
@@ -74,7 +73,7 @@ fn check_step_at(
         (model.step_kind (theory_in scope.now.names.now) (procedure_in scope.now) place
         (step_of step.now))) }
 {
-    let are_settled = Contents::of_step(step).all_variables(&Settled(scope))?;
+    let are_settled = are_settled(scope, &Contents::of_step(step))?;
     let at = ProofStep {
         alloc,
         scope,
@@ -117,7 +116,7 @@ fn check_header(
         → Reports result (step_fault procedure 0
         (model.head_kind (theory_in scope.now.names.now) earlier (procedure_in scope.now))) }
 {
-    let are_settled = Contents::of_head(scope.procedure).all_variables(&Settled(scope))?;
+    let are_settled = are_settled(scope, &Contents::of_head(scope.procedure))?;
     let head = Header {
         alloc,
         scope,

@@ -1,10 +1,10 @@
-// Tests of variables against the names that may be used: known, declared with their sorts, both, and
-// some of the parameters or results.
-ghost use Rattle.std.specs.Prelude.{◌++◌, cond, true};
+// Tests of variables against the names that may be used: known, declared with their sorts, and some
+// of the parameters or results.
+ghost use Rattle.std.specs.Prelude.{◌++◌};
 ghost use Rattle.model_terms.specs.Variables.{Var};
-ghost use Rattle.model_files.specs.FileFaults.{is_as_declared, is_known};
+ghost use Rattle.model_files.specs.FileFaults.{is_known};
 ghost use Rattle.dom_syntax.specs.Scopes.{IsScope, names_in};
-ghost use Rattle.dom_syntax.specs.ScopeTests.{allowed_in, is_settled, may_stand};
+ghost use Rattle.dom_syntax.specs.ScopeTests.{allowed_in, may_be_declared, may_stand};
 
 use crate::scopes::Scope;
 use crate::variable_tests::VariableTest;
@@ -30,55 +30,33 @@ impl<'a> VariableTest for Known<'a> {
     }
 }
 
-/// Whether the variable has the sort with which its name is declared first, if it is declared.
+/// Whether the variable has the sort with which its name is declared first, where it is declared.
+/// One that isn't passes only where it may.
 #[derive(Drop)]
-pub(crate) struct AsDeclared<'a>(pub(crate) &'a Scope<'a>);
-
-impl<'a> VariableTest for AsDeclared<'a> {
-    ghost ready = { λ declared. IsScope declared.0.now };
-
-    ghost test = { λ declared x. is_as_declared (names_in declared.0.now) x };
-
-    #[tactic(auto, using(crate::proofs::ScopeTestLaws::declared_rules))]
-    fn takes_prog(&self, variable: &ProgVar) -> bool {
-        match self.0.variables.get(variable.name.as_str()) {
-            Some(sort) => same_value_sort(sort, variable.sort),
-            None => true,
-        }
-    }
-
-    #[tactic(auto, using(crate::proofs::ScopeTestLaws::declared_rules))]
-    fn takes_logic(&self, variable: &LogicVar) -> bool {
-        match self.0.names.logic.get(variable.name.as_str()) {
-            Some(sort) => same_sort(sort, variable.sort),
-            None => true,
-        }
-    }
+pub(crate) struct AsDeclared<'a> {
+    pub(crate) scope: &'a Scope<'a>,
+    pub(crate) takes_unknown: bool,
 }
 
-/// Whether the name of the variable is declared, first with its sort: both tests above, in one
-/// look-up.
-#[derive(Drop)]
-pub(crate) struct Settled<'a>(pub(crate) &'a Scope<'a>);
+impl<'a> VariableTest for AsDeclared<'a> {
+    ghost ready = { λ declared. IsScope declared.scope.now };
 
-impl<'a> VariableTest for Settled<'a> {
-    ghost ready = { λ settled. IsScope settled.0.now };
+    ghost test = { λ declared x. may_be_declared declared.takes_unknown
+        (names_in declared.scope.now) x };
 
-    ghost test = { λ settled x. is_settled (names_in settled.0.now) x };
-
-    #[tactic(auto, using(crate::proofs::ScopeTestLaws::settled_rules))]
+    #[tactic(auto, using(crate::proofs::ScopeTestLaws::declared_rules))]
     fn takes_prog(&self, variable: &ProgVar) -> bool {
-        match self.0.variables.get(variable.name.as_str()) {
+        match self.scope.variables.get(variable.name.as_str()) {
             Some(sort) => same_value_sort(sort, variable.sort),
-            None => false,
+            None => self.takes_unknown,
         }
     }
 
-    #[tactic(auto, using(crate::proofs::ScopeTestLaws::settled_rules))]
+    #[tactic(auto, using(crate::proofs::ScopeTestLaws::declared_rules))]
     fn takes_logic(&self, variable: &LogicVar) -> bool {
-        match self.0.names.logic.get(variable.name.as_str()) {
+        match self.scope.names.logic.get(variable.name.as_str()) {
             Some(sort) => same_sort(sort, variable.sort),
-            None => false,
+            None => self.takes_unknown,
         }
     }
 }
