@@ -45,7 +45,7 @@ logic_sort_fits (Some u) s = same_sort u s
 abbrev pub is_settled : List Var → Var → Bool
 is_settled declared x = is_known declared x && is_as_declared declared x
 
--- it has the sort of its first declaration, where it has one; where unknown ones may not pass, it has
+-- it has the sort of its first declaration; unknown ones pass only where they may
 abbrev pub may_be_declared : Bool → List Var → Var → Bool
 may_be_declared true declared x = is_as_declared declared x
 may_be_declared false declared x = is_settled declared x

@@ -7,7 +7,8 @@ pub returns-in-Some : goal.returns-in-Some
 returns-in-Some c =
     c.same_value_sort.ensures ∙ sym (found-passes c.args.self.now.takes_unknown _)
     ∙ prog-passes c.args.self.now.scope.now c.requires c.args.variable.now.name
-    c.args.self.now.takes_unknown (value_sort_of c.args.variable.now.sort) (Some c.in-Some.sort) (cc)
+    c.args.self.now.takes_unknown (value_sort_of c.args.variable.now.sort)
+    (Some c.in-Some.sort) (cc)
 
 pub returns-in-None : goal.returns-in-None
 returns-in-None c =
