@@ -17,6 +17,7 @@ use Rattle.text_tokens.specs.Lexemes.{meant}
 use Rattle.text_tokens.specs.Reading.{tokens_left}
 use Rattle.text_tokens.specs.Standing.{IsSettled}
 use Rattle.text_tokens.specs.Tokens.{kind_of}
+use Rattle.text_tokens.proofs.NewlineLemmas.{token_none}
 use Rattle.text_tokens.proofs.PositionLemmas.{line_step}
 use Rattle.text_tokens.proofs.ReadingLemmas.{left_gap, left_token, left_none, gap_fits, token_fits}
 
@@ -44,6 +45,16 @@ line_behind bytes line from n e =
     back : (p q : ℕ) → q ≡ p + q - p
     back p q = omega arith
 
+-- where none of them is a newline, it is the same
+same_line : (bytes : List ℕ) (line from n : ℕ) → line ≡ line_of bytes from
+    → count_by (λ b. b == newline) (take n (drop from bytes)) ≡ 0
+    → line ≡ line_of bytes (from + n)
+same_line bytes line from n e none =
+    sym (ap (λ k. line + k) none ∙ plus_zero line) ∙ line_behind bytes line from n e
+  where
+    plus_zero : (n : ℕ) → n + 0 ≡ n
+    plus_zero n = omega arith
+
 -- a gap has no token
 pub behind_gap : (bytes : List ℕ) (from n : ℕ) → from ≤ length bytes
     → gap_piece n ≡ piece_at (drop from bytes)
@@ -66,11 +77,8 @@ space_gap bytes place is = sym (ap piece_at (space_drop bytes place is))
 pub space_line : (bytes : List ℕ) (line place : ℕ) → SpaceStands bytes place
     → line ≡ line_of bytes place → line ≡ line_of bytes (place + 1)
 space_line bytes line place is e =
-    sym (ap (λ l. line + count_by (λ b. b == newline) (take 1 l)) (space_drop bytes place is)
-    ∙ plus_zero line) ∙ line_behind bytes line place 1 e
-  where
-    plus_zero : (n : ℕ) → n + 0 ≡ n
-    plus_zero n = omega arith
+    same_line bytes line place 1 e
+    (ap (λ l. count_by (λ b. b == newline) (take 1 l)) (space_drop bytes place is))
 
 -- a token comes first
 pub token_first : (bytes : List ℕ) (from n : ℕ) (kind : model.TokenKind) → from ≤ length bytes
@@ -214,6 +222,14 @@ some_in bytes from n line None is some = absurd (some refl)
 some_in bytes from n line (Some kind) is some =
     let p = token_in bytes from n (kind_of kind) is.within is.stands in
     (p.1, ap (drop 1) (sym (token_first bytes from n (kind_of kind) is.within is.stands)))
+
+-- on the line on which it begins
+pub token_line : (bytes : List ℕ) (from n line : ℕ) (k : Option TokenKind)
+    → IsSettled bytes from n line k → k ≢ None → line ≡ line_of bytes (from + n)
+token_line bytes from n line None is some = absurd (some refl)
+token_line bytes from n line (Some kind) is some =
+    same_line bytes line from n is.line_is
+    (token_none (drop from bytes) (kind_of kind) n is.stands)
 
 -- there are no more than there are steps
 pub few_from : (bytes text : List ℕ) (steps number : ℕ)

@@ -3,6 +3,7 @@ pub mod LexemeLemmas
 pub mod LetterLemmas
 pub mod LimitLemmas
 pub mod LineLemmas
+pub mod NewlineLemmas
 pub mod NumberLemmas
 pub mod PositionLemmas
 pub mod ReadingLemmas

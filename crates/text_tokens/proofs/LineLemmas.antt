@@ -59,13 +59,14 @@ prefix_same p e [] rest = ap (λ b. cond b (1 + prefix_len p rest) 0) e
     ∙ sym (ap (λ b. cond b (1 + prefix_len p []) 0) e)
 prefix_same p e (c ∷ front) rest = ap (λ n. cond (p c) (1 + n) 0) (prefix_same p e front rest)
 
-continue_stops : is_xid_continue newline ≡ false
+-- as words and runs of digits do at a newline
+pub continue_stops : is_xid_continue newline ≡ false
 continue_stops = is_xid_continue-ascii newline (omega arith)
 
-start_stops : starts_word newline ≡ false
+pub start_stops : starts_word newline ≡ false
 start_stops = ap (λ b. b || (newline == 95)) (is_xid_start-ascii newline (omega arith))
 
-run_stops : in_digit_run newline ≡ false
+pub run_stops : in_digit_run newline ≡ false
 run_stops = continue_stops
 
 word_same : (front rest : List ℕ)
@@ -99,7 +100,7 @@ literal_same (c ∷ front) rest = ap (λ n. if c == quote then n else 0) (end_sa
 
 -- SYMBOLS
 -- no newline is among the characters
-abbrev keeps_line : List ℕ → Bool
+abbrev pub keeps_line : List ℕ → Bool
 keeps_line symbol = list_all (λ c. not (c == newline)) symbol
 
 both_true : (a b : Bool) → (a && b) ≡ true → (a ≡ true) × (b ≡ true)

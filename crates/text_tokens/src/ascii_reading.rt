@@ -171,9 +171,9 @@ impl<'a> AsciiFront<'a> {
         }
     }
 
-    /// The tokens behind the first.
+    // The tokens behind the first.
     #[inline(always)]
-    pub fn behind(self) -> AsciiFront<'a>
+    fn behind(self) -> AsciiFront<'a>
         ensures { left_at result ≡ drop 1 (left_at self.entry) }
     {
         match self.kind {
@@ -182,7 +182,7 @@ impl<'a> AsciiFront<'a> {
         }
     }
 
-    // The same where a token stands at the place.
+    // The same where a token stands at the place. No token has a newline, so the line stays.
     #[inline(always)]
     fn behind_token(self) -> AsciiFront<'a>
         requires { self.kind ≢ None }
@@ -190,8 +190,14 @@ impl<'a> AsciiFront<'a> {
     {
         let from = self.from as usize;
         let length = self.length as usize;
-        let lines = newlines_in(self.bytes, from, length);
-        settled(self.bytes, from + length, self.line + lines)
+        settled(self.bytes, from + length, self.line)
+    }
+
+    /// Moves on to the tokens behind the first.
+    pub fn advance(&mut self)
+        ensures { left_at self.new ≡ drop 1 (left_at self.old) }
+    {
+        *self = self.behind();
     }
 
     /// How many tokens are left. It reads them all.
@@ -201,7 +207,7 @@ impl<'a> AsciiFront<'a> {
         let mut left = self;
         let mut found = 0;
         while left.first().is_some() {
-            left = left.behind();
+            left.advance();
             found += 1;
         }
         found

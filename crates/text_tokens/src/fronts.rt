@@ -60,27 +60,15 @@ impl<'a> Front<'a> {
         }
     }
 
-    /// The tokens behind the first.
+    /// Moves on to the tokens behind the first.
     #[tactic(auto, unfolding(crate::specs::Lexemes::lexemes_in))]
     #[inline(always)]
-    pub fn behind(self) -> Front<'a>
-        ensures { lexemes_in result ≡ drop 1 (lexemes_in self.entry) }
+    pub fn advance(&mut self)
+        ensures { lexemes_in self.new ≡ drop 1 (lexemes_in self.old) }
     {
         match self {
-            Front::Listed(tokens) => Front::Listed(behind_listed(tokens)),
-            Front::Ascii(front) => Front::Ascii(front.behind()),
-        }
-    }
-
-    /// The first token and those behind it: none exactly where none is left.
-    #[inline(always)]
-    pub fn split_first(self) -> Option<(Lexeme<'a>, Front<'a>)>
-        ensures { MatchOption result (lexemes_in self.entry ≡ [])
-            (λ x. lexemes_in self.entry ≡ lexeme_seen x.0 ∷ lexemes_in x.1) }
-    {
-        match self.first() {
-            Some(first) => Some((first, self.behind())),
-            None => None,
+            Front::Listed(tokens) => *tokens = behind_listed(tokens),
+            Front::Ascii(front) => front.advance(),
         }
     }
 

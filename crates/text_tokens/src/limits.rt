@@ -46,7 +46,7 @@ fn limit_in(tokens: Front, nesting: u32) -> Option<LimitKind>
 {
     let mut open = 0u64;
     let mut left = tokens;
-    while let Some((token, rest)) = left.split_first() {
+    while let Some(token) = left.first() {
         open = open_behind(open, token);
         if open > u64::from(nesting) {
             return Some(LimitKind::Nesting);
@@ -54,7 +54,7 @@ fn limit_in(tokens: Front, nesting: u32) -> Option<LimitKind>
         if !is_text_within(token) {
             return Some(LimitKind::Text);
         }
-        left = rest;
+        left.advance();
     }
     None
 }
