@@ -114,16 +114,19 @@ fn joint_of(token: Lexeme) -> Option<Connective>
     joining_of(token)
 }
 
-/// A connective and what stands behind it.
-pub fn joint(tokens: Front) -> Result<(Connective, Front), ReadFault>
-    ensures { Gives (λ x. (connective_of x.0, lexemes_in x.1)) result
-        (leaf leaf_connective (lexemes_in tokens.entry)) }
+/// A connective; moves behind it.
+pub fn joint(tokens: &mut Front) -> Result<Connective, ReadFault>
+    ensures { Gives (λ found. (connective_of found, lexemes_in tokens.new)) result
+        (leaf leaf_connective (lexemes_in tokens.old)) }
 {
     let Some(first) = tokens.first() else {
         return Err(ReadFault::Text(0));
     };
     match joint_of(first) {
-        Some(connective) => Ok((connective, tokens.behind())),
+        Some(connective) => {
+            tokens.advance();
+            Ok(connective)
+        }
         None => Err(ReadFault::Text(tokens.count())),
     }
 }

@@ -28,7 +28,8 @@ use token_readers::{ReadFault, TextFault};
 fn whole_formula(alloc: Global, tokens: Front) -> Result<Formula, ReadFault>
     ensures { Gives formula_of result (whole (formula_at MOST_DEPTH) (lexemes_in tokens.entry)) }
 {
-    let (found, rest) = formula(alloc, MOST_DEPTH, tokens)?;
+    let mut rest = tokens;
+    let found = formula(alloc, MOST_DEPTH, &mut rest)?;
     if rest.is_empty() {
         Ok(found)
     } else {

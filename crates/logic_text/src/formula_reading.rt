@@ -18,7 +18,7 @@ use dom_terms::{Copied, LogicVar, Sort, Term, Text, ValueSort};
 use formula_syntax::Formula;
 use std::alloc::Global;
 use text_tokens::{Front, Lexeme};
-use token_readers::{ReadFault, after, expect, is_this};
+use token_readers::{ReadFault, expect, is_this, skip};
 
 /// A quantifier.
 #[derive(Clone, Copy)]
@@ -40,311 +40,286 @@ fn bound(quantifier: Quantifier, name: Text, inner: Box<Formula>) -> Formula
 }
 
 // A term of a formula that is a logic variable, as a formula.
-fn lone<'a>(left: Term, tokens: Front<'a>) -> Result<(Formula, Front<'a>), ReadFault>
-    ensures { Gives (λ x. (formula_of x.0, lexemes_in x.1)) result
-        (lone_variable (term_of left) (lexemes_in tokens.entry)) }
+fn lone(alloc: Global, left: Term, tokens: &mut Front) -> Result<Box<Formula>, ReadFault>
+    ensures { Gives (λ found. (formula_of found.value, lexemes_in tokens.new)) result
+        (lone_variable (term_of left) (lexemes_in tokens.old)) }
 {
     match left {
-        Term::Logic(variable) => Ok((Formula::Var(variable), tokens)),
+        Term::Logic(variable) => Ok(Box::new(alloc, Formula::Var(variable))?),
         _ => Err(ReadFault::Text(tokens.count())),
     }
 }
 
-// A formula in a box of its own.
-#[cycle(formula)]
-fn boxed<'a>(
-    alloc: Global,
-    depth: u32,
-    tokens: Front<'a>,
-) -> Result<(Box<Formula>, Front<'a>), ReadFault>
-    ensures { Gives (λ x. (formula_of x.0.value, lexemes_in x.1)) result
-        (formula_at depth (lexemes_in tokens.entry)) }
-{
-    let (inner, rest) = formula(alloc, depth, tokens)?;
-    let inner = Box::new(alloc, inner)?;
-    Ok((inner, rest))
-}
-
 // What stands behind a quantifier.
-#[cycle(formula)]
+#[cycle(part)]
 #[tactic(auto, unfolding(crate::specs::FormulaReaders::quantified_at))]
-fn quantified<'a>(
+fn quantified(
     alloc: Global,
     depth: u32,
     quantifier: Quantifier,
-    tokens: Front<'a>,
-) -> Result<(Formula, Front<'a>), ReadFault>
-    ensures { Gives (λ x. (formula_of x.0, lexemes_in x.1)) result
-        (quantified_at (formula_at depth) (quantifier_of quantifier) (lexemes_in tokens.entry)) }
+    tokens: &mut Front,
+) -> Result<Box<Formula>, ReadFault>
+    ensures { Gives (λ found. (formula_of found.value, lexemes_in tokens.new)) result
+        (quantified_at (formula_at depth) (quantifier_of quantifier) (lexemes_in tokens.old)) }
 {
-    let (name, rest) = logic_name(alloc, tokens)?;
-    let rest = expect(rest, ".")?;
-    let (inner, rest) = boxed(alloc, depth, rest)?;
-    let rest = expect(rest, ")")?;
-    Ok((bound(quantifier, name, inner), rest))
+    let name = logic_name(alloc, tokens)?;
+    expect(tokens, ".")?;
+    let inner = part(alloc, depth, tokens)?;
+    expect(tokens, ")")?;
+    Ok(Box::new(alloc, bound(quantifier, name, inner))?)
 }
 
 // What stands behind an open bracket and a formula, with a connective.
-#[cycle(formula)]
+#[cycle(part)]
 #[tactic(auto, unfolding(crate::specs::FormulaReaders::joined_at))]
-fn connected<'a>(
+fn connected(
     alloc: Global,
     depth: u32,
     left: Box<Formula>,
-    tokens: Front<'a>,
-) -> Result<(Formula, Front<'a>), ReadFault>
-    ensures { Gives (λ x. (formula_of x.0, lexemes_in x.1)) result
-        (joined_at (formula_at depth) (formula_of left.value) (lexemes_in tokens.entry)) }
+    tokens: &mut Front,
+) -> Result<Box<Formula>, ReadFault>
+    ensures { Gives (λ found. (formula_of found.value, lexemes_in tokens.new)) result
+        (joined_at (formula_at depth) (formula_of left.value) (lexemes_in tokens.old)) }
 {
-    let (connective, rest) = joint(tokens)?;
-    let (right, rest) = boxed(alloc, depth, rest)?;
-    let rest = expect(rest, ")")?;
-    Ok((joined(connective, left, right), rest))
+    let connective = joint(tokens)?;
+    let right = part(alloc, depth, tokens)?;
+    expect(tokens, ")")?;
+    Ok(Box::new(alloc, joined(connective, left, right))?)
 }
 
 // What stands behind an open bracket and a formula.
-#[cycle(formula)]
-fn connected_or_is<'a>(
+#[cycle(part)]
+fn connected_or_is(
     alloc: Global,
     depth: u32,
     left: Box<Formula>,
-    tokens: Front<'a>,
-) -> Result<(Formula, Front<'a>), ReadFault>
-    ensures { Gives (λ x. (formula_of x.0, lexemes_in x.1)) result
-        (joined_or_is (formula_at depth) (formula_of left.value) (lexemes_in tokens.entry)) }
+    tokens: &mut Front,
+) -> Result<Box<Formula>, ReadFault>
+    ensures { Gives (λ found. (formula_of found.value, lexemes_in tokens.new)) result
+        (joined_or_is (formula_at depth) (formula_of left.value) (lexemes_in tokens.old)) }
 {
     if let Formula::Var(variable) = &*left {
-        if let Some(rest) = after(tokens, "is") {
+        if skip(tokens, "is") {
             let name = variable.name.copy(alloc)?;
             let sort = variable.sort;
-            let (inner, rest) = boxed(alloc, depth, rest)?;
-            let rest = expect(rest, ")")?;
-            return Ok((Formula::Is(LogicVar { name, sort }, inner), rest));
+            let inner = part(alloc, depth, tokens)?;
+            expect(tokens, ")")?;
+            return Ok(Box::new(alloc, Formula::Is(LogicVar { name, sort }, inner))?);
         }
     }
     connected(alloc, depth, left, tokens)
 }
 
 // What stands behind an open bracket and the word for not.
-#[cycle(formula)]
-fn negation<'a>(
-    alloc: Global,
-    depth: u32,
-    tokens: Front<'a>,
-) -> Result<(Formula, Front<'a>), ReadFault>
-    ensures { Gives (λ x. (formula_of x.0, lexemes_in x.1)) result
+#[cycle(part)]
+fn negation(alloc: Global, depth: u32, tokens: &mut Front) -> Result<Box<Formula>, ReadFault>
+    ensures { Gives (λ found. (formula_of found.value, lexemes_in tokens.new)) result
         (then (formula_at depth) (λ p. expect (codes ")") (ret (negation p)))
-        (lexemes_in tokens.entry)) }
+        (lexemes_in tokens.old)) }
 {
-    let (inner, rest) = boxed(alloc, depth, tokens)?;
-    let rest = expect(rest, ")")?;
-    Ok((Formula::Not(inner), rest))
+    let inner = part(alloc, depth, tokens)?;
+    expect(tokens, ")")?;
+    Ok(Box::new(alloc, Formula::Not(inner))?)
 }
 
 // What stands behind an open bracket.
-#[cycle(formula)]
+#[cycle(part)]
 #[tactic(auto, unfolding(crate::specs::FormulaReaders::bracket_at))]
-fn bracket<'a>(
-    alloc: Global,
-    depth: u32,
-    tokens: Front<'a>,
-) -> Result<(Formula, Front<'a>), ReadFault>
-    ensures { Gives (λ x. (formula_of x.0, lexemes_in x.1)) result
-        (bracket_at (formula_at depth) (lexemes_in tokens.entry)) }
+fn bracket(alloc: Global, depth: u32, tokens: &mut Front) -> Result<Box<Formula>, ReadFault>
+    ensures { Gives (λ found. (formula_of found.value, lexemes_in tokens.new)) result
+        (bracket_at (formula_at depth) (lexemes_in tokens.old)) }
 {
-    match tokens.first() {
-        Some(first) if is_this(first, "not") => negation(alloc, depth, tokens.behind()),
-        Some(first) if is_this(first, "exists") => {
-            quantified(alloc, depth, Quantifier::Exists, tokens.behind())
-        }
-        Some(first) if is_this(first, "forall") => {
-            quantified(alloc, depth, Quantifier::Forall, tokens.behind())
-        }
-        _ => {
-            let (left, rest) = boxed(alloc, depth, tokens)?;
-            connected_or_is(alloc, depth, left, rest)
-        }
+    if skip(tokens, "not") {
+        return negation(alloc, depth, tokens);
     }
+    if skip(tokens, "exists") {
+        return quantified(alloc, depth, Quantifier::Exists, tokens);
+    }
+    if skip(tokens, "forall") {
+        return quantified(alloc, depth, Quantifier::Forall, tokens);
+    }
+    let left = part(alloc, depth, tokens)?;
+    connected_or_is(alloc, depth, left, tokens)
 }
 
 // What stands behind the name of a node and the sign.
-#[cycle(formula)]
+#[cycle(part)]
 #[tactic(auto, unfolding(crate::specs::FormulaReaders::node_at))]
-fn node<'a>(
+fn node(
     alloc: Global,
     depth: u32,
     name: Term,
-    tokens: Front<'a>,
-) -> Result<(Formula, Front<'a>), ReadFault>
-    ensures { Gives (λ x. (formula_of x.0, lexemes_in x.1)) result
+    tokens: &mut Front,
+) -> Result<Box<Formula>, ReadFault>
+    ensures { Gives (λ found. (formula_of found.value, lexemes_in tokens.new)) result
         (node_at (term_at in_formula depth) (formula_at depth) (term_of name)
-        (lexemes_in tokens.entry)) }
+        (lexemes_in tokens.old)) }
 {
-    let (number, rest) = term(alloc, Place::Formula, depth, tokens)?;
-    let rest = expect(rest, "[")?;
-    let (inner, rest) = boxed(alloc, depth, rest)?;
-    let rest = expect(rest, "]")?;
-    let rest = expect(rest, "%")?;
-    let (list, rest) = term(alloc, Place::Formula, depth, rest)?;
-    Ok((Formula::Node(name, number, inner, list), rest))
+    let number = term(alloc, Place::Formula, depth, tokens)?;
+    expect(tokens, "[")?;
+    let inner = part(alloc, depth, tokens)?;
+    expect(tokens, "]")?;
+    expect(tokens, "%")?;
+    let list = term(alloc, Place::Formula, depth, tokens)?;
+    Ok(Box::new(alloc, Formula::Node(name, number, inner, list))?)
 }
 
 // What stands behind the first term of a formula.
-#[cycle(formula)]
+#[cycle(part)]
 #[tactic(auto, unfolding(crate::specs::FormulaReaders::compared_at))]
 #[inline(always)]
-fn compared<'a>(
+fn compared(
     alloc: Global,
     depth: u32,
     left: Term,
-    tokens: Front<'a>,
-) -> Result<(Formula, Front<'a>), ReadFault>
-    ensures { Gives (λ x. (formula_of x.0, lexemes_in x.1)) result
+    tokens: &mut Front,
+) -> Result<Box<Formula>, ReadFault>
+    ensures { Gives (λ found. (formula_of found.value, lexemes_in tokens.new)) result
         (compared_at (term_at in_formula depth) (formula_at depth) (term_of left)
-        (lexemes_in tokens.entry)) }
+        (lexemes_in tokens.old)) }
 {
-    match tokens.first() {
-        Some(first) if is_this(first, "=") => {
-            let (right, rest) = term(alloc, Place::Formula, depth, tokens.behind())?;
-            Ok((Formula::Eq(left, right), rest))
-        }
-        Some(first) if is_this(first, "<=") => {
-            let (right, rest) = term(alloc, Place::Formula, depth, tokens.behind())?;
-            Ok((Formula::Le(left, right), rest))
-        }
-        Some(first) if is_this(first, "#") => node(alloc, depth, left, tokens.behind()),
-        _ => lone(left, tokens),
+    if skip(tokens, "=") {
+        let right = term(alloc, Place::Formula, depth, tokens)?;
+        return Ok(Box::new(alloc, Formula::Eq(left, right))?);
     }
+    if skip(tokens, "<=") {
+        let right = term(alloc, Place::Formula, depth, tokens)?;
+        return Ok(Box::new(alloc, Formula::Le(left, right))?);
+    }
+    if skip(tokens, "#") {
+        return node(alloc, depth, left, tokens);
+    }
+    lone(alloc, left, tokens)
 }
 
 // A formula that begins with a term of one token that is no reserved word and no symbol.
-#[cycle(formula)]
+#[cycle(part)]
 fn leaf_formula<'a>(
     alloc: Global,
     depth: u32,
     first: Lexeme<'a>,
-    tokens: Front<'a>,
-) -> Result<(Formula, Front<'a>), ReadFault>
-    requires { lexemes_in tokens ≡ lexeme_seen first ∷ drop 1 (lexemes_in tokens) }
-    ensures { Gives (λ x. (formula_of x.0, lexemes_in x.1)) result
+    tokens: &mut Front<'a>,
+) -> Result<Box<Formula>, ReadFault>
+    requires { lexemes_in tokens.old ≡ lexeme_seen first ∷ drop 1 (lexemes_in tokens.old) }
+    ensures { Gives (λ found. (formula_of found.value, lexemes_in tokens.new)) result
         (then (leaf (leaf_term in_formula))
-        (compared_at (term_at in_formula depth) (formula_at depth)) (lexemes_in tokens.entry)) }
+        (compared_at (term_at in_formula depth) (formula_at depth)) (lexemes_in tokens.old)) }
 {
-    let (left, rest) = leaf_term(alloc, Place::Formula, first, tokens)?;
-    compared(alloc, depth, left, rest)
+    let left = leaf_term(alloc, Place::Formula, first, tokens)?;
+    compared(alloc, depth, left, tokens)
 }
 
 // What stands behind an open angle.
-#[cycle(formula)]
-fn tree<'a>(alloc: Global, depth: u32, tokens: Front<'a>) -> Result<(Formula, Front<'a>), ReadFault>
-    ensures { Gives (λ x. (formula_of x.0, lexemes_in x.1)) result
+#[cycle(part)]
+fn tree(alloc: Global, depth: u32, tokens: &mut Front) -> Result<Box<Formula>, ReadFault>
+    ensures { Gives (λ found. (formula_of found.value, lexemes_in tokens.new)) result
         (then (formula_at depth) (λ p. expect (codes ">") (ret (one_tree p)))
-        (lexemes_in tokens.entry)) }
+        (lexemes_in tokens.old)) }
 {
-    let (inner, rest) = boxed(alloc, depth, tokens)?;
-    let rest = expect(rest, ">")?;
-    Ok((Formula::One(inner), rest))
+    let inner = part(alloc, depth, tokens)?;
+    expect(tokens, ">")?;
+    Ok(Box::new(alloc, Formula::One(inner))?)
 }
 
 // What stands behind an open square bracket.
-#[cycle(formula)]
-fn root<'a>(alloc: Global, depth: u32, tokens: Front<'a>) -> Result<(Formula, Front<'a>), ReadFault>
-    ensures { Gives (λ x. (formula_of x.0, lexemes_in x.1)) result
+#[cycle(part)]
+fn root(alloc: Global, depth: u32, tokens: &mut Front) -> Result<Box<Formula>, ReadFault>
+    ensures { Gives (λ found. (formula_of found.value, lexemes_in tokens.new)) result
         (then (formula_at depth) (λ p. expect (codes "]") (ret (one_root p)))
-        (lexemes_in tokens.entry)) }
+        (lexemes_in tokens.old)) }
 {
-    let (inner, rest) = boxed(alloc, depth, tokens)?;
-    let rest = expect(rest, "]")?;
-    Ok((Formula::Root(inner), rest))
+    let inner = part(alloc, depth, tokens)?;
+    expect(tokens, "]")?;
+    Ok(Box::new(alloc, Formula::Root(inner))?)
 }
 
 // What stands behind the word for a length.
-fn length<'a>(
-    alloc: Global,
-    depth: u32,
-    tokens: Front<'a>,
-) -> Result<(Formula, Front<'a>), ReadFault>
-    ensures { Gives (λ x. (formula_of x.0, lexemes_in x.1)) result
-        (then (term_at in_formula depth) (λ a. ret (length_is a)) (lexemes_in tokens.entry)) }
+fn length(alloc: Global, depth: u32, tokens: &mut Front) -> Result<Box<Formula>, ReadFault>
+    ensures { Gives (λ found. (formula_of found.value, lexemes_in tokens.new)) result
+        (then (term_at in_formula depth) (λ a. ret (length_is a)) (lexemes_in tokens.old)) }
 {
-    let (number, rest) = term(alloc, Place::Formula, depth, tokens)?;
-    Ok((Formula::Len(number), rest))
+    let number = term(alloc, Place::Formula, depth, tokens)?;
+    Ok(Box::new(alloc, Formula::Len(number))?)
 }
 
 // A formula that begins with a term. The first token is handed over too.
-#[cycle(formula)]
+#[cycle(part)]
 fn comparison<'a>(
     alloc: Global,
     depth: u32,
     first: Lexeme<'a>,
-    tokens: Front<'a>,
-) -> Result<(Formula, Front<'a>), ReadFault>
-    requires { lexemes_in tokens ≡ lexeme_seen first ∷ drop 1 (lexemes_in tokens) }
-    ensures { Gives (λ x. (formula_of x.0, lexemes_in x.1)) result
+    tokens: &mut Front<'a>,
+) -> Result<Box<Formula>, ReadFault>
+    requires { lexemes_in tokens.old ≡ lexeme_seen first ∷ drop 1 (lexemes_in tokens.old) }
+    ensures { Gives (λ found. (formula_of found.value, lexemes_in tokens.new)) result
         (then (term_at in_formula (suc depth))
-        (compared_at (term_at in_formula depth) (formula_at depth)) (lexemes_in tokens.entry)) }
+        (compared_at (term_at in_formula depth) (formula_at depth)) (lexemes_in tokens.old)) }
 {
-    let (left, rest) = term_from(alloc, Place::Formula, depth, first, tokens)?;
-    compared(alloc, depth, left, rest)
+    let left = term_from(alloc, Place::Formula, depth, first, tokens)?;
+    compared(alloc, depth, left, tokens)
 }
 
 // A formula that begins with neither a bracket nor the word for a length. The first token is
 // handed over too.
-#[cycle(formula)]
+#[cycle(part)]
 fn word_or_comparison<'a>(
     alloc: Global,
     depth: u32,
     first: Lexeme<'a>,
-    tokens: Front<'a>,
-) -> Result<(Formula, Front<'a>), ReadFault>
-    requires { lexemes_in tokens ≡ lexeme_seen first ∷ drop 1 (lexemes_in tokens) }
-    ensures { Gives (λ x. (formula_of x.0, lexemes_in x.1)) result
+    tokens: &mut Front<'a>,
+) -> Result<Box<Formula>, ReadFault>
+    requires { lexemes_in tokens.old ≡ lexeme_seen first ∷ drop 1 (lexemes_in tokens.old) }
+    ensures { Gives (λ found. (formula_of found.value, lexemes_in tokens.new)) result
         (begins leaf_word ret (then (term_at in_formula (suc depth))
-        (compared_at (term_at in_formula depth) (formula_at depth))) (lexemes_in tokens.entry)) }
+        (compared_at (term_at in_formula depth) (formula_at depth))) (lexemes_in tokens.old)) }
 {
     match word_of(first) {
-        Some(found) => Ok((found, tokens.behind())),
+        Some(found) => {
+            tokens.advance();
+            Ok(Box::new(alloc, found)?)
+        }
         None => comparison(alloc, depth, first, tokens),
     }
 }
 
 // A formula, below which is nested at most so deep. The first token is handed over too.
-#[cycle(formula)]
+#[cycle(part)]
 #[tactic(auto, unfolding(crate::specs::FormulaReaders::formula_at))]
-fn formula_from<'a>(
+fn part_from<'a>(
     alloc: Global,
     depth: u32,
     first: Lexeme<'a>,
-    tokens: Front<'a>,
-) -> Result<(Formula, Front<'a>), ReadFault>
-    requires { lexemes_in tokens ≡ lexeme_seen first ∷ drop 1 (lexemes_in tokens) }
-    ensures { Gives (λ x. (formula_of x.0, lexemes_in x.1)) result
-        (formula_at (suc depth) (lexemes_in tokens.entry)) }
+    tokens: &mut Front<'a>,
+) -> Result<Box<Formula>, ReadFault>
+    requires { lexemes_in tokens.old ≡ lexeme_seen first ∷ drop 1 (lexemes_in tokens.old) }
+    ensures { Gives (λ found. (formula_of found.value, lexemes_in tokens.new)) result
+        (formula_at (suc depth) (lexemes_in tokens.old)) }
 {
     if is_this(first, "(") {
-        return bracket(alloc, depth, tokens.behind());
+        tokens.advance();
+        return bracket(alloc, depth, tokens);
     }
     if is_this(first, "[") {
-        return root(alloc, depth, tokens.behind());
+        tokens.advance();
+        return root(alloc, depth, tokens);
     }
     if is_this(first, "<") {
-        return tree(alloc, depth, tokens.behind());
+        tokens.advance();
+        return tree(alloc, depth, tokens);
     }
     if is_this(first, "len") {
-        return length(alloc, depth, tokens.behind());
+        tokens.advance();
+        return length(alloc, depth, tokens);
     }
     word_or_comparison(alloc, depth, first, tokens)
 }
 
-/// A formula, nested at most so deep.
-#[cycle(formula)]
-pub fn formula<'a>(
-    alloc: Global,
-    depth: u32,
-    tokens: Front<'a>,
-) -> Result<(Formula, Front<'a>), ReadFault>
-    ensures { Gives (λ x. (formula_of x.0, lexemes_in x.1)) result
-        (formula_at depth (lexemes_in tokens.entry)) }
+// A formula in a box of its own, nested at most so deep. Boxes are handed on, since they are
+// smaller than formulas.
+#[cycle(part)]
+fn part(alloc: Global, depth: u32, tokens: &mut Front) -> Result<Box<Formula>, ReadFault>
+    ensures { Gives (λ found. (formula_of found.value, lexemes_in tokens.new)) result
+        (formula_at depth (lexemes_in tokens.old)) }
 {
     if depth == 0 {
         return Err(ReadFault::Memory);
@@ -353,7 +328,16 @@ pub fn formula<'a>(
         return Err(ReadFault::Text(0));
     };
     if is_word_or_symbol(first) {
-        return formula_from(alloc, depth - 1, first, tokens);
+        return part_from(alloc, depth - 1, first, tokens);
     }
     leaf_formula(alloc, depth - 1, first, tokens)
+}
+
+/// A formula, nested at most so deep; moves behind it.
+pub fn formula(alloc: Global, depth: u32, tokens: &mut Front) -> Result<Formula, ReadFault>
+    ensures { Gives (λ found. (formula_of found, lexemes_in tokens.new)) result
+        (formula_at depth (lexemes_in tokens.old)) }
+{
+    let found = part(alloc, depth, tokens)?;
+    Ok(Box::into_inner(found))
 }

@@ -17,7 +17,7 @@ use crate::raw_groves::{RawForest, RawGrove, RawTree};
 use dom_terms::Text;
 use std::alloc::Global;
 use text_tokens::{Front, Tokens};
-use token_readers::{ReadFault, TextFault, after, expect};
+use token_readers::{ReadFault, TextFault, expect, skip};
 
 /// The deepest nesting of trees, terms and formulas that is read; a deeper one is answered as want
 /// of memory. It is more than a document or a file may have: one with at most 200 brackets open at
@@ -25,29 +25,35 @@ use token_readers::{ReadFault, TextFault, after, expect};
 pub const MOST_DEPTH: u32 = 128;
 
 // A text literal.
-fn literal(alloc: Global, tokens: Front) -> Result<(Text, Front), ReadFault>
-    ensures { Gives (λ x. (x.0, lexemes_in x.1)) result
-        (leaf leaf_literal (lexemes_in tokens.entry)) }
+fn literal(alloc: Global, tokens: &mut Front) -> Result<Text, ReadFault>
+    ensures { Gives (λ found. (found, lexemes_in tokens.new)) result
+        (leaf leaf_literal (lexemes_in tokens.old)) }
 {
-    let Some((first, rest)) = tokens.split_first() else {
+    let Some(first) = tokens.first() else {
         return Err(ReadFault::Text(0));
     };
     match first.literal(alloc)? {
-        Some(text) => Ok((text, rest)),
+        Some(found) => {
+            tokens.advance();
+            Ok(found)
+        }
         None => Err(ReadFault::Text(tokens.count())),
     }
 }
 
 // A number as large as a token can be.
-fn number(tokens: Front) -> Result<(u64, Front), ReadFault>
-    ensures { Gives (λ x. (x.0, lexemes_in x.1)) result
-        (leaf leaf_number (lexemes_in tokens.entry)) }
+fn number(tokens: &mut Front) -> Result<u64, ReadFault>
+    ensures { Gives (λ found. (found, lexemes_in tokens.new)) result
+        (leaf leaf_number (lexemes_in tokens.old)) }
 {
-    let Some((first, rest)) = tokens.split_first() else {
+    let Some(first) = tokens.first() else {
         return Err(ReadFault::Text(0));
     };
     match first.number() {
-        Some(number) => Ok((number, rest)),
+        Some(found) => {
+            tokens.advance();
+            Ok(found)
+        }
         None => Err(ReadFault::Text(tokens.count())),
     }
 }
@@ -55,44 +61,42 @@ fn number(tokens: Front) -> Result<(u64, Front), ReadFault>
 // A tree between two marks.
 #[cycle(tree)]
 #[tactic(auto, unfolding(crate::specs::TreeReaders::marked_at))]
-fn marked<'a>(
+fn marked(
     alloc: Global,
     left: &str,
     right: &str,
     depth: u32,
-    tokens: Front<'a>,
-) -> Result<(RawTree, Front<'a>), ReadFault>
-    ensures { Gives (λ x. (raw_tree_of x.0, lexemes_in x.1)) result
-        (marked_at left.now right.now (tree_at u32.MAX depth) (lexemes_in tokens.entry)) }
+    tokens: &mut Front,
+) -> Result<RawTree, ReadFault>
+    ensures { Gives (λ found. (raw_tree_of found, lexemes_in tokens.new)) result
+        (marked_at left.now right.now (tree_at u32.MAX depth) (lexemes_in tokens.old)) }
 {
-    let rest = expect(tokens, left)?;
-    let (found, rest) = tree(alloc, depth, rest)?;
-    let rest = expect(rest, right)?;
-    Ok((found, rest))
+    expect(tokens, left)?;
+    let found = tree(alloc, depth, tokens)?;
+    expect(tokens, right)?;
+    Ok(found)
 }
 
 // One or more trees, each between two marks, with a third between each two.
 #[cycle(tree)]
-fn trees<'a>(
+fn trees(
     alloc: Global,
     left: &str,
     right: &str,
     between: &str,
     depth: u32,
-    tokens: Front<'a>,
-) -> Result<(RawForest, Front<'a>), ReadFault>
-    ensures { Gives (λ x. (map raw_tree_of x.0, lexemes_in x.1)) result
+    tokens: &mut Front,
+) -> Result<RawForest, ReadFault>
+    ensures { Gives (λ found. (map raw_tree_of found, lexemes_in tokens.new)) result
         (sep_list between.now (marked_at left.now right.now (tree_at u32.MAX depth)) u32.MAX
-        (lexemes_in tokens.entry)) }
+        (lexemes_in tokens.old)) }
 {
     let mut found = RawForest::new(alloc);
-    let mut rest = tokens;
     for _ in 0..u32::MAX {
-        let (item, behind) = marked(alloc, left, right, depth, rest)?;
+        let item = marked(alloc, left, right, depth, tokens)?;
         found.push(item)?;
-        match after(behind, between) {
-            Some(next) => rest = next,
-            None => return Ok((found, behind)),
+        if !skip(tokens, between) {
+            return Ok(found);
         }
     }
     Err(ReadFault::Memory)
@@ -101,16 +105,12 @@ fn trees<'a>(
 // A forest, its trees nested at most so deep.
 #[cycle(tree)]
 #[tactic(auto, unfolding(crate::specs::TreeReaders::forest_at, crate::specs::TreeReaders::some_at))]
-fn forest<'a>(
-    alloc: Global,
-    depth: u32,
-    tokens: Front<'a>,
-) -> Result<(RawForest, Front<'a>), ReadFault>
-    ensures { Gives (λ x. (raw_forest_of x.0, lexemes_in x.1)) result
-        (forest_at u32.MAX (tree_at u32.MAX depth) (lexemes_in tokens.entry)) }
+fn forest(alloc: Global, depth: u32, tokens: &mut Front) -> Result<RawForest, ReadFault>
+    ensures { Gives (λ found. (raw_forest_of found, lexemes_in tokens.new)) result
+        (forest_at u32.MAX (tree_at u32.MAX depth) (lexemes_in tokens.old)) }
 {
-    if let Some(rest) = after(tokens, "0f") {
-        return Ok((RawForest::new(alloc), rest));
+    if skip(tokens, "0f") {
+        return Ok(RawForest::new(alloc));
     }
     trees(alloc, "<", ">", "*", depth, tokens)
 }
@@ -118,38 +118,37 @@ fn forest<'a>(
 // A tree, nested at most so deep.
 #[cycle(tree)]
 #[tactic(auto, unfolding(crate::specs::TreeReaders::tree_at, crate::specs::TreeReaders::node_at))]
-fn tree<'a>(alloc: Global, depth: u32, tokens: Front<'a>) -> Result<(RawTree, Front<'a>), ReadFault>
-    ensures { Gives (λ x. (raw_tree_of x.0, lexemes_in x.1)) result
-        (tree_at u32.MAX depth (lexemes_in tokens.entry)) }
+fn tree(alloc: Global, depth: u32, tokens: &mut Front) -> Result<RawTree, ReadFault>
+    ensures { Gives (λ found. (raw_tree_of found, lexemes_in tokens.new)) result
+        (tree_at u32.MAX depth (lexemes_in tokens.old)) }
 {
     if depth == 0 {
         return Err(ReadFault::Memory);
     }
-    let (name, rest) = literal(alloc, tokens)?;
-    let rest = expect(rest, "#")?;
-    let (id, rest) = number(rest)?;
-    let rest = expect(rest, "[")?;
-    let (kids, rest) = forest(alloc, depth - 1, rest)?;
-    let rest = expect(rest, "]")?;
-    let rest = expect(rest, "%")?;
-    let (list, rest) = number(rest)?;
-    let tree = RawTree {
+    let name = literal(alloc, tokens)?;
+    expect(tokens, "#")?;
+    let id = number(tokens)?;
+    expect(tokens, "[")?;
+    let kids = forest(alloc, depth - 1, tokens)?;
+    expect(tokens, "]")?;
+    expect(tokens, "%")?;
+    let list = number(tokens)?;
+    Ok(RawTree {
         name,
         id,
         kids,
         list,
-    };
-    Ok((tree, rest))
+    })
 }
 
 // A grove, at the front of the tokens.
 #[tactic(auto, unfolding(crate::specs::TreeReaders::grove_at, crate::specs::TreeReaders::some_at))]
-fn grove(alloc: Global, tokens: Front) -> Result<(RawGrove, Front), ReadFault>
-    ensures { Gives (λ x. (raw_forest_of x.0, lexemes_in x.1)) result
-        (grove_at u32.MAX MOST_DEPTH (lexemes_in tokens.entry)) }
+fn grove(alloc: Global, tokens: &mut Front) -> Result<RawGrove, ReadFault>
+    ensures { Gives (λ found. (raw_forest_of found, lexemes_in tokens.new)) result
+        (grove_at u32.MAX MOST_DEPTH (lexemes_in tokens.old)) }
 {
-    if let Some(rest) = after(tokens, "0g") {
-        return Ok((RawGrove::new(alloc), rest));
+    if skip(tokens, "0g") {
+        return Ok(RawGrove::new(alloc));
     }
     trees(alloc, "[", "]", "+", MOST_DEPTH, tokens)
 }
@@ -159,7 +158,8 @@ fn whole_grove(alloc: Global, tokens: Front) -> Result<RawGrove, ReadFault>
     ensures { Gives raw_forest_of result
         (whole (grove_at u32.MAX MOST_DEPTH) (lexemes_in tokens.entry)) }
 {
-    let (found, rest) = grove(alloc, tokens)?;
+    let mut rest = tokens;
+    let found = grove(alloc, &mut rest)?;
     if rest.is_empty() {
         Ok(found)
     } else {

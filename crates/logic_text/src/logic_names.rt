@@ -17,19 +17,21 @@ fn logic_name_of(token: Lexeme) -> Option<&str>
     token.logic_name()
 }
 
-/// A logic name.
+/// A logic name; moves behind it.
 #[inline(always)]
-pub fn logic_name(alloc: Global, tokens: Front) -> Result<(Text, Front), ReadFault>
-    ensures { Gives (λ x. (x.0, lexemes_in x.1)) result
-        (leaf leaf_logic (lexemes_in tokens.entry)) }
+pub fn logic_name(alloc: Global, tokens: &mut Front) -> Result<Text, ReadFault>
+    ensures { Gives (λ name. (name, lexemes_in tokens.new)) result
+        (leaf leaf_logic (lexemes_in tokens.old)) }
 {
-    let Some((first, rest)) = tokens.split_first() else {
+    let Some(first) = tokens.first() else {
         return Err(ReadFault::Text(0));
     };
-    match logic_name_of(first) {
-        Some(text) => Ok((Text::from_str(alloc, text)?, rest)),
-        None => Err(ReadFault::Text(tokens.count())),
-    }
+    let Some(text) = logic_name_of(first) else {
+        return Err(ReadFault::Text(tokens.count()));
+    };
+    let name = Text::from_str(alloc, text)?;
+    tokens.advance();
+    Ok(name)
 }
 
 /// Reads logic names.
@@ -45,9 +47,9 @@ impl Reader<Text> for LogicNameReader {
 
     ghost reading = { λ _. leaf leaf_logic };
 
-    fn read<'a>(&self, alloc: Global, tokens: Front<'a>) -> Result<(Text, Front<'a>), ReadFault>
-        ensures { Gives (λ x. (x.0, lexemes_in x.1)) result
-            (leaf leaf_logic (lexemes_in tokens.entry)) }
+    fn read(&self, alloc: Global, tokens: &mut Front) -> Result<Text, ReadFault>
+        ensures { Gives (λ name. (name, lexemes_in tokens.new)) result
+            (leaf leaf_logic (lexemes_in tokens.old)) }
     {
         logic_name(alloc, tokens)
     }

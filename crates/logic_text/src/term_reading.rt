@@ -14,7 +14,7 @@ ghost use Rattle.logic_text.specs.Places.{place_of};
 use dom_terms::{LogicVar, OutOfMemory, ProgVar, Sort, Term, Text, ValueSort};
 use std::alloc::Global;
 use text_tokens::{Front, Lexeme, TokenKind};
-use token_readers::{ReadFault, expect, is_this};
+use token_readers::{ReadFault, expect, is_this, skip};
 
 /// Where a term stands.
 #[derive(Clone, Copy, Debug, PartialEq, Eq)]
@@ -57,20 +57,24 @@ fn leaf_of(alloc: Global, place: Place, first: Lexeme) -> Result<Option<Term>, O
     }
 }
 
-/// A term of one token that is no reserved word and no symbol. The token is handed over too.
+/// A term of one token that is no reserved word and no symbol; moves behind it. The token is
+/// handed over too.
 #[inline(always)]
 pub fn leaf_term<'a>(
     alloc: Global,
     place: Place,
     first: Lexeme<'a>,
-    tokens: Front<'a>,
-) -> Result<(Term, Front<'a>), ReadFault>
-    requires { lexemes_in tokens ≡ lexeme_seen first ∷ drop 1 (lexemes_in tokens) }
-    ensures { Gives (λ x. (term_of x.0, lexemes_in x.1)) result
-        (leaf (leaf_term (place_of place)) (lexemes_in tokens.entry)) }
+    tokens: &mut Front<'a>,
+) -> Result<Term, ReadFault>
+    requires { lexemes_in tokens.old ≡ lexeme_seen first ∷ drop 1 (lexemes_in tokens.old) }
+    ensures { Gives (λ found. (term_of found, lexemes_in tokens.new)) result
+        (leaf (leaf_term (place_of place)) (lexemes_in tokens.old)) }
 {
     match leaf_of(alloc, place, first)? {
-        Some(term) => Ok((term, tokens.behind())),
+        Some(term) => {
+            tokens.advance();
+            Ok(term)
+        }
         None => Err(ReadFault::Text(tokens.count())),
     }
 }
@@ -86,16 +90,17 @@ fn negative(number: u64) -> Option<i64>
 }
 
 // What stands behind the sign of a negative literal.
-fn leaf_negative(tokens: Front) -> Result<(Term, Front), ReadFault>
-    ensures { Gives (λ x. (term_of x.0, lexemes_in x.1)) result
-        (leaf leaf_negative (lexemes_in tokens.entry)) }
+fn leaf_negative(tokens: &mut Front) -> Result<Term, ReadFault>
+    ensures { Gives (λ found. (term_of found, lexemes_in tokens.new)) result
+        (leaf leaf_negative (lexemes_in tokens.old)) }
 {
-    let Some((first, rest)) = tokens.split_first() else {
+    let Some(first) = tokens.first() else {
         return Err(ReadFault::Text(0));
     };
     if let Some(number) = first.number() {
         if let Some(integer) = negative(number) {
-            return Ok((Term::Int(integer), rest));
+            tokens.advance();
+            return Ok(Term::Int(integer));
         }
     }
     Err(ReadFault::Text(tokens.count()))
@@ -109,22 +114,20 @@ enum Operator {
     Cat,
 }
 
+// The sign of an operation.
 #[tactic(auto, unfolding(crate::specs::TermReaders::operator_at))]
-fn sign(tokens: Front) -> Result<(Operator, Front), ReadFault>
-    ensures { Gives (λ x. (operator_of x.0, lexemes_in x.1)) result
-        (operator_at (lexemes_in tokens.entry)) }
+fn sign(tokens: &mut Front) -> Result<Operator, ReadFault>
+    ensures { Gives (λ found. (operator_of found, lexemes_in tokens.new)) result
+        (operator_at (lexemes_in tokens.old)) }
 {
-    let Some(first) = tokens.first() else {
-        return Err(ReadFault::Text(0));
-    };
-    if is_this(first, "+") {
-        return Ok((Operator::Add, tokens.behind()));
+    if skip(tokens, "+") {
+        return Ok(Operator::Add);
     }
-    if is_this(first, "-") {
-        return Ok((Operator::Sub, tokens.behind()));
+    if skip(tokens, "-") {
+        return Ok(Operator::Sub);
     }
-    if is_this(first, "++") {
-        return Ok((Operator::Cat, tokens.behind()));
+    if skip(tokens, "++") {
+        return Ok(Operator::Cat);
     }
     Err(ReadFault::Text(tokens.count()))
 }
@@ -145,26 +148,31 @@ fn word<'a>(
     alloc: Global,
     place: Place,
     first: Lexeme<'a>,
-    tokens: Front<'a>,
-) -> Result<(Term, Front<'a>), ReadFault>
-    requires { lexemes_in tokens ≡ lexeme_seen first ∷ drop 1 (lexemes_in tokens) }
-    ensures { Gives (λ x. (term_of x.0, lexemes_in x.1)) result
-        (word_at (leaf (leaf_term (place_of place))) (lexemes_in tokens.entry)) }
+    tokens: &mut Front<'a>,
+) -> Result<Term, ReadFault>
+    requires { lexemes_in tokens.old ≡ lexeme_seen first ∷ drop 1 (lexemes_in tokens.old) }
+    ensures { Gives (λ found. (term_of found, lexemes_in tokens.new)) result
+        (word_at (leaf (leaf_term (place_of place))) (lexemes_in tokens.old)) }
 {
     if is_this(first, "-") {
-        return leaf_negative(tokens.behind());
+        tokens.advance();
+        return leaf_negative(tokens);
     }
     if is_this(first, "null") {
-        return Ok((Term::NullNode, tokens.behind()));
+        tokens.advance();
+        return Ok(Term::NullNode);
     }
     if is_this(first, "nolist") {
-        return Ok((Term::NullList, tokens.behind()));
+        tokens.advance();
+        return Ok(Term::NullList);
     }
     if is_this(first, "yes") {
-        return Ok((Term::Bool(true), tokens.behind()));
+        tokens.advance();
+        return Ok(Term::Bool(true));
     }
     if is_this(first, "no") {
-        return Ok((Term::Bool(false), tokens.behind()));
+        tokens.advance();
+        return Ok(Term::Bool(false));
     }
     leaf_term(alloc, place, first, tokens)
 }
@@ -175,14 +183,13 @@ fn boxed<'a>(
     alloc: Global,
     place: Place,
     depth: u32,
-    tokens: Front<'a>,
-) -> Result<(Box<Term>, Front<'a>), ReadFault>
-    ensures { Gives (λ x. (term_of x.0.value, lexemes_in x.1)) result
-        (term_at (place_of place) depth (lexemes_in tokens.entry)) }
+    tokens: &mut Front<'a>,
+) -> Result<Box<Term>, ReadFault>
+    ensures { Gives (λ found. (term_of found.value, lexemes_in tokens.new)) result
+        (term_at (place_of place) depth (lexemes_in tokens.old)) }
 {
-    let (inner, rest) = term(alloc, place, depth, tokens)?;
-    let inner = Box::new(alloc, inner)?;
-    Ok((inner, rest))
+    let inner = term(alloc, place, depth, tokens)?;
+    Ok(Box::new(alloc, inner)?)
 }
 
 // What stands behind an open brace.
@@ -192,19 +199,20 @@ fn operation<'a>(
     alloc: Global,
     place: Place,
     depth: u32,
-    tokens: Front<'a>,
-) -> Result<(Term, Front<'a>), ReadFault>
-    ensures { Gives (λ x. (term_of x.0, lexemes_in x.1)) result
-        (operation_at (term_at (place_of place) depth) (lexemes_in tokens.entry)) }
+    tokens: &mut Front<'a>,
+) -> Result<Term, ReadFault>
+    ensures { Gives (λ found. (term_of found, lexemes_in tokens.new)) result
+        (operation_at (term_at (place_of place) depth) (lexemes_in tokens.old)) }
 {
-    let (left, rest) = boxed(alloc, place, depth, tokens)?;
-    let (operator, rest) = sign(rest)?;
-    let (right, rest) = boxed(alloc, place, depth, rest)?;
-    let rest = expect(rest, "}")?;
-    Ok((operated(operator, left, right), rest))
+    let left = boxed(alloc, place, depth, tokens)?;
+    let operator = sign(tokens)?;
+    let right = boxed(alloc, place, depth, tokens)?;
+    expect(tokens, "}")?;
+    Ok(operated(operator, left, right))
 }
 
-/// A term at the place, below which is nested at most so deep. The first token is handed over too.
+/// A term at the place, below which is nested at most so deep; moves behind it. The first token is
+/// handed over too.
 #[cycle(term)]
 #[tactic(auto, unfolding(crate::specs::TermReaders::term_at))]
 pub fn term_from<'a>(
@@ -212,14 +220,15 @@ pub fn term_from<'a>(
     place: Place,
     depth: u32,
     first: Lexeme<'a>,
-    tokens: Front<'a>,
-) -> Result<(Term, Front<'a>), ReadFault>
-    requires { lexemes_in tokens ≡ lexeme_seen first ∷ drop 1 (lexemes_in tokens) }
-    ensures { Gives (λ x. (term_of x.0, lexemes_in x.1)) result
-        (term_at (place_of place) (suc depth) (lexemes_in tokens.entry)) }
+    tokens: &mut Front<'a>,
+) -> Result<Term, ReadFault>
+    requires { lexemes_in tokens.old ≡ lexeme_seen first ∷ drop 1 (lexemes_in tokens.old) }
+    ensures { Gives (λ found. (term_of found, lexemes_in tokens.new)) result
+        (term_at (place_of place) (suc depth) (lexemes_in tokens.old)) }
 {
     if is_this(first, "{") {
-        return operation(alloc, place, depth, tokens.behind());
+        tokens.advance();
+        return operation(alloc, place, depth, tokens);
     }
     word(alloc, place, first, tokens)
 }
@@ -233,17 +242,17 @@ pub fn is_word_or_symbol(token: Lexeme) -> bool
     token.kind == TokenKind::Symbol || token.kind == TokenKind::Word
 }
 
-/// A term at the place, nested at most so deep.
+/// A term at the place, nested at most so deep; moves behind it.
 #[cycle(term)]
 #[tactic(auto, unfolding(crate::specs::TermReaders::term_at, crate::specs::TermReaders::word_at))]
 pub fn term<'a>(
     alloc: Global,
     place: Place,
     depth: u32,
-    tokens: Front<'a>,
-) -> Result<(Term, Front<'a>), ReadFault>
-    ensures { Gives (λ x. (term_of x.0, lexemes_in x.1)) result
-        (term_at (place_of place) depth (lexemes_in tokens.entry)) }
+    tokens: &mut Front<'a>,
+) -> Result<Term, ReadFault>
+    ensures { Gives (λ found. (term_of found, lexemes_in tokens.new)) result
+        (term_at (place_of place) depth (lexemes_in tokens.old)) }
 {
     if depth == 0 {
         return Err(ReadFault::Memory);

@@ -13,31 +13,31 @@ use dom_terms::{Term, Terms, Vars};
 use logic_text::{Place, term};
 use std::alloc::Global;
 use text_tokens::Front;
-use token_readers::{Gathers, ReadFault, Reader, after, expect, separated};
+use token_readers::{Gathers, ReadFault, Reader, expect, separated, skip};
 
-/// Items in brackets, with commas between each two.
+/// Items in brackets, with commas between each two; moves behind them.
 #[tactic(auto, unfolding(crate::specs::Lists::bracketed_at))]
-pub fn bracketed<'a, T: Drop, R: Reader<T>, L: Gathers<T>>(
+pub fn bracketed<T: Drop, R: Reader<T>, L: Gathers<T>>(
     alloc: Global,
     reader: &R,
-    tokens: Front<'a>,
-) -> Result<(L, Front<'a>), ReadFault>
-    ensures { Gives (λ x. (map R.seen (L.items x.0), lexemes_in x.1)) result
-        (bracketed_at (R.reading reader.now) u32.MAX (lexemes_in tokens.entry)) }
+    tokens: &mut Front,
+) -> Result<L, ReadFault>
+    ensures { Gives (λ found. (map R.seen (L.items found), lexemes_in tokens.new)) result
+        (bracketed_at (R.reading reader.now) u32.MAX (lexemes_in tokens.old)) }
 {
-    let rest = expect(tokens, "(")?;
-    if let Some(behind) = after(rest, ")") {
-        return Ok((L::empty(alloc), behind));
+    expect(tokens, "(")?;
+    if skip(tokens, ")") {
+        return Ok(L::empty(alloc));
     }
-    let (found, rest) = separated(alloc, reader, ",", rest)?;
-    let rest = expect(rest, ")")?;
-    Ok((found, rest))
+    let found = separated(alloc, reader, ",", tokens)?;
+    expect(tokens, ")")?;
+    Ok(found)
 }
 
-/// The variables in brackets.
-pub fn variables(alloc: Global, tokens: Front) -> Result<(Vars, Front), ReadFault>
-    ensures { Gives (λ x. (map prog_var_of x.0, lexemes_in x.1)) result
-        (bracketed_at (leaf leaf_variable) u32.MAX (lexemes_in tokens.entry)) }
+/// The variables in brackets; moves behind them.
+pub fn variables(alloc: Global, tokens: &mut Front) -> Result<Vars, ReadFault>
+    ensures { Gives (λ found. (map prog_var_of found, lexemes_in tokens.new)) result
+        (bracketed_at (leaf leaf_variable) u32.MAX (lexemes_in tokens.old)) }
 {
     bracketed(alloc, &VariableReader, tokens)
 }
@@ -60,36 +60,36 @@ impl Reader<Term> for TermReader {
 
     ghost reading = { λ reader. term_at (place_of reader.place) reader.depth };
 
-    fn read<'a>(&self, alloc: Global, tokens: Front<'a>) -> Result<(Term, Front<'a>), ReadFault>
-        ensures { Gives (λ x. (term_of x.0, lexemes_in x.1)) result
-            (term_at (place_of self.now.place) self.now.depth (lexemes_in tokens.entry)) }
+    fn read(&self, alloc: Global, tokens: &mut Front) -> Result<Term, ReadFault>
+        ensures { Gives (λ found. (term_of found, lexemes_in tokens.new)) result
+            (term_at (place_of self.now.place) self.now.depth (lexemes_in tokens.old)) }
     {
         term(alloc, self.place, self.depth, tokens)
     }
 }
 
-/// The terms in brackets.
-pub fn terms<'a>(
+/// The terms in brackets; moves behind them.
+pub fn terms(
     alloc: Global,
     place: Place,
     depth: u32,
-    tokens: Front<'a>,
-) -> Result<(Terms, Front<'a>), ReadFault>
-    ensures { Gives (λ x. (map term_of x.0, lexemes_in x.1)) result
-        (bracketed_at (term_at (place_of place) depth) u32.MAX (lexemes_in tokens.entry)) }
+    tokens: &mut Front,
+) -> Result<Terms, ReadFault>
+    ensures { Gives (λ found. (map term_of found, lexemes_in tokens.new)) result
+        (bracketed_at (term_at (place_of place) depth) u32.MAX (lexemes_in tokens.old)) }
 {
     bracketed(alloc, &TermReader { place, depth }, tokens)
 }
 
-/// One or more terms with commas between them.
-pub fn listed_terms<'a>(
+/// One or more terms with commas between them; moves behind them.
+pub fn listed_terms(
     alloc: Global,
     place: Place,
     depth: u32,
-    tokens: Front<'a>,
-) -> Result<(Terms, Front<'a>), ReadFault>
-    ensures { Gives (λ x. (map term_of x.0, lexemes_in x.1)) result
-        (sep_list comma (term_at (place_of place) depth) u32.MAX (lexemes_in tokens.entry)) }
+    tokens: &mut Front,
+) -> Result<Terms, ReadFault>
+    ensures { Gives (λ found. (map term_of found, lexemes_in tokens.new)) result
+        (sep_list comma (term_at (place_of place) depth) u32.MAX (lexemes_in tokens.old)) }
 {
     separated(alloc, &TermReader { place, depth }, ",", tokens)
 }

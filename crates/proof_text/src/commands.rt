@@ -18,7 +18,7 @@ use logic_text::{Place, term};
 use std::alloc::Global;
 use text_tokens::Front;
 use theory_syntax::{Block, Command};
-use token_readers::{ReadFault, after, expect, name};
+use token_readers::{ReadFault, expect, name, skip};
 
 /// What is asked of the document.
 #[derive(Clone, Copy)]
@@ -43,21 +43,21 @@ fn asked(query: Query, x: ProgVar, argument: Term) -> Command
 // A query, behind its word.
 #[tactic(auto, unfolding(crate::specs::Commands::one_at))]
 #[inline(always)]
-fn one<'a>(
+fn one(
     alloc: Global,
     depth: u32,
     query: Query,
     x: ProgVar,
-    tokens: Front<'a>,
-) -> Result<(Command, Front<'a>), ReadFault>
-    ensures { Gives (λ y. (command_of y.0, lexemes_in y.1)) result
+    tokens: &mut Front,
+) -> Result<Command, ReadFault>
+    ensures { Gives (λ found. (command_of found, lexemes_in tokens.new)) result
         (one_at (term_at in_command depth) (query_of query (prog_var_of x))
-        (lexemes_in tokens.entry)) }
+        (lexemes_in tokens.old)) }
 {
-    let rest = expect(tokens, "(")?;
-    let (argument, rest) = term(alloc, Place::Command, depth, rest)?;
-    let rest = expect(rest, ")")?;
-    Ok((asked(query, x, argument), rest))
+    expect(tokens, "(")?;
+    let argument = term(alloc, Place::Command, depth, tokens)?;
+    expect(tokens, ")")?;
+    Ok(asked(query, x, argument))
 }
 
 /// What two terms are asked for: a change of the document, or an item of a list of children.
@@ -81,109 +81,85 @@ fn changed(change: Change, first: Term, second: Term) -> Command
 // Two terms in brackets.
 #[tactic(auto, unfolding(crate::specs::Commands::two_at))]
 #[inline(always)]
-fn two<'a>(
-    alloc: Global,
-    depth: u32,
-    change: Change,
-    tokens: Front<'a>,
-) -> Result<(Command, Front<'a>), ReadFault>
-    ensures { Gives (λ x. (command_of x.0, lexemes_in x.1)) result
-        (two_at (term_at in_command depth) (change_of change) (lexemes_in tokens.entry)) }
+fn two(alloc: Global, depth: u32, change: Change, tokens: &mut Front) -> Result<Command, ReadFault>
+    ensures { Gives (λ found. (command_of found, lexemes_in tokens.new)) result
+        (two_at (term_at in_command depth) (change_of change) (lexemes_in tokens.old)) }
 {
-    let rest = expect(tokens, "(")?;
-    let (first, rest) = term(alloc, Place::Command, depth, rest)?;
-    let rest = expect(rest, ",")?;
-    let (second, rest) = term(alloc, Place::Command, depth, rest)?;
-    let rest = expect(rest, ")")?;
-    Ok((changed(change, first, second), rest))
+    expect(tokens, "(")?;
+    let first = term(alloc, Place::Command, depth, tokens)?;
+    expect(tokens, ",")?;
+    let second = term(alloc, Place::Command, depth, tokens)?;
+    expect(tokens, ")")?;
+    Ok(changed(change, first, second))
 }
 
 // What the variable is set to.
 #[tactic(auto, unfolding(crate::specs::Commands::setting_at))]
-fn setting<'a>(
-    alloc: Global,
-    depth: u32,
-    x: ProgVar,
-    tokens: Front<'a>,
-) -> Result<(Command, Front<'a>), ReadFault>
-    ensures { Gives (λ y. (command_of y.0, lexemes_in y.1)) result
-        (setting_at (term_at in_command depth) (prog_var_of x) (lexemes_in tokens.entry)) }
+fn setting(alloc: Global, depth: u32, x: ProgVar, tokens: &mut Front) -> Result<Command, ReadFault>
+    ensures { Gives (λ found. (command_of found, lexemes_in tokens.new)) result
+        (setting_at (term_at in_command depth) (prog_var_of x) (lexemes_in tokens.old)) }
 {
-    if let Some(rest) = after(tokens, "createNode") {
-        return one(alloc, depth, Query::Create, x, rest);
+    if skip(tokens, "createNode") {
+        return one(alloc, depth, Query::Create, x, tokens);
     }
-    if let Some(rest) = after(tokens, "nodeName") {
-        return one(alloc, depth, Query::Name, x, rest);
+    if skip(tokens, "nodeName") {
+        return one(alloc, depth, Query::Name, x, tokens);
     }
-    if let Some(rest) = after(tokens, "parentNode") {
-        return one(alloc, depth, Query::Parent, x, rest);
+    if skip(tokens, "parentNode") {
+        return one(alloc, depth, Query::Parent, x, tokens);
     }
-    if let Some(rest) = after(tokens, "childNodes") {
-        return one(alloc, depth, Query::Children, x, rest);
+    if skip(tokens, "childNodes") {
+        return one(alloc, depth, Query::Children, x, tokens);
     }
-    if let Some(rest) = after(tokens, "item") {
-        return two(alloc, depth, Change::Item(x), rest);
+    if skip(tokens, "item") {
+        return two(alloc, depth, Change::Item(x), tokens);
     }
-    let (value, rest) = term(alloc, Place::Command, depth, tokens)?;
-    Ok((Command::Assign(x, value), rest))
+    let value = term(alloc, Place::Command, depth, tokens)?;
+    Ok(Command::Assign(x, value))
 }
 
 // A command that begins with a name or with the word for a change of the document.
 #[tactic(auto, unfolding(crate::specs::Commands::change_at))]
-fn other_command<'a>(
-    alloc: Global,
-    depth: u32,
-    tokens: Front<'a>,
-) -> Result<(Command, Front<'a>), ReadFault>
-    ensures { Gives (λ x. (command_of x.0, lexemes_in x.1)) result
-        (change_at (term_at in_command depth) (lexemes_in tokens.entry)) }
+fn other_command(alloc: Global, depth: u32, tokens: &mut Front) -> Result<Command, ReadFault>
+    ensures { Gives (λ found. (command_of found, lexemes_in tokens.new)) result
+        (change_at (term_at in_command depth) (lexemes_in tokens.old)) }
 {
-    if let Some(rest) = after(tokens, "appendChild") {
-        return two(alloc, depth, Change::Append, rest);
+    if skip(tokens, "appendChild") {
+        return two(alloc, depth, Change::Append, tokens);
     }
-    if let Some(rest) = after(tokens, "removeChild") {
-        return two(alloc, depth, Change::Remove, rest);
+    if skip(tokens, "removeChild") {
+        return two(alloc, depth, Change::Remove, tokens);
     }
-    let (x, rest) = variable(alloc, tokens)?;
-    let rest = expect(rest, ":=")?;
-    setting(alloc, depth, x, rest)
+    let x = variable(alloc, tokens)?;
+    expect(tokens, ":=")?;
+    setting(alloc, depth, x, tokens)
 }
 
 // What stands behind the word `call`.
 #[tactic(auto, unfolding(crate::specs::Commands::call_at))]
-fn called<'a>(
-    alloc: Global,
-    depth: u32,
-    tokens: Front<'a>,
-) -> Result<(Command, Front<'a>), ReadFault>
-    ensures { Gives (λ x. (command_of x.0, lexemes_in x.1)) result
-        (call_at u32.MAX (term_at in_command depth) (lexemes_in tokens.entry)) }
+fn called(alloc: Global, depth: u32, tokens: &mut Front) -> Result<Command, ReadFault>
+    ensures { Gives (λ found. (command_of found, lexemes_in tokens.new)) result
+        (call_at u32.MAX (term_at in_command depth) (lexemes_in tokens.old)) }
 {
-    let (results, rest) = variables(alloc, tokens)?;
-    let rest = expect(rest, ":=")?;
-    let (procedure, rest) = name(alloc, rest)?;
-    let (arguments, rest) = terms(alloc, Place::Command, depth, rest)?;
-    Ok((Command::Call(results, procedure, arguments), rest))
+    let results = variables(alloc, tokens)?;
+    expect(tokens, ":=")?;
+    let procedure = name(alloc, tokens)?;
+    let arguments = terms(alloc, Place::Command, depth, tokens)?;
+    Ok(Command::Call(results, procedure, arguments))
 }
 
 // One or more commands with semicolons between them.
 #[cycle(command)]
-fn commands<'a>(
-    alloc: Global,
-    depth: u32,
-    tokens: Front<'a>,
-) -> Result<(Block, Front<'a>), ReadFault>
-    ensures { Gives (λ x. (map command_of x.0, lexemes_in x.1)) result
-        (sep_list semicolon (command_at u32.MAX depth) u32.MAX (lexemes_in tokens.entry)) }
+fn commands(alloc: Global, depth: u32, tokens: &mut Front) -> Result<Block, ReadFault>
+    ensures { Gives (λ found. (map command_of found, lexemes_in tokens.new)) result
+        (sep_list semicolon (command_at u32.MAX depth) u32.MAX (lexemes_in tokens.old)) }
 {
     let mut found = Block::new(alloc);
-    let mut rest = tokens;
     for _ in 0..u32::MAX {
-        let (item, behind) = command(alloc, depth, rest)?;
+        let item = command(alloc, depth, tokens)?;
         found.push(item)?;
-        match after(behind, ";") {
-            Some(next) => rest = next,
-            None => return Ok((found, behind)),
+        if !skip(tokens, ";") {
+            return Ok(found);
         }
     }
     Err(ReadFault::Memory)
@@ -192,116 +168,96 @@ fn commands<'a>(
 // What stands behind the brace of a block.
 #[cycle(command)]
 #[tactic(auto, unfolding(crate::specs::Commands::block_rest))]
-fn rest_of_block<'a>(
-    alloc: Global,
-    depth: u32,
-    tokens: Front<'a>,
-) -> Result<(Block, Front<'a>), ReadFault>
-    ensures { Gives (λ x. (block_of x.0, lexemes_in x.1)) result
-        (block_rest u32.MAX (command_at u32.MAX depth) (lexemes_in tokens.entry)) }
+fn rest_of_block(alloc: Global, depth: u32, tokens: &mut Front) -> Result<Block, ReadFault>
+    ensures { Gives (λ found. (block_of found, lexemes_in tokens.new)) result
+        (block_rest u32.MAX (command_at u32.MAX depth) (lexemes_in tokens.old)) }
 {
-    let (block, rest) = commands(alloc, depth, tokens)?;
-    let rest = expect(rest, "}")?;
-    Ok((block, rest))
+    let block = commands(alloc, depth, tokens)?;
+    expect(tokens, "}")?;
+    Ok(block)
 }
 
 // A block.
 #[cycle(command)]
 #[tactic(auto, unfolding(crate::specs::Commands::block_at))]
-fn block<'a>(alloc: Global, depth: u32, tokens: Front<'a>) -> Result<(Block, Front<'a>), ReadFault>
-    ensures { Gives (λ x. (block_of x.0, lexemes_in x.1)) result
-        (block_at u32.MAX (command_at u32.MAX depth) (lexemes_in tokens.entry)) }
+fn block(alloc: Global, depth: u32, tokens: &mut Front) -> Result<Block, ReadFault>
+    ensures { Gives (λ found. (block_of found, lexemes_in tokens.new)) result
+        (block_at u32.MAX (command_at u32.MAX depth) (lexemes_in tokens.old)) }
 {
-    let rest = expect(tokens, "{")?;
-    rest_of_block(alloc, depth, rest)
+    expect(tokens, "{")?;
+    rest_of_block(alloc, depth, tokens)
 }
 
 // What stands behind the word `if`.
 #[cycle(command)]
 #[tactic(auto, unfolding(crate::specs::Commands::choice_at))]
-fn choice<'a>(
-    alloc: Global,
-    depth: u32,
-    tokens: Front<'a>,
-) -> Result<(Command, Front<'a>), ReadFault>
-    ensures { Gives (λ x. (command_of x.0, lexemes_in x.1)) result
+fn choice(alloc: Global, depth: u32, tokens: &mut Front) -> Result<Command, ReadFault>
+    ensures { Gives (λ found. (command_of found, lexemes_in tokens.new)) result
         (choice_at (cond_at depth) (block_at u32.MAX (command_at u32.MAX depth))
-        (lexemes_in tokens.entry)) }
+        (lexemes_in tokens.old)) }
 {
-    let (test, rest) = condition(alloc, depth, tokens)?;
-    let (first, rest) = block(alloc, depth, rest)?;
-    let rest = expect(rest, "else")?;
-    let (second, rest) = block(alloc, depth, rest)?;
-    Ok((Command::If(test, first, second), rest))
+    let test = condition(alloc, depth, tokens)?;
+    let first = block(alloc, depth, tokens)?;
+    expect(tokens, "else")?;
+    let second = block(alloc, depth, tokens)?;
+    Ok(Command::If(test, first, second))
 }
 
 // What stands behind the word `while`.
 #[cycle(command)]
 #[tactic(auto, unfolding(crate::specs::Commands::loop_at))]
-fn repeated<'a>(
-    alloc: Global,
-    depth: u32,
-    tokens: Front<'a>,
-) -> Result<(Command, Front<'a>), ReadFault>
-    ensures { Gives (λ x. (command_of x.0, lexemes_in x.1)) result
+fn repeated(alloc: Global, depth: u32, tokens: &mut Front) -> Result<Command, ReadFault>
+    ensures { Gives (λ found. (command_of found, lexemes_in tokens.new)) result
         (loop_at (cond_at depth) (block_at u32.MAX (command_at u32.MAX depth))
-        (lexemes_in tokens.entry)) }
+        (lexemes_in tokens.old)) }
 {
-    let (test, rest) = condition(alloc, depth, tokens)?;
-    let (body, rest) = block(alloc, depth, rest)?;
-    Ok((Command::While(test, body), rest))
+    let test = condition(alloc, depth, tokens)?;
+    let body = block(alloc, depth, tokens)?;
+    Ok(Command::While(test, body))
 }
 
 // What stands behind the word `local`.
 #[cycle(command)]
 #[tactic(auto, unfolding(crate::specs::Commands::local_at))]
-fn with_local<'a>(
-    alloc: Global,
-    depth: u32,
-    tokens: Front<'a>,
-) -> Result<(Command, Front<'a>), ReadFault>
-    ensures { Gives (λ x. (command_of x.0, lexemes_in x.1)) result
-        (local_at (block_at u32.MAX (command_at u32.MAX depth)) (lexemes_in tokens.entry)) }
+fn with_local(alloc: Global, depth: u32, tokens: &mut Front) -> Result<Command, ReadFault>
+    ensures { Gives (λ found. (command_of found, lexemes_in tokens.new)) result
+        (local_at (block_at u32.MAX (command_at u32.MAX depth)) (lexemes_in tokens.old)) }
 {
-    let (name, rest) = name(alloc, tokens)?;
-    let rest = expect(rest, ":")?;
-    let (sort, rest) = value_sort(rest)?;
-    let (body, rest) = block(alloc, depth, rest)?;
-    Ok((Command::Local(ProgVar { name, sort }, body), rest))
+    let name = name(alloc, tokens)?;
+    expect(tokens, ":")?;
+    let sort = value_sort(tokens)?;
+    let body = block(alloc, depth, tokens)?;
+    Ok(Command::Local(ProgVar { name, sort }, body))
 }
 
-/// A command, nested at most so deep.
+/// A command, nested at most so deep; moves behind it.
 #[cycle(command)]
 #[tactic(auto, unfolding(crate::specs::Commands::command_at))]
-pub fn command<'a>(
-    alloc: Global,
-    depth: u32,
-    tokens: Front<'a>,
-) -> Result<(Command, Front<'a>), ReadFault>
-    ensures { Gives (λ x. (command_of x.0, lexemes_in x.1)) result
-        (command_at u32.MAX depth (lexemes_in tokens.entry)) }
+pub fn command(alloc: Global, depth: u32, tokens: &mut Front) -> Result<Command, ReadFault>
+    ensures { Gives (λ found. (command_of found, lexemes_in tokens.new)) result
+        (command_at u32.MAX depth (lexemes_in tokens.old)) }
 {
     if depth == 0 {
         return Err(ReadFault::Memory);
     }
-    if let Some(rest) = after(tokens, "skip") {
-        return Ok((Command::Skip, rest));
+    if skip(tokens, "skip") {
+        return Ok(Command::Skip);
     }
-    if let Some(rest) = after(tokens, "{") {
-        let (block, rest) = rest_of_block(alloc, depth - 1, rest)?;
-        return Ok((Command::Block(block), rest));
+    if skip(tokens, "{") {
+        let block = rest_of_block(alloc, depth - 1, tokens)?;
+        return Ok(Command::Block(block));
     }
-    if let Some(rest) = after(tokens, "if") {
-        return choice(alloc, depth - 1, rest);
+    if skip(tokens, "if") {
+        return choice(alloc, depth - 1, tokens);
     }
-    if let Some(rest) = after(tokens, "while") {
-        return repeated(alloc, depth - 1, rest);
+    if skip(tokens, "while") {
+        return repeated(alloc, depth - 1, tokens);
     }
-    if let Some(rest) = after(tokens, "local") {
-        return with_local(alloc, depth - 1, rest);
+    if skip(tokens, "local") {
+        return with_local(alloc, depth - 1, tokens);
     }
-    if let Some(rest) = after(tokens, "call") {
-        return called(alloc, depth - 1, rest);
+    if skip(tokens, "call") {
+        return called(alloc, depth - 1, tokens);
     }
     other_command(alloc, depth - 1, tokens)
 }

@@ -12,77 +12,67 @@ use dom_terms::{Cond, Term};
 use logic_text::{Place, term};
 use std::alloc::Global;
 use text_tokens::Front;
-use token_readers::{ReadFault, after, expect};
+use token_readers::{ReadFault, expect, skip};
 
 // A term of a command that is a variable, as a condition.
-fn lone<'a>(left: Term, tokens: Front<'a>) -> Result<(Cond, Front<'a>), ReadFault>
-    ensures { Gives (λ x. (cond_of x.0, lexemes_in x.1)) result
-        (lone_name (term_of left) (lexemes_in tokens.entry)) }
+fn lone(left: Term, tokens: &Front) -> Result<Cond, ReadFault>
+    ensures { Gives (λ found. (cond_of found, lexemes_in tokens.now)) result
+        (lone_name (term_of left) (lexemes_in tokens.now)) }
 {
     match left {
-        Term::Prog(variable) => Ok((Cond::Holds(variable), tokens)),
+        Term::Prog(variable) => Ok(Cond::Holds(variable)),
         _ => Err(ReadFault::Text(tokens.count())),
     }
 }
 
 // What stands behind the first term of a condition.
 #[tactic(auto, unfolding(crate::specs::Commands::cond_compared_at))]
-fn compared<'a>(
-    alloc: Global,
-    depth: u32,
-    left: Term,
-    tokens: Front<'a>,
-) -> Result<(Cond, Front<'a>), ReadFault>
-    ensures { Gives (λ x. (cond_of x.0, lexemes_in x.1)) result
-        (cond_compared_at (term_at in_command depth) (term_of left) (lexemes_in tokens.entry)) }
+fn compared(alloc: Global, depth: u32, left: Term, tokens: &mut Front) -> Result<Cond, ReadFault>
+    ensures { Gives (λ found. (cond_of found, lexemes_in tokens.new)) result
+        (cond_compared_at (term_at in_command depth) (term_of left) (lexemes_in tokens.old)) }
 {
-    if let Some(rest) = after(tokens, "=") {
-        let (right, rest) = term(alloc, Place::Command, depth, rest)?;
-        return Ok((Cond::Eq(left, right), rest));
+    if skip(tokens, "=") {
+        let right = term(alloc, Place::Command, depth, tokens)?;
+        return Ok(Cond::Eq(left, right));
     }
-    if let Some(rest) = after(tokens, "<=") {
-        let (right, rest) = term(alloc, Place::Command, depth, rest)?;
-        return Ok((Cond::Le(left, right), rest));
+    if skip(tokens, "<=") {
+        let right = term(alloc, Place::Command, depth, tokens)?;
+        return Ok(Cond::Le(left, right));
     }
     lone(left, tokens)
 }
 
 // A condition in a box of its own.
 #[cycle(condition)]
-fn boxed<'a>(
-    alloc: Global,
-    depth: u32,
-    tokens: Front<'a>,
-) -> Result<(Box<Cond>, Front<'a>), ReadFault>
-    ensures { Gives (λ x. (cond_of x.0.value, lexemes_in x.1)) result
-        (cond_at depth (lexemes_in tokens.entry)) }
+fn boxed(alloc: Global, depth: u32, tokens: &mut Front) -> Result<Box<Cond>, ReadFault>
+    ensures { Gives (λ found. (cond_of found.value, lexemes_in tokens.new)) result
+        (cond_at depth (lexemes_in tokens.old)) }
 {
-    let (inner, rest) = condition(alloc, depth, tokens)?;
-    let inner = Box::new(alloc, inner)?;
-    Ok((inner, rest))
+    let inner = condition(alloc, depth, tokens)?;
+    Ok(Box::new(alloc, inner)?)
 }
 
 // What stands behind an open bracket and a condition.
 #[cycle(condition)]
 #[tactic(auto, unfolding(crate::specs::Commands::cond_joined_at))]
-fn connected<'a>(
+fn connected(
     alloc: Global,
     depth: u32,
     left: Box<Cond>,
-    tokens: Front<'a>,
-) -> Result<(Cond, Front<'a>), ReadFault>
-    ensures { Gives (λ x. (cond_of x.0, lexemes_in x.1)) result
-        (cond_joined_at (cond_at depth) (cond_of left.value) (lexemes_in tokens.entry)) }
+    tokens: &mut Front,
+) -> Result<Cond, ReadFault>
+    ensures { Gives (λ found. (cond_of found, lexemes_in tokens.new)) result
+        (cond_joined_at (cond_at depth) (cond_of left.value) (lexemes_in tokens.old)) }
 {
-    if let Some(rest) = after(tokens, "and") {
-        let (right, rest) = boxed(alloc, depth, rest)?;
-        let rest = expect(rest, ")")?;
-        return Ok((Cond::And(left, right), rest));
+    if skip(tokens, "and") {
+        let right = boxed(alloc, depth, tokens)?;
+        expect(tokens, ")")?;
+        return Ok(Cond::And(left, right));
     }
-    if let Some(rest) = after(tokens, "or") {
-        let (right, rest) = boxed(alloc, depth, rest)?;
-        let rest = expect(rest, ")")?;
-        return Ok((Cond::Or(left, right), rest));
+    if skip(tokens, "or") {
+        let right = boxed(alloc, depth, tokens)?;
+        expect(tokens, ")")?;
+        return Ok(Cond::Or(left, right));
     }
     Err(ReadFault::Text(tokens.count()))
 }
@@ -90,42 +80,38 @@ fn connected<'a>(
 // What stands behind an open bracket.
 #[cycle(condition)]
 #[tactic(auto, unfolding(crate::specs::Commands::cond_bracket_at))]
-fn bracket<'a>(alloc: Global, depth: u32, tokens: Front<'a>) -> Result<(Cond, Front<'a>), ReadFault>
-    ensures { Gives (λ x. (cond_of x.0, lexemes_in x.1)) result
-        (cond_bracket_at (cond_at depth) (lexemes_in tokens.entry)) }
+fn bracket(alloc: Global, depth: u32, tokens: &mut Front) -> Result<Cond, ReadFault>
+    ensures { Gives (λ found. (cond_of found, lexemes_in tokens.new)) result
+        (cond_bracket_at (cond_at depth) (lexemes_in tokens.old)) }
 {
-    if let Some(rest) = after(tokens, "not") {
-        let (inner, rest) = boxed(alloc, depth, rest)?;
-        let rest = expect(rest, ")")?;
-        return Ok((Cond::Not(inner), rest));
+    if skip(tokens, "not") {
+        let inner = boxed(alloc, depth, tokens)?;
+        expect(tokens, ")")?;
+        return Ok(Cond::Not(inner));
     }
-    let (left, rest) = boxed(alloc, depth, tokens)?;
-    connected(alloc, depth, left, rest)
+    let left = boxed(alloc, depth, tokens)?;
+    connected(alloc, depth, left, tokens)
 }
 
-/// A condition, nested at most so deep.
+/// A condition, nested at most so deep; moves behind it.
 #[cycle(condition)]
 #[tactic(auto, unfolding(crate::specs::Commands::cond_at))]
-pub fn condition<'a>(
-    alloc: Global,
-    depth: u32,
-    tokens: Front<'a>,
-) -> Result<(Cond, Front<'a>), ReadFault>
-    ensures { Gives (λ x. (cond_of x.0, lexemes_in x.1)) result
-        (cond_at depth (lexemes_in tokens.entry)) }
+pub fn condition(alloc: Global, depth: u32, tokens: &mut Front) -> Result<Cond, ReadFault>
+    ensures { Gives (λ found. (cond_of found, lexemes_in tokens.new)) result
+        (cond_at depth (lexemes_in tokens.old)) }
 {
     if depth == 0 {
         return Err(ReadFault::Memory);
     }
-    if let Some(rest) = after(tokens, "(") {
-        return bracket(alloc, depth - 1, rest);
+    if skip(tokens, "(") {
+        return bracket(alloc, depth - 1, tokens);
     }
-    if let Some(rest) = after(tokens, "true") {
-        return Ok((Cond::True, rest));
+    if skip(tokens, "true") {
+        return Ok(Cond::True);
     }
-    if let Some(rest) = after(tokens, "false") {
-        return Ok((Cond::False, rest));
+    if skip(tokens, "false") {
+        return Ok(Cond::False);
     }
-    let (left, rest) = term(alloc, Place::Command, depth, tokens)?;
-    compared(alloc, depth - 1, left, rest)
+    let left = term(alloc, Place::Command, depth, tokens)?;
+    compared(alloc, depth - 1, left, tokens)
 }

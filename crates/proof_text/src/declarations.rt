@@ -43,16 +43,19 @@ fn shape_sort_of(token: Lexeme) -> Option<Sort>
     }
 }
 
-/// A sort of shapes or contexts.
-pub fn shape_sort(tokens: Front) -> Result<(Sort, Front), ReadFault>
-    ensures { Gives (λ x. (sort_of x.0, lexemes_in x.1)) result
-        (leaf leaf_shape_sort (lexemes_in tokens.entry)) }
+/// A sort of shapes or contexts; moves behind it.
+pub fn shape_sort(tokens: &mut Front) -> Result<Sort, ReadFault>
+    ensures { Gives (λ found. (sort_of found, lexemes_in tokens.new)) result
+        (leaf leaf_shape_sort (lexemes_in tokens.old)) }
 {
-    let Some((first, rest)) = tokens.split_first() else {
+    let Some(first) = tokens.first() else {
         return Err(ReadFault::Text(0));
     };
     match shape_sort_of(first) {
-        Some(sort) => Ok((sort, rest)),
+        Some(sort) => {
+            tokens.advance();
+            Ok(sort)
+        }
         None => Err(ReadFault::Text(tokens.count())),
     }
 }
@@ -79,30 +82,33 @@ fn sort_of(token: Lexeme) -> Option<Sort>
     }
 }
 
-/// A sort.
-pub fn any_sort(tokens: Front) -> Result<(Sort, Front), ReadFault>
-    ensures { Gives (λ x. (sort_of x.0, lexemes_in x.1)) result
-        (leaf leaf_sort (lexemes_in tokens.entry)) }
+/// A sort; moves behind it.
+pub fn any_sort(tokens: &mut Front) -> Result<Sort, ReadFault>
+    ensures { Gives (λ found. (sort_of found, lexemes_in tokens.new)) result
+        (leaf leaf_sort (lexemes_in tokens.old)) }
 {
-    let Some((first, rest)) = tokens.split_first() else {
+    let Some(first) = tokens.first() else {
         return Err(ReadFault::Text(0));
     };
     match sort_of(first) {
-        Some(sort) => Ok((sort, rest)),
+        Some(sort) => {
+            tokens.advance();
+            Ok(sort)
+        }
         None => Err(ReadFault::Text(tokens.count())),
     }
 }
 
 // A name and its sort.
 #[tactic(auto, unfolding(crate::specs::Theories::declaration_at))]
-fn declaration(alloc: Global, tokens: Front) -> Result<(ProgVar, Front), ReadFault>
-    ensures { Gives (λ x. (prog_var_of x.0, lexemes_in x.1)) result
-        (declaration_at (lexemes_in tokens.entry)) }
+fn declaration(alloc: Global, tokens: &mut Front) -> Result<ProgVar, ReadFault>
+    ensures { Gives (λ found. (prog_var_of found, lexemes_in tokens.new)) result
+        (declaration_at (lexemes_in tokens.old)) }
 {
-    let (name, rest) = name(alloc, tokens)?;
-    let rest = expect(rest, ":")?;
-    let (sort, rest) = value_sort(rest)?;
-    Ok((ProgVar { name, sort }, rest))
+    let name = name(alloc, tokens)?;
+    expect(tokens, ":")?;
+    let sort = value_sort(tokens)?;
+    Ok(ProgVar { name, sort })
 }
 
 // Reads declarations.
@@ -118,18 +124,18 @@ impl Reader<ProgVar> for DeclarationReader {
 
     ghost reading = { λ _. declaration_at };
 
-    fn read<'a>(&self, alloc: Global, tokens: Front<'a>) -> Result<(ProgVar, Front<'a>), ReadFault>
-        ensures { Gives (λ x. (prog_var_of x.0, lexemes_in x.1)) result
-            (declaration_at (lexemes_in tokens.entry)) }
+    fn read(&self, alloc: Global, tokens: &mut Front) -> Result<ProgVar, ReadFault>
+        ensures { Gives (λ found. (prog_var_of found, lexemes_in tokens.new)) result
+            (declaration_at (lexemes_in tokens.old)) }
     {
         declaration(alloc, tokens)
     }
 }
 
-/// The declarations in brackets.
-pub fn declarations(alloc: Global, tokens: Front) -> Result<(Vars, Front), ReadFault>
-    ensures { Gives (λ x. (map prog_var_of x.0, lexemes_in x.1)) result
-        (bracketed_at declaration_at u32.MAX (lexemes_in tokens.entry)) }
+/// The declarations in brackets; moves behind them.
+pub fn declarations(alloc: Global, tokens: &mut Front) -> Result<Vars, ReadFault>
+    ensures { Gives (λ found. (map prog_var_of found, lexemes_in tokens.new)) result
+        (bracketed_at declaration_at u32.MAX (lexemes_in tokens.old)) }
 {
     bracketed(alloc, &DeclarationReader, tokens)
 }

@@ -13,64 +13,52 @@ use logic_text::formula;
 use std::alloc::Global;
 use text_tokens::Front;
 use theory_syntax::{Judgement, Triple};
-use token_readers::{ReadFault, after, expect};
+use token_readers::{ReadFault, expect, skip};
 
 // What stands behind the word `pre`.
 #[tactic(auto, unfolding(crate::specs::Theories::triple_at))]
-fn triple<'a>(
-    alloc: Global,
-    depth: u32,
-    tokens: Front<'a>,
-) -> Result<(Judgement, Front<'a>), ReadFault>
-    ensures { Gives (λ x. (judgement_of x.0, lexemes_in x.1)) result
-        (triple_at depth u32.MAX (lexemes_in tokens.entry)) }
+fn triple(alloc: Global, depth: u32, tokens: &mut Front) -> Result<Judgement, ReadFault>
+    ensures { Gives (λ found. (judgement_of found, lexemes_in tokens.new)) result
+        (triple_at depth u32.MAX (lexemes_in tokens.old)) }
 {
-    let (pre, rest) = formula(alloc, depth, tokens)?;
-    let rest = expect(rest, "do")?;
-    let (command, rest) = command(alloc, depth, rest)?;
-    let rest = expect(rest, "post")?;
-    let (post, rest) = formula(alloc, depth, rest)?;
-    let rest = expect(rest, "at")?;
-    let (sort, rest) = data_sort(rest)?;
+    let pre = formula(alloc, depth, tokens)?;
+    expect(tokens, "do")?;
+    let command = command(alloc, depth, tokens)?;
+    expect(tokens, "post")?;
+    let post = formula(alloc, depth, tokens)?;
+    expect(tokens, "at")?;
+    let sort = data_sort(tokens)?;
     let triple = Triple {
         pre,
         command,
         post,
         sort,
     };
-    Ok((Judgement::Triple(triple), rest))
+    Ok(Judgement::Triple(triple))
 }
 
 #[tactic(auto, unfolding(crate::specs::Theories::entailment_at))]
-fn entailment<'a>(
-    alloc: Global,
-    depth: u32,
-    tokens: Front<'a>,
-) -> Result<(Judgement, Front<'a>), ReadFault>
-    ensures { Gives (λ x. (judgement_of x.0, lexemes_in x.1)) result
-        (entailment_at depth (lexemes_in tokens.entry)) }
+fn entailment(alloc: Global, depth: u32, tokens: &mut Front) -> Result<Judgement, ReadFault>
+    ensures { Gives (λ found. (judgement_of found, lexemes_in tokens.new)) result
+        (entailment_at depth (lexemes_in tokens.old)) }
 {
-    let (left, rest) = formula(alloc, depth, tokens)?;
-    let rest = expect(rest, "entails")?;
-    let (right, rest) = formula(alloc, depth, rest)?;
-    let rest = expect(rest, "at")?;
-    let (sort, rest) = shape_sort(rest)?;
+    let left = formula(alloc, depth, tokens)?;
+    expect(tokens, "entails")?;
+    let right = formula(alloc, depth, tokens)?;
+    expect(tokens, "at")?;
+    let sort = shape_sort(tokens)?;
     let entailment = Entailment { left, right, sort };
-    Ok((Judgement::Entails(entailment), rest))
+    Ok(Judgement::Entails(entailment))
 }
 
-/// A judgement.
+/// A judgement; moves behind it.
 #[tactic(auto, unfolding(crate::specs::Theories::judgement_at))]
-pub fn judgement<'a>(
-    alloc: Global,
-    depth: u32,
-    tokens: Front<'a>,
-) -> Result<(Judgement, Front<'a>), ReadFault>
-    ensures { Gives (λ x. (judgement_of x.0, lexemes_in x.1)) result
-        (judgement_at depth u32.MAX (lexemes_in tokens.entry)) }
+pub fn judgement(alloc: Global, depth: u32, tokens: &mut Front) -> Result<Judgement, ReadFault>
+    ensures { Gives (λ found. (judgement_of found, lexemes_in tokens.new)) result
+        (judgement_at depth u32.MAX (lexemes_in tokens.old)) }
 {
-    if let Some(rest) = after(tokens, "pre") {
-        return triple(alloc, depth, rest);
+    if skip(tokens, "pre") {
+        return triple(alloc, depth, tokens);
     }
     entailment(alloc, depth, tokens)
 }

@@ -18,9 +18,9 @@ use text_tokens::Front;
 use token_readers::{ReadFault, Reader, expect, repeated, separated};
 
 // One or more logic names with commas between them.
-fn names(alloc: Global, tokens: Front) -> Result<(List<Text>, Front), ReadFault>
-    ensures { Gives (λ x. (x.0, lexemes_in x.1)) result
-        (sep_list comma (leaf leaf_logic) u32.MAX (lexemes_in tokens.entry)) }
+fn names(alloc: Global, tokens: &mut Front) -> Result<List<Text>, ReadFault>
+    ensures { Gives (λ found. (found, lexemes_in tokens.new)) result
+        (sep_list comma (leaf leaf_logic) u32.MAX (lexemes_in tokens.old)) }
 {
     separated(alloc, &LogicNameReader, ",", tokens)
 }
@@ -40,15 +40,15 @@ fn of_sort(alloc: Global, names: &[Text], sort: Sort) -> Result<LogicVars, OutOf
 
 // What stands behind the word `logic`.
 #[tactic(auto, unfolding(crate::specs::Theories::logic_tail))]
-fn line(alloc: Global, tokens: Front) -> Result<(LogicVars, Front), ReadFault>
-    ensures { Gives (λ x. (map logic_var_of x.0, lexemes_in x.1)) result
-        (logic_tail u32.MAX (lexemes_in tokens.entry)) }
+fn line(alloc: Global, tokens: &mut Front) -> Result<LogicVars, ReadFault>
+    ensures { Gives (λ found. (map logic_var_of found, lexemes_in tokens.new)) result
+        (logic_tail u32.MAX (lexemes_in tokens.old)) }
 {
-    let (sort, rest) = any_sort(tokens)?;
-    let (names, rest) = names(alloc, rest)?;
-    let rest = expect(rest, ";")?;
+    let sort = any_sort(tokens)?;
+    let names = names(alloc, tokens)?;
+    expect(tokens, ";")?;
     let all = of_sort(alloc, names.as_slice(), sort)?;
-    Ok((all, rest))
+    Ok(all)
 }
 
 // Reads what stands behind the word `logic`.
@@ -65,23 +65,19 @@ impl Reader<LogicVars> for LineReader {
 
     ghost reading = { λ _. logic_tail 4294967295 };
 
-    fn read<'a>(
-        &self,
-        alloc: Global,
-        tokens: Front<'a>,
-    ) -> Result<(LogicVars, Front<'a>), ReadFault>
-        ensures { Gives (λ x. (map logic_var_of x.0, lexemes_in x.1)) result
-            (logic_tail 4294967295 (lexemes_in tokens.entry)) }
+    fn read(&self, alloc: Global, tokens: &mut Front) -> Result<LogicVars, ReadFault>
+        ensures { Gives (λ found. (map logic_var_of found, lexemes_in tokens.new)) result
+            (logic_tail 4294967295 (lexemes_in tokens.old)) }
     {
         line(alloc, tokens)
     }
 }
 
-/// The lines, as long as one begins.
+/// The lines, as long as one begins; moves behind them.
 #[tactic(auto, unfolding(crate::specs::Theories::logic_lines_at))]
-pub fn lines(alloc: Global, tokens: Front) -> Result<(List<LogicVars>, Front), ReadFault>
-    ensures { Gives (λ x. (map (map logic_var_of) x.0, lexemes_in x.1)) result
-        (logic_lines_at u32.MAX (lexemes_in tokens.entry)) }
+pub fn lines(alloc: Global, tokens: &mut Front) -> Result<List<LogicVars>, ReadFault>
+    ensures { Gives (λ found. (map (map logic_var_of) found, lexemes_in tokens.new)) result
+        (logic_lines_at u32.MAX (lexemes_in tokens.old)) }
 {
     repeated(alloc, &LineReader, "logic", List::new(alloc), tokens)
 }

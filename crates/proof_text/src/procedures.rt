@@ -30,26 +30,26 @@ struct Header {
 
 // What stands behind the header.
 #[tactic(auto, unfolding(crate::specs::Theories::contents_at))]
-fn contents<'a>(
+fn contents(
     alloc: Global,
     header: Header,
     depth: u32,
-    tokens: Front<'a>,
-) -> Result<(Procedure, Front<'a>), ReadFault>
-    ensures { Gives (λ x. (procedure_of x.0, lexemes_in x.1)) result
+    tokens: &mut Front,
+) -> Result<Procedure, ReadFault>
+    ensures { Gives (λ found. (procedure_of found, lexemes_in tokens.new)) result
         (contents_at depth u32.MAX header.name (map prog_var_of header.params)
         (map prog_var_of header.results)
-        (data_sort_of header.sort) (lexemes_in tokens.entry)) }
+        (data_sort_of header.sort) (lexemes_in tokens.old)) }
 {
-    let rest = expect(tokens, "requires")?;
-    let (pre, rest) = formula(alloc, depth, rest)?;
-    let rest = expect(rest, "ensures")?;
-    let (post, rest) = formula(alloc, depth, rest)?;
-    let rest = expect(rest, "body")?;
-    let (body, rest) = command(alloc, depth, rest)?;
-    let rest = expect(rest, "proof")?;
-    let (proof, rest) = steps(alloc, depth, rest)?;
-    let rest = expect(rest, "end")?;
+    expect(tokens, "requires")?;
+    let pre = formula(alloc, depth, tokens)?;
+    expect(tokens, "ensures")?;
+    let post = formula(alloc, depth, tokens)?;
+    expect(tokens, "body")?;
+    let body = command(alloc, depth, tokens)?;
+    expect(tokens, "proof")?;
+    let proof = steps(alloc, depth, tokens)?;
+    expect(tokens, "end")?;
     let Header {
         name,
         params,
@@ -66,28 +66,28 @@ fn contents<'a>(
         body,
         proof,
     };
-    Ok((procedure, rest))
+    Ok(procedure)
 }
 
 // What stands behind the word `proc`.
 #[tactic(auto, unfolding(crate::specs::Theories::procedure_tail))]
-fn procedure(alloc: Global, depth: u32, tokens: Front) -> Result<(Procedure, Front), ReadFault>
-    ensures { Gives (λ x. (procedure_of x.0, lexemes_in x.1)) result
-        (procedure_tail depth u32.MAX (lexemes_in tokens.entry)) }
+fn procedure(alloc: Global, depth: u32, tokens: &mut Front) -> Result<Procedure, ReadFault>
+    ensures { Gives (λ found. (procedure_of found, lexemes_in tokens.new)) result
+        (procedure_tail depth u32.MAX (lexemes_in tokens.old)) }
 {
-    let (name, rest) = name(alloc, tokens)?;
-    let (params, rest) = declarations(alloc, rest)?;
-    let rest = expect(rest, "returns")?;
-    let (results, rest) = declarations(alloc, rest)?;
-    let rest = expect(rest, "sort")?;
-    let (sort, rest) = data_sort(rest)?;
+    let name = name(alloc, tokens)?;
+    let params = declarations(alloc, tokens)?;
+    expect(tokens, "returns")?;
+    let results = declarations(alloc, tokens)?;
+    expect(tokens, "sort")?;
+    let sort = data_sort(tokens)?;
     let header = Header {
         name,
         params,
         results,
         sort,
     };
-    contents(alloc, header, depth, rest)
+    contents(alloc, header, depth, tokens)
 }
 
 // Reads what stands behind the word `proc`, nested at most so deep.
@@ -106,45 +106,37 @@ impl Reader<Procedure> for ProcedureReader {
 
     ghost reading = { λ reader. procedure_tail reader.depth 4294967295 };
 
-    fn read<'a>(
-        &self,
-        alloc: Global,
-        tokens: Front<'a>,
-    ) -> Result<(Procedure, Front<'a>), ReadFault>
-        ensures { Gives (λ x. (procedure_of x.0, lexemes_in x.1)) result
-            (procedure_tail self.now.depth 4294967295 (lexemes_in tokens.entry)) }
+    fn read(&self, alloc: Global, tokens: &mut Front) -> Result<Procedure, ReadFault>
+        ensures { Gives (λ found. (procedure_of found, lexemes_in tokens.new)) result
+            (procedure_tail self.now.depth 4294967295 (lexemes_in tokens.old)) }
     {
         procedure(alloc, self.depth, tokens)
     }
 }
 
 // The procedures behind the first, as long as one begins.
-fn more_procedures<'a>(
+fn more_procedures(
     alloc: Global,
     first: Procedure,
     depth: u32,
-    tokens: Front<'a>,
-) -> Result<(Procedures, Front<'a>), ReadFault>
-    ensures { Gives (λ x. (map procedure_of x.0, lexemes_in x.1)) result
+    tokens: &mut Front,
+) -> Result<Procedures, ReadFault>
+    ensures { Gives (λ found. (map procedure_of found, lexemes_in tokens.new)) result
         (with_front (procedure_of first ∷ [])
-        (more_procedures_at depth u32.MAX (lexemes_in tokens.entry))) }
+        (more_procedures_at depth u32.MAX (lexemes_in tokens.old))) }
 {
     let mut found = Procedures::new(alloc);
     found.push(first)?;
     repeated(alloc, &ProcedureReader { depth }, "proc", found, tokens)
 }
 
-/// One procedure or more.
+/// One procedure or more; moves behind them.
 #[tactic(auto, unfolding(crate::specs::Theories::procedures_at))]
-pub fn procedures(
-    alloc: Global,
-    depth: u32,
-    tokens: Front,
-) -> Result<(Procedures, Front), ReadFault>
-    ensures { Gives (λ x. (map procedure_of x.0, lexemes_in x.1)) result
-        (procedures_at depth u32.MAX (lexemes_in tokens.entry)) }
+pub fn procedures(alloc: Global, depth: u32, tokens: &mut Front) -> Result<Procedures, ReadFault>
+    ensures { Gives (λ found. (map procedure_of found, lexemes_in tokens.new)) result
+        (procedures_at depth u32.MAX (lexemes_in tokens.old)) }
 {
-    let rest = expect(tokens, "proc")?;
-    let (first, rest) = procedure(alloc, depth, rest)?;
-    more_procedures(alloc, first, depth, rest)
+    expect(tokens, "proc")?;
+    let first = procedure(alloc, depth, tokens)?;
+    more_procedures(alloc, first, depth, tokens)
 }

@@ -35,16 +35,19 @@ fn value_sort_of(token: Lexeme) -> Option<ValueSort>
     }
 }
 
-/// A sort of values.
-pub fn value_sort(tokens: Front) -> Result<(ValueSort, Front), ReadFault>
-    ensures { Gives (λ x. (value_sort_of x.0, lexemes_in x.1)) result
-        (leaf leaf_value_sort (lexemes_in tokens.entry)) }
+/// A sort of values; moves behind it.
+pub fn value_sort(tokens: &mut Front) -> Result<ValueSort, ReadFault>
+    ensures { Gives (λ found. (value_sort_of found, lexemes_in tokens.new)) result
+        (leaf leaf_value_sort (lexemes_in tokens.old)) }
 {
-    let Some((first, rest)) = tokens.split_first() else {
+    let Some(first) = tokens.first() else {
         return Err(ReadFault::Text(0));
     };
     match value_sort_of(first) {
-        Some(sort) => Ok((sort, rest)),
+        Some(sort) => {
+            tokens.advance();
+            Ok(sort)
+        }
         None => Err(ReadFault::Text(tokens.count())),
     }
 }
@@ -69,37 +72,39 @@ fn data_sort_of(token: Lexeme) -> Option<DataSort>
     }
 }
 
-/// A sort of data.
-pub fn data_sort(tokens: Front) -> Result<(DataSort, Front), ReadFault>
-    ensures { Gives (λ x. (data_sort_of x.0, lexemes_in x.1)) result
-        (leaf leaf_data_sort (lexemes_in tokens.entry)) }
+/// A sort of data; moves behind it.
+pub fn data_sort(tokens: &mut Front) -> Result<DataSort, ReadFault>
+    ensures { Gives (λ found. (data_sort_of found, lexemes_in tokens.new)) result
+        (leaf leaf_data_sort (lexemes_in tokens.old)) }
 {
-    let Some((first, rest)) = tokens.split_first() else {
+    let Some(first) = tokens.first() else {
         return Err(ReadFault::Text(0));
     };
     match data_sort_of(first) {
-        Some(sort) => Ok((sort, rest)),
+        Some(sort) => {
+            tokens.advance();
+            Ok(sort)
+        }
         None => Err(ReadFault::Text(tokens.count())),
     }
 }
 
-/// A variable as it is used, before it has its sort.
+/// A variable as it is used, before it has its sort; moves behind it.
 #[inline(always)]
-pub fn variable(alloc: Global, tokens: Front) -> Result<(ProgVar, Front), ReadFault>
-    ensures { Gives (λ x. (prog_var_of x.0, lexemes_in x.1)) result
-        (leaf leaf_variable (lexemes_in tokens.entry)) }
+pub fn variable(alloc: Global, tokens: &mut Front) -> Result<ProgVar, ReadFault>
+    ensures { Gives (λ found. (prog_var_of found, lexemes_in tokens.new)) result
+        (leaf leaf_variable (lexemes_in tokens.old)) }
 {
-    let Some((first, rest)) = tokens.split_first() else {
+    let Some(first) = tokens.first() else {
         return Err(ReadFault::Text(0));
     };
-    match first.name() {
-        Some(name) => {
-            let name = Text::from_str(alloc, name)?;
-            let sort = ValueSort::Node;
-            Ok((ProgVar { name, sort }, rest))
-        }
-        None => Err(ReadFault::Text(tokens.count())),
-    }
+    let Some(name) = first.name() else {
+        return Err(ReadFault::Text(tokens.count()));
+    };
+    let name = Text::from_str(alloc, name)?;
+    tokens.advance();
+    let sort = ValueSort::Node;
+    Ok(ProgVar { name, sort })
 }
 
 /// Reads variables as they are used.
@@ -115,9 +120,9 @@ impl Reader<ProgVar> for VariableReader {
 
     ghost reading = { λ _. leaf leaf_variable };
 
-    fn read<'a>(&self, alloc: Global, tokens: Front<'a>) -> Result<(ProgVar, Front<'a>), ReadFault>
-        ensures { Gives (λ x. (prog_var_of x.0, lexemes_in x.1)) result
-            (leaf leaf_variable (lexemes_in tokens.entry)) }
+    fn read(&self, alloc: Global, tokens: &mut Front) -> Result<ProgVar, ReadFault>
+        ensures { Gives (λ found. (prog_var_of found, lexemes_in tokens.new)) result
+            (leaf leaf_variable (lexemes_in tokens.old)) }
     {
         variable(alloc, tokens)
     }

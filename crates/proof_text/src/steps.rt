@@ -15,7 +15,7 @@ use logic_text::Place;
 use std::alloc::Global;
 use text_tokens::Front;
 use theory_syntax::{Reason, Step, Steps};
-use token_readers::{ReadFault, Reader, after, expect, number, step_line, word};
+use token_readers::{ReadFault, Reader, expect, number, skip, step_line, word};
 
 // Reads numbers of steps.
 #[derive(Clone, Copy)]
@@ -30,112 +30,91 @@ impl Reader<u32> for NumberReader {
 
     ghost reading = { λ _. leaf leaf_number };
 
-    fn read<'a>(&self, _alloc: Global, tokens: Front<'a>) -> Result<(u32, Front<'a>), ReadFault>
-        ensures { Gives (λ x. (x.0, lexemes_in x.1)) result
-            (leaf leaf_number (lexemes_in tokens.entry)) }
+    fn read(&self, _alloc: Global, tokens: &mut Front) -> Result<u32, ReadFault>
+        ensures { Gives (λ found. (found, lexemes_in tokens.new)) result
+            (leaf leaf_number (lexemes_in tokens.old)) }
     {
         number(tokens)
     }
 }
 
 // The numbers of the steps that a step cites, in brackets.
-fn premises(alloc: Global, tokens: Front) -> Result<(Numbers, Front), ReadFault>
-    ensures { Gives (λ x. (x.0, lexemes_in x.1)) result
-        (bracketed_at (leaf leaf_number) u32.MAX (lexemes_in tokens.entry)) }
+fn premises(alloc: Global, tokens: &mut Front) -> Result<Numbers, ReadFault>
+    ensures { Gives (λ found. (found, lexemes_in tokens.new)) result
+        (bracketed_at (leaf leaf_number) u32.MAX (lexemes_in tokens.old)) }
 {
     bracketed(alloc, &NumberReader, tokens)
 }
 
 // The arguments of a rule, behind the word `with`.
 #[tactic(auto, unfolding(crate::specs::Theories::arguments_at))]
-fn arguments<'a>(
-    alloc: Global,
-    depth: u32,
-    tokens: Front<'a>,
-) -> Result<(Terms, Front<'a>), ReadFault>
-    ensures { Gives (λ x. (map term_of x.0, lexemes_in x.1)) result
-        (arguments_at depth u32.MAX (lexemes_in tokens.entry)) }
+fn arguments(alloc: Global, depth: u32, tokens: &mut Front) -> Result<Terms, ReadFault>
+    ensures { Gives (λ found. (map term_of found, lexemes_in tokens.new)) result
+        (arguments_at depth u32.MAX (lexemes_in tokens.old)) }
 {
-    let Some(rest) = after(tokens, "with") else {
-        return Ok((Terms::new(alloc), tokens));
-    };
-    let rest = expect(rest, "(")?;
-    let (found, rest) = listed_terms(alloc, Place::Formula, depth, rest)?;
-    let rest = expect(rest, ")")?;
-    Ok((found, rest))
+    if !skip(tokens, "with") {
+        return Ok(Terms::new(alloc));
+    }
+    expect(tokens, "(")?;
+    let found = listed_terms(alloc, Place::Formula, depth, tokens)?;
+    expect(tokens, ")")?;
+    Ok(found)
 }
 
 // Why the step holds.
 #[tactic(auto, unfolding(crate::specs::Theories::reason_at))]
 #[inline(always)]
-fn reason<'a>(
-    alloc: Global,
-    depth: u32,
-    tokens: Front<'a>,
-) -> Result<(Reason, Front<'a>), ReadFault>
-    ensures { Gives (λ x. (reason_of x.0, lexemes_in x.1)) result
-        (reason_at depth u32.MAX (lexemes_in tokens.entry)) }
+fn reason(alloc: Global, depth: u32, tokens: &mut Front) -> Result<Reason, ReadFault>
+    ensures { Gives (λ found. (reason_of found, lexemes_in tokens.new)) result
+        (reason_at depth u32.MAX (lexemes_in tokens.old)) }
 {
-    if let Some(rest) = after(tokens, "auto") {
-        return Ok((Reason::Auto, rest));
+    if skip(tokens, "auto") {
+        return Ok(Reason::Auto);
     }
-    let rest = expect(tokens, "by")?;
-    let (name, rest) = word(alloc, rest)?;
-    let (premises, rest) = premises(alloc, rest)?;
-    let (arguments, rest) = arguments(alloc, depth, rest)?;
+    expect(tokens, "by")?;
+    let name = word(alloc, tokens)?;
+    let premises = premises(alloc, tokens)?;
+    let arguments = arguments(alloc, depth, tokens)?;
     let reason = Reason::Rule {
         name,
         premises,
         arguments,
     };
-    Ok((reason, rest))
+    Ok(reason)
 }
 
 // What stands behind the word `step`, which is on the line.
 #[tactic(auto, unfolding(crate::specs::Theories::step_tail))]
-fn step<'a>(
-    alloc: Global,
-    depth: u32,
-    line: u32,
-    tokens: Front<'a>,
-) -> Result<(Step, Front<'a>), ReadFault>
-    ensures { Gives (λ x. (step_of x.0, lexemes_in x.1)) result
-        (step_tail depth u32.MAX line (lexemes_in tokens.entry)) }
+fn step(alloc: Global, depth: u32, line: u32, tokens: &mut Front) -> Result<Step, ReadFault>
+    ensures { Gives (λ found. (step_of found, lexemes_in tokens.new)) result
+        (step_tail depth u32.MAX line (lexemes_in tokens.old)) }
 {
-    let (number, rest) = number(tokens)?;
-    let (reason, rest) = reason(alloc, depth, rest)?;
-    let rest = expect(rest, ":")?;
-    let (judgement, rest) = judgement(alloc, depth, rest)?;
-    let rest = expect(rest, ";")?;
+    let number = number(tokens)?;
+    let reason = reason(alloc, depth, tokens)?;
+    expect(tokens, ":")?;
+    let judgement = judgement(alloc, depth, tokens)?;
+    expect(tokens, ";")?;
     let step = Step {
         number,
         line,
         reason,
         judgement,
     };
-    Ok((step, rest))
+    Ok(step)
 }
 
-/// The steps of a proof, as long as one begins.
-pub fn steps<'a>(
-    alloc: Global,
-    depth: u32,
-    tokens: Front<'a>,
-) -> Result<(Steps, Front<'a>), ReadFault>
-    ensures { Gives (λ x. (map step_of x.0, lexemes_in x.1)) result
-        (many leaf_step (step_tail depth u32.MAX) u32.MAX (lexemes_in tokens.entry)) }
+/// The steps of a proof, as long as one begins; moves behind them.
+pub fn steps(alloc: Global, depth: u32, tokens: &mut Front) -> Result<Steps, ReadFault>
+    ensures { Gives (λ found. (map step_of found, lexemes_in tokens.new)) result
+        (many leaf_step (step_tail depth u32.MAX) u32.MAX (lexemes_in tokens.old)) }
 {
     let mut found = Steps::new(alloc);
-    let mut rest = tokens;
     for _ in 0..u32::MAX {
-        match step_line(rest) {
-            Some((line, behind)) => {
-                let (item, next) = step(alloc, depth, line, behind)?;
-                found.push(item)?;
-                rest = next;
-            }
-            None => return Ok((found, rest)),
-        }
+        let Some(line) = step_line(tokens) else {
+            return Ok(found);
+        };
+        let item = step(alloc, depth, line, tokens)?;
+        found.push(item)?;
     }
     Err(ReadFault::Memory)
 }

@@ -25,21 +25,21 @@ pub const MOST_DEPTH: u32 = 128;
 
 // A theory at the front of the tokens; its variables don't have their sorts yet.
 #[tactic(auto, unfolding(crate::specs::Theories::theory_at))]
-fn theory(alloc: Global, tokens: Front) -> Result<(Theory, Front), ReadFault>
-    ensures { Gives (λ x. (theory_of x.0, lexemes_in x.1)) result
-        (theory_at MOST_DEPTH u32.MAX (lexemes_in tokens.entry)) }
+fn theory(alloc: Global, tokens: &mut Front) -> Result<Theory, ReadFault>
+    ensures { Gives (λ found. (theory_of found, lexemes_in tokens.new)) result
+        (theory_at MOST_DEPTH u32.MAX (lexemes_in tokens.old)) }
 {
-    let rest = expect(tokens, "domlogic")?;
-    let (version, rest) = number(rest)?;
-    let (lines, rest) = lines(alloc, rest)?;
-    let (procedures, rest) = procedures(alloc, MOST_DEPTH, rest)?;
+    expect(tokens, "domlogic")?;
+    let version = number(tokens)?;
+    let lines = lines(alloc, tokens)?;
+    let procedures = procedures(alloc, MOST_DEPTH, tokens)?;
     let logic = flat(alloc, lines.as_slice())?;
     let theory = Theory {
         version,
         logic,
         procedures,
     };
-    Ok((theory, rest))
+    Ok(theory)
 }
 
 // A theory that ends where the tokens do.
@@ -47,7 +47,8 @@ fn whole_theory(alloc: Global, tokens: Front) -> Result<Theory, ReadFault>
     ensures { Gives theory_of result
         (whole (theory_at MOST_DEPTH u32.MAX) (lexemes_in tokens.entry)) }
 {
-    let (found, rest) = theory(alloc, tokens)?;
+    let mut rest = tokens;
+    let found = theory(alloc, &mut rest)?;
     if rest.is_empty() {
         Ok(found)
     } else {

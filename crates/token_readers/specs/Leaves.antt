@@ -1,7 +1,8 @@
 -- What single lexemes stand for in the grammar.
 use Rattle.model_limits.specs.Limits.{standard_limits}
-use Rattle.std.specs.Prelude.{ℕ, nat_le, cond, List, Option, Some, None, codes}
+use Rattle.std.specs.Prelude.{◌≡◌, ℕ, nat_le, cond, List, Option, Some, None, codes}
 use Rattle.model_text.specs.Lexemes.{Lexeme, terminal, step_word, name_lexeme, number_lexeme, is_reserved}
+use Rattle.token_readers.specs.Reading.{first}
 pub use Rattle.text_tokens.specs.Lexemes.{lexeme_seen, listed, lexemes_in}
 
 -- a name
@@ -25,3 +26,7 @@ leaf_number _ = None
 abbrev pub leaf_step : Lexeme → Option ℕ
 leaf_step (step_word line) = Some line
 leaf_step _ = None
+
+-- the word `step` doesn't come first, and no lexeme was taken
+abbrev pub NoStep : List Lexeme → List Lexeme → Type 0
+NoStep before behind = (first leaf_step before ≡ None) × (behind ≡ before)

@@ -1,7 +1,7 @@
 -- Readers of a list of lexemes: each gives a value and the rest, or where the reading stopped.
 -- These are what the program's readers are compared with; what they read is said by the grammar
 -- alone.
-use Rattle.std.specs.Prelude.{ℕ, zero, suc, Bool, true, false, not, cond, List, [], ◌∷◌, ◌++◌, length, Option, Some, None, Result, Ok, Err, bytes_eq, option_map}
+use Rattle.std.specs.Prelude.{◌≡◌, ℕ, zero, suc, Bool, true, false, not, cond, List, [], ◌∷◌, ◌++◌, length, Option, Some, None, Result, Ok, Err, bytes_eq, option_map}
 use Rattle.model_text.specs.Lexemes.{Lexeme, terminal}
 
 -- At k: the lexemes spell nothing, and k are left. Deep: a bound on nesting or length was passed,
@@ -42,6 +42,10 @@ is_terminal text _ = false
 abbrev pub after : List ℕ → List Lexeme → Option (List Lexeme)
 after text [] = None
 after text (t ∷ ts) = cond (is_terminal text t) (Some ts) None
+
+-- the terminal doesn't come first, and no lexeme was taken
+abbrev pub Stays : List ℕ → List Lexeme → List Lexeme → Type 0
+Stays text before behind = (after text before ≡ None) × (behind ≡ before)
 
 abbrev pub either : {A : Type 0} → Option (List Lexeme) → Read A → Answer A → Answer A
 either (Some rest) r other = r rest

@@ -1,9 +1,9 @@
 // One token that stands for a value.
-ghost use Rattle.std.specs.Prelude.{◌≡◌};
+ghost use Rattle.std.specs.Prelude.{◌≡◌, Some, MatchOption};
 ghost use Rattle.std.specs.Option.{option_map};
 ghost use Rattle.token_readers.specs.Reading.{leaf, first};
 ghost use Rattle.token_readers.specs.Giving.{Gives};
-ghost use Rattle.token_readers.specs.Leaves.{lexeme_seen, lexemes_in, leaf_name, leaf_word, leaf_number, leaf_step};
+ghost use Rattle.token_readers.specs.Leaves.{lexeme_seen, lexemes_in, leaf_name, leaf_word, leaf_number, leaf_step, NoStep};
 
 use crate::fault::ReadFault;
 use dom_terms::Text;
@@ -48,57 +48,60 @@ fn line_of(token: Lexeme) -> Option<u32>
 
 /// A word that isn't reserved.
 #[inline(always)]
-pub fn name<'a>(alloc: Global, tokens: Front<'a>) -> Result<(Text, Front<'a>), ReadFault>
-    ensures { Gives (λ x. (x.0, lexemes_in x.1)) result
-        (leaf leaf_name (lexemes_in tokens.entry)) }
+pub fn name(alloc: Global, tokens: &mut Front) -> Result<Text, ReadFault>
+    ensures { Gives (λ text. (text, lexemes_in tokens.new)) result
+        (leaf leaf_name (lexemes_in tokens.old)) }
 {
-    let Some((first, rest)) = tokens.split_first() else {
+    let Some(first) = tokens.first() else {
         return Err(ReadFault::Text(0));
     };
-    match name_of(first) {
-        Some(text) => Ok((Text::from_str(alloc, text)?, rest)),
-        None => Err(ReadFault::Text(tokens.count())),
-    }
+    let Some(text) = name_of(first) else {
+        return Err(ReadFault::Text(tokens.count()));
+    };
+    let found = Text::from_str(alloc, text)?;
+    tokens.advance();
+    Ok(found)
 }
 
 /// Any word, reserved or not.
-pub fn word<'a>(alloc: Global, tokens: Front<'a>) -> Result<(Text, Front<'a>), ReadFault>
-    ensures { Gives (λ x. (x.0, lexemes_in x.1)) result
-        (leaf leaf_word (lexemes_in tokens.entry)) }
+pub fn word(alloc: Global, tokens: &mut Front) -> Result<Text, ReadFault>
+    ensures { Gives (λ text. (text, lexemes_in tokens.new)) result
+        (leaf leaf_word (lexemes_in tokens.old)) }
 {
-    let Some((first, rest)) = tokens.split_first() else {
+    let Some(first) = tokens.first() else {
         return Err(ReadFault::Text(0));
     };
-    match word_of(first) {
-        Some(text) => Ok((Text::from_str(alloc, text)?, rest)),
-        None => Err(ReadFault::Text(tokens.count())),
-    }
+    let Some(text) = word_of(first) else {
+        return Err(ReadFault::Text(tokens.count()));
+    };
+    let found = Text::from_str(alloc, text)?;
+    tokens.advance();
+    Ok(found)
 }
 
 /// A number of at most 32 bits.
-pub fn number<'a>(tokens: Front<'a>) -> Result<(u32, Front<'a>), ReadFault>
-    ensures { Gives (λ x. (x.0, lexemes_in x.1)) result
-        (leaf leaf_number (lexemes_in tokens.entry)) }
+pub fn number(tokens: &mut Front) -> Result<u32, ReadFault>
+    ensures { Gives (λ number. (number, lexemes_in tokens.new)) result
+        (leaf leaf_number (lexemes_in tokens.old)) }
 {
-    let Some((first, rest)) = tokens.split_first() else {
+    let Some(first) = tokens.first() else {
         return Err(ReadFault::Text(0));
     };
     match number_of(first) {
-        Some(number) => Ok((number, rest)),
+        Some(number) => {
+            tokens.advance();
+            Ok(number)
+        }
         None => Err(ReadFault::Text(tokens.count())),
     }
 }
 
-/// The line of the word `step` and what stands behind it, where it comes first.
-pub fn step_line<'a>(tokens: Front<'a>) -> Option<(u32, Front<'a>)>
-    ensures { option_map (λ x. (x.0, lexemes_in x.1)) result
-        ≡ first leaf_step (lexemes_in tokens.entry) }
+/// The line of the word `step`, where it comes first, and moves behind it.
+pub fn step_line(tokens: &mut Front) -> Option<u32>
+    ensures { MatchOption result (NoStep (lexemes_in tokens.old) (lexemes_in tokens.new))
+        (λ line. first leaf_step (lexemes_in tokens.old) ≡ Some (line, lexemes_in tokens.new)) }
 {
-    let Some((first, rest)) = tokens.split_first() else {
-        return None;
-    };
-    match line_of(first) {
-        Some(line) => Some((line, rest)),
-        None => None,
-    }
+    let line = line_of(tokens.first()?)?;
+    tokens.advance();
+    Some(line)
 }

@@ -5,7 +5,7 @@ ghost use Rattle.token_readers.specs.Giving.{Gives};
 ghost use Rattle.token_readers.specs.Leaves.{lexemes_in};
 
 use crate::fault::ReadFault;
-use crate::terminals::after;
+use crate::terminals::skip;
 use dom_terms::{Few, List, OutOfMemory};
 use std::alloc::Global;
 use text_tokens::Front;
@@ -23,10 +23,10 @@ pub trait Reader<T> {
     // how it is read from lexemes
     ghost reading: { Self → Read Seen };
 
-    /// The item and what stands behind it.
-    fn read<'a>(&self, alloc: Global, tokens: Front<'a>) -> Result<(T, Front<'a>), ReadFault>
-        ensures { Gives (λ x. (seen x.0, lexemes_in x.1)) result
-            (reading self.now (lexemes_in tokens.entry)) };
+    /// The item; moves behind it.
+    fn read(&self, alloc: Global, tokens: &mut Front) -> Result<T, ReadFault>
+        ensures { Gives (λ item. (seen item, lexemes_in tokens.new)) result
+            (reading self.now (lexemes_in tokens.old)) };
 }
 
 /// A list that takes items at its end.
@@ -78,51 +78,45 @@ impl<T: Default + Drop, const N: usize> Gathers<T> for Few<T, N> {
 }
 
 /// One item or more, with the mark between each two.
-pub fn separated<'a, T: Drop, R: Reader<T>, L: Gathers<T>>(
+pub fn separated<T: Drop, R: Reader<T>, L: Gathers<T>>(
     alloc: Global,
     reader: &R,
     mark: &str,
-    tokens: Front<'a>,
-) -> Result<(L, Front<'a>), ReadFault>
-    ensures { Gives (λ x. (map R.seen (L.items x.0), lexemes_in x.1)) result
-        (sep_list mark.now (R.reading reader.now) u32.MAX (lexemes_in tokens.entry)) }
+    tokens: &mut Front,
+) -> Result<L, ReadFault>
+    ensures { Gives (λ found. (map R.seen (L.items found), lexemes_in tokens.new)) result
+        (sep_list mark.now (R.reading reader.now) u32.MAX (lexemes_in tokens.old)) }
 {
     let mut found = L::empty(alloc);
-    let mut rest = tokens;
     for _ in 0..u32::MAX {
-        let (item, behind) = reader.read(alloc, rest)?;
+        let item = reader.read(alloc, tokens)?;
         found.put(item)?;
-        match after(behind, mark) {
-            Some(next) => rest = next,
-            None => return Ok((found, behind)),
+        if !skip(tokens, mark) {
+            return Ok(found);
         }
     }
     Err(ReadFault::Memory)
 }
 
 /// Those found before, and items as long as the word comes, each behind it.
-pub fn repeated<'a, T: Drop, R: Reader<T>, L: Gathers<T>>(
+pub fn repeated<T: Drop, R: Reader<T>, L: Gathers<T>>(
     alloc: Global,
     reader: &R,
     word: &str,
     before: L,
-    tokens: Front<'a>,
-) -> Result<(L, Front<'a>), ReadFault>
-    ensures { Gives (λ x. (map R.seen (L.items x.0), lexemes_in x.1)) result
+    tokens: &mut Front,
+) -> Result<L, ReadFault>
+    ensures { Gives (λ found. (map R.seen (L.items found), lexemes_in tokens.new)) result
         (with_front (map R.seen (L.items before)) (many (the_terminal word.now)
-        (λ _. R.reading reader.now) u32.MAX (lexemes_in tokens.entry))) }
+        (λ _. R.reading reader.now) u32.MAX (lexemes_in tokens.old))) }
 {
     let mut found = before;
-    let mut rest = tokens;
     for _ in 0..u32::MAX {
-        match after(rest, word) {
-            Some(behind) => {
-                let (item, next) = reader.read(alloc, behind)?;
-                found.put(item)?;
-                rest = next;
-            }
-            None => return Ok((found, rest)),
+        if !skip(tokens, word) {
+            return Ok(found);
         }
+        let item = reader.read(alloc, tokens)?;
+        found.put(item)?;
     }
     Err(ReadFault::Memory)
 }

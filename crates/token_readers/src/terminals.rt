@@ -1,7 +1,6 @@
 // Reserved words and symbols.
-ghost use Rattle.std.specs.Prelude.{◌≡◌, ℕ, List, false};
-ghost use Rattle.std.specs.Option.{option_map};
-ghost use Rattle.token_readers.specs.Reading.{is_terminal, after, terminal_at};
+ghost use Rattle.std.specs.Prelude.{◌≡◌, ℕ, List, Some, false, MatchBool};
+ghost use Rattle.token_readers.specs.Reading.{is_terminal, after, terminal_at, Stays};
 ghost use Rattle.token_readers.specs.Giving.{Gives};
 ghost use Rattle.token_readers.specs.Leaves.{lexeme_seen, lexemes_in};
 
@@ -16,24 +15,31 @@ pub fn is_this(token: Lexeme, text: &str) -> bool
     token.is_terminal(text)
 }
 
-/// What stands behind the reserved word or symbol, where it comes first.
+/// Moves behind the reserved word or symbol, where it comes first, and tells whether it does.
 #[inline(always)]
-pub fn after<'a>(tokens: Front<'a>, text: &str) -> Option<Front<'a>>
-    ensures { option_map lexemes_in result ≡ after text.now (lexemes_in tokens.entry) }
+pub fn skip(tokens: &mut Front, text: &str) -> bool
+    ensures { MatchBool result
+        (after text.now (lexemes_in tokens.old) ≡ Some (lexemes_in tokens.new))
+        (Stays text.now (lexemes_in tokens.old) (lexemes_in tokens.new)) }
 {
     match tokens.first() {
-        Some(first) if is_this(first, text) => Some(tokens.behind()),
-        _ => None,
+        Some(first) if is_this(first, text) => {
+            tokens.advance();
+            true
+        }
+        _ => false,
     }
 }
 
-/// What stands behind the reserved word or symbol, which has to come first.
+/// Moves behind the reserved word or symbol, which has to come first.
 #[inline(always)]
-pub fn expect<'a>(tokens: Front<'a>, text: &str) -> Result<Front<'a>, ReadFault>
-    ensures { Gives lexemes_in result (terminal_at text.now (lexemes_in tokens.entry)) }
+pub fn expect(tokens: &mut Front, text: &str) -> Result<(), ReadFault>
+    ensures { Gives (λ _. lexemes_in tokens.new) result
+        (terminal_at text.now (lexemes_in tokens.old)) }
 {
-    match after(tokens, text) {
-        Some(rest) => Ok(rest),
-        None => Err(ReadFault::Text(tokens.count())),
+    if skip(tokens, text) {
+        Ok(())
+    } else {
+        Err(ReadFault::Text(tokens.count()))
     }
 }

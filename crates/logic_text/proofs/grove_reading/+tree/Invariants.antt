@@ -23,6 +23,6 @@ abbrev pub invariant-trees-loop : goal.invariant-trees-loop
 invariant-trees-loop l =
     with_front (map raw_tree_of l.found)
     (sep_list l.between (marked_at l.left l.right (tree_at 4294967295 l.depth))
-    (4294967295 - l.counter) (lexemes_in l.rest))
+    (4294967295 - l.counter) (lexemes_in l.tokens))
     ≡ sep_list l.between (marked_at l.left l.right (tree_at 4294967295 l.depth)) 4294967295
-    (lexemes_in l.tokens)
+    (lexemes_in l.fn.tokens)

@@ -1,4 +1,5 @@
-use Rattle.std.proofs.Common.{◌≡◌, ◌++◌, ◌∷◌, [], sym, map}
+use Rattle.std.proofs.Common.{◌≡◌, ◌++◌, ◌∷◌, [], true, false, map}
+use Rattle.std.proofs.lemmas.Bool.{MatchBool-at_true, MatchBool-at_false}
 use Rattle.std.proofs.lemmas.Result.{err_from_is_err_and}
 use Rattle.std.proofs.lemmas.List.{map_push}
 use Rattle.theory_syntax.specs.Commands.{command_of}
@@ -13,20 +14,24 @@ commands-returns-in_err-item t c =
     (map command_of c.loop.found) 4294967295 c.loop.counter _ _
     c.loop-test.true c.in_err-item.ensures c.loop.invariant)
 
-pub commands-returns-in-None : goal.commands-returns-in-None
-commands-returns-in-None t c =
+pub commands-returns-then-not-skip : goal.commands-returns-then-not-skip
+commands-returns-then-not-skip t c =
     let e : map command_of c.push.new.self ≡ map command_of c.loop.found ++ command_of
     c.in_ok-item.item ∷ [] =
     rw c.in_ok-push.ensures.ok (map_push _ c.loop.found c.in_ok-item.item) in
-    rw e (is_done semicolon (command_at 4294967295 c.args.depth)
+    let no : c.skip.result ≡ false = cc in
+    let p = MatchBool-at_false _ _ no c.skip.ensures in
+    rw (e, p.1) (is_done semicolon (command_at 4294967295 c.args.depth)
     (map command_of c.loop.found) 4294967295 c.loop.counter _ _ _ _
-    c.loop-test.true c.in_ok-item.ensures (sym c.in-None.ensures) c.loop.invariant)
+    c.loop-test.true c.in_ok-item.ensures p.0 c.loop.invariant)
 
 pub commands-loop-preserved : goal.commands-loop-preserved
 commands-loop-preserved t c =
     let e : map command_of c.push.new.self ≡ map command_of c.loop.found ++ command_of
     c.in_ok-item.item ∷ [] =
     rw c.in_ok-push.ensures.ok (map_push _ c.loop.found c.in_ok-item.item) in
+    let yes : c.skip.result ≡ true = cc in
     rw e (goes_on semicolon (command_at 4294967295 c.args.depth)
     (map command_of c.loop.found) 4294967295 c.loop.counter _ _ _ _ _
-    c.loop-test.true c.in_ok-item.ensures (sym c.in-Some.ensures) c.loop.invariant)
+    c.loop-test.true c.in_ok-item.ensures
+    (MatchBool-at_true _ _ yes c.skip.ensures) c.loop.invariant)

@@ -31,5 +31,5 @@ decreases-with_local l = 6 * l.depth + 4
 abbrev pub invariant-commands-loop : goal.invariant-commands-loop
 invariant-commands-loop l =
     with_front (map command_of l.found) (sep_list semicolon (command_at 4294967295 l.depth)
-    (4294967295 - l.counter) (lexemes_in l.rest))
-    ≡ sep_list semicolon (command_at 4294967295 l.depth) 4294967295 (lexemes_in l.tokens)
+    (4294967295 - l.counter) (lexemes_in l.tokens))
+    ≡ sep_list semicolon (command_at 4294967295 l.depth) 4294967295 (lexemes_in l.fn.tokens)

@@ -9,5 +9,5 @@ use Rattle.proof_text.proofs.steps.steps.Given as goal
 abbrev pub invariant-loop : goal.invariant-loop
 invariant-loop l =
     with_front (map step_of l.found) (many leaf_step (step_tail l.depth 4294967295)
-    (4294967295 - l.counter) (lexemes_in l.rest))
-    ≡ many leaf_step (step_tail l.depth 4294967295) 4294967295 (lexemes_in l.tokens)
+    (4294967295 - l.counter) (lexemes_in l.tokens))
+    ≡ many leaf_step (step_tail l.depth 4294967295) 4294967295 (lexemes_in l.fn.tokens)

@@ -7,7 +7,7 @@ abbrev pub invariant-loop : goal.invariant-loop
 invariant-loop g l =
     with_front (map g.R.Reader.seen (g.L.Gathers.items l.found))
     (many (the_terminal l.word) (λ x. g.R.Reader.reading l.reader) (4294967295 - l.counter)
-    (lexemes_in l.rest))
+    (lexemes_in l.tokens))
     ≡ with_front (map g.R.Reader.seen (g.L.Gathers.items l.fn.before))
     (many (the_terminal l.word) (λ x. g.R.Reader.reading l.reader) 4294967295
-    (lexemes_in l.tokens))
+    (lexemes_in l.fn.tokens))
