@@ -13,7 +13,8 @@ formulas and to compare it with what the rule wants. It wants gcc and a program 
 from the C library.
 
 For each shape of bench/large_files.py at 4 MB it prints user seconds, the least of some runs, and
-how many times those of gzip they are.
+how many times those of gzip they are. For the shape `long` it also measures a whole check in plain
+C, least/long.c, which reads this shape alone.
 """
 import array
 import os
@@ -29,12 +30,13 @@ LOOKS = 4
 
 
 def compiled(folder):
-    """The recorder and the least program."""
-    recorder, least = f"{folder}/record.so", f"{folder}/least"
+    """The recorder, the least program, and the check of the shape `long` in C."""
+    recorder, least, whole = f"{folder}/record.so", f"{folder}/least", f"{folder}/long"
     subprocess.run(["gcc", "-O2", "-shared", "-fPIC", HERE / "record.c", "-o", recorder, "-ldl"],
                    check=True)
     subprocess.run(["gcc", "-O2", HERE / "least.c", "-o", least], check=True)
-    return recorder, least
+    subprocess.run(["gcc", "-O2", HERE / "long.c", "-o", whole], check=True)
+    return recorder, least, whole
 
 
 def places(record):
@@ -53,7 +55,16 @@ def places(record):
     return calls
 
 
-def measure(program, shape, folder, recorder, least):
+def measure_whole(whole, file, gzip):
+    """Prints what the check of the shape `long` in C takes, in all and for its four parts."""
+    told = min(subprocess.run([whole, file], capture_output=True, text=True, check=True).stdout
+               .split() for _ in range(bench.RUNS))
+    read, judged, compared, let_go = told[1:]
+    print(f"  whole in C: {told[0]} s (read {read}, judged {judged}, compared {compared},"
+          f" let go {let_go}); {float(told[0]) / gzip:.1f} times gzip", flush=True)
+
+
+def measure(program, shape, folder, recorder, least, whole):
     """Prints the line of a shape."""
     file, record = bench.write(shape, bench.MOST_BYTES, folder), f"{folder}/record"
     subprocess.run([program, "check", file], stdout=subprocess.DEVNULL, check=True,
@@ -70,6 +81,8 @@ def measure(program, shape, folder, recorder, least):
           f" check {check:.2f} s, gzip {gzip:.3f} s; least {float(told[0]) / gzip:.1f} times gzip,"
           f" check {check / gzip:.1f}; {int(told[4]):,} tokens, {int(told[5]):,} blocks",
           flush=True)
+    if shape == "long":
+        measure_whole(whole, file, gzip)
 
 
 def main(words):
@@ -79,9 +92,9 @@ def main(words):
         sys.exit(__doc__)
     program = str(pathlib.Path(others[0]).resolve() if others else bench.PROGRAM)
     with tempfile.TemporaryDirectory() as folder:
-        recorder, least = compiled(folder)
+        programs = compiled(folder)
         for shape in shapes:
-            measure(program, shape, folder, recorder, least)
+            measure(program, shape, folder, *programs)
 
 
 if __name__ == "__main__":
