@@ -5,10 +5,12 @@
     bench/large_files.py --write FOLDER [SHAPE..]
 
 PROGRAM is the built program, crates/domcheck_cli/out/domcheck_cli where none is given. Each shape is
-measured at 0.25, 0.5, 1, 2 and 4 MB. For each file it prints the least user time of `check` in some
-runs, how many times the least one of `gzip < FILE > /dev/null` that is, and the greatest resident
-memory, also in bytes for a byte of the file. What this script holds itself, some 10 MB, is the least
-that it can see. With --write the files are written, and nothing is measured.
+measured at 0.25, 0.5, 1, 2 and 4 MB. For each file it prints the mean user time of `check` in some
+runs, how many times that of `gzip < FILE > /dev/null` in as many runs it is, and the greatest
+resident memory, also in bytes for a byte of the file. The system tells a run's time in the program
+from its time in the system by samples, so the least of short runs says too little. What this script
+holds itself, some 10 MB, is the least that it can see. With --write the files are written, and
+nothing is measured.
 
     assignments  procedures, 923 in 4 MB, each a block of assignments with its proof
     citations    a proof of skips, of which two fifths cite a step that stands as far back
@@ -458,11 +460,17 @@ def run(words, file, statuses):
     return used.ru_utime, used.ru_maxrss * 1024
 
 
-def measure(program, name, file):
-    """Runs the program and gzip in turn, and prints the least of each."""
-    words, size = [program, "check", file], os.path.getsize(file)
+def means(words, file):
+    """The mean user times of the words and of gzip, run in turn, and the words' greatest memory."""
     pairs = [(run(words, file, (0,)), run(["gzip"], file, (0,))) for _ in range(RUNS)]
-    (check, memory), (gzip, _) = (min(runs) for runs in zip(*pairs))
+    check, gzip = (sum(used for used, _ in runs) / RUNS for runs in zip(*pairs))
+    return check, gzip, max(memory for (_, memory), _ in pairs)
+
+
+def measure(program, name, file):
+    """Prints what the program takes on the file, beside gzip."""
+    size = os.path.getsize(file)
+    check, gzip, memory = means([program, "check", file], file)
     ratio = f"{check / gzip:.1f}" if gzip else "no"
     times = f"check {check:.2f} s, gzip {gzip:.2f} s, ratio {ratio}"
     space = f"{memory / 1e6:.0f} MB, {memory / size:.1f} for a byte"

@@ -12,7 +12,7 @@ four times, once each to set the sorts of variables, to find undeclared ones, to
 formulas and to compare it with what the rule wants. It wants gcc and a program that takes memory
 from the C library.
 
-For each shape of bench/large_files.py at 4 MB it prints user seconds, the least of some runs, and
+For each shape of bench/large_files.py at 4 MB it prints user seconds, the means of some runs, and
 how many times those of gzip they are. For the shape `long` it also measures a whole check in plain
 C, least/long.c, which reads this shape alone.
 """
@@ -55,13 +55,19 @@ def places(record):
     return calls
 
 
+def told(words):
+    """The means of the numbers that the words print in some runs."""
+    runs = [subprocess.run(words, capture_output=True, text=True, check=True).stdout.split()
+            for _ in range(bench.RUNS)]
+    return [sum(map(float, column)) / len(column) for column in zip(*runs)]
+
+
 def measure_whole(whole, file, gzip):
     """Prints what the check of the shape `long` in C takes, in all and for its four parts."""
-    told = min(subprocess.run([whole, file], capture_output=True, text=True, check=True).stdout
-               .split() for _ in range(bench.RUNS))
-    read, judged, compared, let_go = told[1:]
-    print(f"  whole in C: {told[0]} s (read {read}, judged {judged}, compared {compared},"
-          f" let go {let_go}); {float(told[0]) / gzip:.1f} times gzip", flush=True)
+    all_of_it, read, judged, compared, let_go = told([whole, file])
+    print(f"  whole in C: {all_of_it:.3f} s (read {read:.3f}, judged {judged:.3f},"
+          f" compared {compared:.3f}, let go {let_go:.3f}); {all_of_it / gzip:.1f} times gzip",
+          flush=True)
 
 
 def measure(program, shape, folder, recorder, least, whole):
@@ -72,15 +78,12 @@ def measure(program, shape, folder, recorder, least, whole):
     with open(f"{folder}/calls", "wb") as it:
         places(record).tofile(it)
     words = [least, file, f"{folder}/calls", str(LOOKS)]
-    told = min(subprocess.run(words, capture_output=True, text=True, check=True).stdout.split()
-               for _ in range(bench.RUNS))
-    gzip = min(bench.run(["gzip"], file, (0,))[0] for _ in range(bench.RUNS))
-    check = min(bench.run([program, "check", file], file, (0,))[0] for _ in range(bench.RUNS))
-    tokens, memory, looks = told[1:4]
-    print(f"{shape}: least {told[0]} s (tokens {tokens}, memory {memory}, looks {looks}),"
-          f" check {check:.2f} s, gzip {gzip:.3f} s; least {float(told[0]) / gzip:.1f} times gzip,"
-          f" check {check / gzip:.1f}; {int(told[4]):,} tokens, {int(told[5]):,} blocks",
-          flush=True)
+    least, tokens, memory, looks, found, parts, _ = told(words)
+    check, gzip, _ = bench.means([program, "check", file], file)
+    print(f"{shape}: least {least:.3f} s (tokens {tokens:.3f}, memory {memory:.3f},"
+          f" looks {looks:.3f}), check {check:.2f} s, gzip {gzip:.3f} s;"
+          f" least {least / gzip:.1f} times gzip, check {check / gzip:.1f};"
+          f" {int(found):,} tokens, {int(parts):,} blocks", flush=True)
     if shape == "long":
         measure_whole(whole, file, gzip)
 
