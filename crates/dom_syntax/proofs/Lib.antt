@@ -10,5 +10,6 @@ pub mod ContentLaws
 pub mod PlaceLaws
 pub mod CondFormulaLaws
 pub mod LimitLaws
+pub mod ToldLaws
 pub mod FaultLaws
 pub mod ModifiedLaws

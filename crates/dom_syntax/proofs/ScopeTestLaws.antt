@@ -16,7 +16,8 @@ use Rattle.dom_syntax.specs.declared.scopes.Names.{Names}
 use Rattle.dom_syntax.specs.Callees.{callee_of}
 use Rattle.dom_syntax.specs.Tables.{found}
 use Rattle.dom_syntax.specs.Scopes.{HasNames, IsScope, callees_in, names_in, procedure_in}
-use Rattle.dom_syntax.specs.ScopeTests.{is_settled, may_be_declared, sort_fits, logic_sort_fits}
+use Rattle.declared_sorts.specs.Settled.{is_settled}
+use Rattle.dom_syntax.specs.ScopeTests.{may_be_declared, sort_fits, logic_sort_fits}
 use Rattle.dom_syntax.proofs.ScopeLaws.{first-procedure, known-prog, known-logic, as-declared-prog, as-declared-logic}
 
 some-seen : {V W : Type 0} (seen : V → W) (o : Option V) → is_some o ≡ is_some (option_map seen o)
@@ -95,21 +96,22 @@ all-weaker p q f (x ∷ xs) all =
 
 -- variables that are settled pass both tests
 module _ (declared : List Var) where
+  settled-weaker : (weaker : Var → Bool)
+      → ((x : Var) → is_settled declared x ≡ true → weaker x ≡ true) → (b : Bool) (xs : List Var)
+      → OnTrue b (list_all (is_settled declared) xs ≡ true)
+      → OnTrue b (list_all weaker xs ≡ true)
+  settled-weaker weaker f false xs all = all
+  settled-weaker weaker f true xs all = all-weaker (is_settled declared) weaker f xs all
+
   pub settled-known : (b : Bool) (xs : List Var)
       → OnTrue b (list_all (is_settled declared) xs ≡ true)
       → OnTrue b (list_all (is_known declared) xs ≡ true)
-  settled-known false xs all = all
-  settled-known true xs all =
-      all-weaker (is_settled declared) (is_known declared)
-      (λ x e. (and_parts _ _ e).0) xs all
+  settled-known = settled-weaker (is_known declared) (λ x e. (and_parts _ _ e).0)
 
   pub settled-declared : (b : Bool) (xs : List Var)
       → OnTrue b (list_all (is_settled declared) xs ≡ true)
       → OnTrue b (list_all (is_as_declared declared) xs ≡ true)
-  settled-declared false xs all = all
-  settled-declared true xs all =
-      all-weaker (is_settled declared) (is_as_declared declared)
-      (λ x e. (and_parts _ _ e).1) xs all
+  settled-declared = settled-weaker (is_as_declared declared) (λ x e. (and_parts _ _ e).1)
 
 -- what a table of procedures has is the first of the name
 pub called : (names : Names) → HasNames names → (name : List ℕ)

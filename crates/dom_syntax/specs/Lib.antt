@@ -7,4 +7,5 @@ pub mod ScopeTests
 pub mod Fresh
 pub mod Contents
 pub mod Heads
+pub mod Judged
 pub mod Modified

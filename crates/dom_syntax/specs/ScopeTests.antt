@@ -1,18 +1,17 @@
 -- Needn't be believed: the promises speak of scopes by the definition of file faults. Which program
--- variables a formula of a header may have, as a test of one variable; which variables pass both
--- tests of declarations.
-use Rattle.std.specs.Prelude.{◌≡◌, Bool, true, false, not, ◌&&◌, List, ◌++◌, Option, Some, None}
+-- variables a formula of a header may have, as a test of one variable; which variables have the
+-- sort of their first declaration; what is told of the variables of a header and of a step.
+use Rattle.std.specs.Prelude.{◌≡◌, Bool, true, false, not, List, ◌++◌, Option, Some, None}
 use Rattle.std.specs.Bool.{OnTrue}
-use Rattle.std.specs.List.{flat_map, list_all}
 use Rattle.model_shapes.specs.Sorts.{ValueSort, Sort}
 use Rattle.model_shapes.specs.Tests.{same_value_sort, same_sort}
 use Rattle.model_terms.specs.Variables.{Var, prog}
 use Rattle.model_terms.specs.Stores.{ProgVar, named}
 use Rattle.model_formulas.specs.Formulas.{Named}
-use Rattle.model_commands.specs.CommandParts.{arguments_of, variables_of, variables_of_command, variables_of_judgement, variables_of_term}
 use Rattle.model_commands.specs.SortTests.{is_among}
 use Rattle.model_commands.specs.Theories.{StepOf}
-use Rattle.model_files.specs.FileFaults.{is_as_declared, is_known}
+use Rattle.model_files.specs.FileFaults.{is_as_declared}
+use Rattle.declared_sorts.specs.Settled.{is_settled, head_settled, step_settled}
 use Rattle.dom_syntax.specs.declared.scopes.Scope.{Scope}
 use Rattle.dom_syntax.specs.Scopes.{names_in, procedure_in}
 
@@ -41,10 +40,6 @@ abbrev pub logic_sort_fits : Option Sort → Sort → Bool
 logic_sort_fits None s = true
 logic_sort_fits (Some u) s = same_sort u s
 
--- the name of the variable is declared, first with its sort
-abbrev pub is_settled : List Var → Var → Bool
-is_settled declared x = is_known declared x && is_as_declared declared x
-
 -- it has the sort of its first declaration; unknown ones pass only where they may
 abbrev pub may_be_declared : Bool → List Var → Var → Bool
 may_be_declared true declared x = is_as_declared declared x
@@ -52,13 +47,8 @@ may_be_declared false declared x = is_settled declared x
 
 -- where it is told so, the variables of the header and the body are settled
 abbrev pub HeadSettled : Bool → Scope → Type 0
-HeadSettled told scope =
-    OnTrue told (list_all (is_settled (names_in scope)) (variables_of (procedure_in scope).pre
-    ++ (variables_of (procedure_in scope).post
-    ++ variables_of_command (procedure_in scope).body)) ≡ true)
+HeadSettled told scope = OnTrue told (head_settled (names_in scope) (procedure_in scope) ≡ true)
 
 -- those of the step are
 abbrev pub StepSettled : Bool → Scope → StepOf Named → Type 0
-StepSettled told scope step =
-    OnTrue told (list_all (is_settled (names_in scope)) (variables_of_judgement step.judgement
-    ++ flat_map variables_of_term (arguments_of step.reason)) ≡ true)
+StepSettled told scope step = OnTrue told (step_settled (names_in scope) step ≡ true)

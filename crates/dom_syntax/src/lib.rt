@@ -26,7 +26,7 @@ pub use cond_formulas::cond_formula;
 pub use kinds::FileKind;
 pub use limits::variables_within;
 pub use modifying::modified;
-pub use programs::{ProgramFault, check_one, check_program};
+pub use programs::{ProgramFault, Told, check_one, check_program, check_told_program};
 pub use theory_syntax::{
     Block, Command, Judgement, Procedure, Procedures, Reason, Step, Steps, Theory, Triple,
     same_command,

@@ -14,7 +14,8 @@ ghost use Rattle.dom_syntax.specs.Contents.{commands_there, variables_in};
 ghost use Rattle.dom_syntax.specs.Faults.{kind_of};
 ghost use Rattle.dom_syntax.specs.Heads.{earlier_for};
 ghost use Rattle.dom_syntax.specs.Scopes.{HasNames, IsScope, names_in, procedure_in, theory_in};
-ghost use Rattle.dom_syntax.specs.ScopeTests.{is_settled, HeadSettled, StepSettled};
+ghost use Rattle.dom_syntax.specs.ScopeTests.{HeadSettled, StepSettled};
+ghost use Rattle.declared_sorts.specs.Settled.{is_settled};
 ghost use Rattle.model_files.specs.Sizes.{IsSmall, JudgementIsSmall};
 
 use crate::contents::Contents;
@@ -71,16 +72,24 @@ pub(crate) fn first_kind<P: Place>(place: &P) -> Result<Option<FileKind>, OutOfM
     Ok(None)
 }
 
-/// Whether each variable that stands there is declared, first with its sort.
-pub(crate) fn are_settled(scope: &Scope, contents: &Contents) -> Result<bool, OutOfMemory>
-    requires { IsScope scope.now }
+/// Whether each variable that stands there is declared, first with its sort. Where that is told, it
+/// holds at once.
+pub(crate) fn are_settled(
+    scope: &Scope,
+    contents: &Contents,
+    told: bool,
+) -> Result<bool, OutOfMemory>
+    requires scope { IsScope scope.now }
+    requires settled { OnTrue told
+        (list_all (is_settled (names_in scope.now)) (variables_in contents.now) ≡ true) }
     ensures { IfOk result (λ b. b
         ≡ list_all (is_settled (names_in scope.now)) (variables_in contents.now)) }
 {
-    contents.all_variables(&AsDeclared {
+    let declared = AsDeclared {
         scope,
         takes_unknown: false,
-    })
+    };
+    contents.all_pass(&declared, told)
 }
 
 // Whether there is no fault of the kind among the variables and commands that stand in a procedure,
@@ -294,6 +303,8 @@ pub(crate) struct ProofStep<'a> {
     pub(crate) step: &'a Step,
     /// Its variables are declared, with their sorts; where not, that isn't known.
     pub(crate) are_settled: bool,
+    /// The formulas of its judgement may be judged at its sort; where not, that isn't known.
+    pub(crate) is_judged: bool,
 }
 
 impl<'a> ProofStep<'a> {
@@ -313,7 +324,9 @@ impl<'a> ProofStep<'a> {
 impl<'a> Place for ProofStep<'a> {
     ghost ready = { λ at. IsScope at.scope.now
         × JudgementIsSmall (judgement_of at.step.now.judgement)
-        × StepSettled at.are_settled at.scope.now (step_of at.step.now) };
+        × StepSettled at.are_settled at.scope.now (step_of at.step.now)
+        × OnTrue at.is_judged
+        (model.judgement_sorted (judgement_of at.step.now.judgement) ≡ true) };
 
     ghost tests = { λ at kind. model.proof_step (theory_in at.scope.now.names.now)
         (procedure_in at.scope.now) at.place (step_of at.step.now) kind };
@@ -321,7 +334,7 @@ impl<'a> Place for ProofStep<'a> {
     fn passes(&self, kind: FileKind) -> Result<bool, OutOfMemory> {
         match kind {
             FileKind::Sort => Ok(
-                is_judgement_sorted(&self.step.judgement)
+                (self.is_judged || is_judgement_sorted(&self.step.judgement))
                     && are_arguments_sorted(&self.step.reason)
                     && self.passes_inside(kind)?,
             ),

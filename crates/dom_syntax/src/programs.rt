@@ -1,14 +1,18 @@
 // The checks of a theory and of a step.
 ghost use Rattle.std.specs.Prelude.{◌≡◌, ◌+◌, ◌-◌, ◌<◌, ◌≤◌, [], ◌∷◌, List, length, map, not};
-ghost use Rattle.std.specs.Prelude.{Some, bytes_eq, slice_get};
-ghost use Rattle.std.specs.List.{list_any};
+ghost use Rattle.std.specs.Prelude.{Some, bytes_eq, slice_get, true};
+ghost use Rattle.std.specs.Bool.{OnTrue};
+ghost use Rattle.std.specs.List.{list_all, list_any};
 ghost use Rattle.model_formulas.specs.Formulas.{Named};
 ghost use Rattle.model_commands.specs.Theories.{ProcedureOf};
 ghost use Rattle.model_files.specs.FileFaults as model;
 ghost use Rattle.theory_syntax.specs.Judgements.{judgement_of, step_of};
 ghost use Rattle.theory_syntax.specs.Theories.{procedure_of, theory_of};
 ghost use Rattle.dom_syntax.specs.Faults.{Reports, step_fault, kind_of};
-ghost use Rattle.dom_syntax.specs.Scopes.{HasNames, IsScope, procedure_in, theory_in};
+ghost use Rattle.dom_syntax.specs.Scopes.{HasNames, IsScope, names_in, procedure_in, theory_in};
+ghost use Rattle.dom_syntax.specs.ScopeTests.{HeadSettled, StepSettled};
+ghost use Rattle.dom_syntax.specs.Judged.{StepJudged, StepsJudged, TheoryJudged};
+ghost use Rattle.declared_sorts.specs.Settled.{procedure_settled, step_settled, theory_settled};
 ghost use Rattle.model_files.specs.Sizes.{StepsAreSmall, IsSmall, JudgementIsSmall};
 ghost use Rattle.model_files.specs.Sizes.{ProcedureIsSmall, TheoryIsSmall};
 ghost use Rattle.std.specs.Option.{option_map};
@@ -45,6 +49,21 @@ impl From<OutOfMemory> for ProgramFault {
     }
 }
 
+/// What is known of a theory before it is checked. Where a field is false, nothing is known.
+#[derive(Clone, Copy)]
+pub struct Told {
+    /// Each of its variables is declared, first with the sort that it has.
+    pub are_settled: bool,
+    /// The formulas of each step may be judged at its sort.
+    pub are_judged: bool,
+}
+
+// Nothing is known of the theory.
+const NOTHING: Told = Told {
+    are_settled: false,
+    are_judged: false,
+};
+
 // What the kind of fault at a step of a procedure says, if there is one.
 fn verdict(procedure: u32, step: u32, kind: Option<FileKind>) -> Result<(), ProgramFault>
     ensures { Reports result (step_fault procedure step (option_map kind_of kind)) }
@@ -59,36 +78,45 @@ fn verdict(procedure: u32, step: u32, kind: Option<FileKind>) -> Result<(), Prog
     }
 }
 
-// Whether the step is well formed at this place of the proof.
+// Whether the step is well formed at this place of the proof. Where it is told that its variables
+// are settled, which is declared, first with their sorts, none is asked for that; and where it is
+// told that the formulas of its judgement may be judged at its sort, they aren't walked for that.
 fn check_step_at(
     alloc: Global,
     scope: &Scope,
     procedure: u32,
     place: u32,
     step: &Step,
+    told: Told,
 ) -> Result<(), ProgramFault>
     requires scope { IsScope scope.now }
     requires small { JudgementIsSmall (judgement_of step.now.judgement) }
+    requires settled { StepSettled told.are_settled scope.now (step_of step.now) }
+    requires judged { StepJudged told.are_judged (step_of step.now) }
     ensures { Reports result (step_fault procedure place
         (model.step_kind (theory_in scope.now.names.now) (procedure_in scope.now) place
         (step_of step.now))) }
 {
-    let are_settled = are_settled(scope, &Contents::of_step(step))?;
+    let are_settled = are_settled(scope, &Contents::of_step(step), told.are_settled)?;
     let at = ProofStep {
         alloc,
         scope,
         place,
         step,
         are_settled,
+        is_judged: told.are_judged,
     };
     verdict(procedure, place, first_kind(&at)?)
 }
 
-// Whether each step of the procedure's proof is well formed.
-fn check_steps(alloc: Global, scope: &Scope, procedure: u32) -> Result<(), ProgramFault>
+// Whether each step of the procedure's proof is well formed. What is known of them may be told.
+fn check_steps(alloc: Global, scope: &Scope, procedure: u32, told: Told) -> Result<(), ProgramFault>
     requires scope { IsScope scope.now }
     requires small { StepsAreSmall (procedure_in scope.now).proof }
     requires few { length (procedure_in scope.now).proof < 4294967295 }
+    requires settled { OnTrue told.are_settled (list_all (step_settled (names_in scope.now))
+        (procedure_in scope.now).proof ≡ true) }
+    requires judged { StepsJudged told.are_judged (procedure_in scope.now) }
     ensures { Reports result (model.first_fault_at
         (model.steps_from (theory_in scope.now.names.now) procedure (procedure_in scope.now) 1
         (procedure_in scope.now).proof)) }
@@ -96,27 +124,30 @@ fn check_steps(alloc: Global, scope: &Scope, procedure: u32) -> Result<(), Progr
     let mut place = 0;
     for step in scope.procedure.proof.as_slice() {
         place += 1;
-        check_step_at(alloc, scope, procedure, place, step)?;
+        check_step_at(alloc, scope, procedure, place, step, told)?;
     }
     Ok(())
 }
 
-// Whether the header of the procedure, whose name is new or not, is well formed.
+// Whether the header of the procedure, whose name is new or not, is well formed. That its variables
+// are settled may be told.
 fn check_header(
     alloc: Global,
     scope: &Scope,
     procedure: u32,
     is_new: bool,
+    told: Told,
 ) -> Result<(), ProgramFault>
     requires scope { IsScope scope.now }
     requires pre { IsSmall (procedure_in scope.now).pre }
     requires post { IsSmall (procedure_in scope.now).post }
+    requires settled { HeadSettled told.are_settled scope.now }
     ensures { (earlier : List (ProcedureOf Named))
         → not (list_any (λ g. bytes_eq (procedure_in scope.now).name g.name) earlier) ≡ is_new
         → Reports result (step_fault procedure 0
         (model.head_kind (theory_in scope.now.names.now) earlier (procedure_in scope.now))) }
 {
-    let are_settled = are_settled(scope, &Contents::of_head(scope.procedure))?;
+    let are_settled = are_settled(scope, &Contents::of_head(scope.procedure), told.are_settled)?;
     let head = Header {
         alloc,
         scope,
@@ -126,17 +157,22 @@ fn check_header(
     verdict(procedure, 0, first_kind(&head)?)
 }
 
-// Whether the procedure, whose name is new or not, and the steps of its proof are well formed.
+// Whether the procedure, whose name is new or not, and the steps of its proof are well formed. What
+// is known of them may be told.
 fn check_procedure(
     alloc: Global,
     names: &Names,
     procedure: &Procedure,
     number: u32,
     is_new: bool,
+    told: Told,
 ) -> Result<(), ProgramFault>
     requires names { HasNames names.now }
     requires small { ProcedureIsSmall (procedure_of procedure.now) }
     requires few { length (procedure_of procedure.now).proof < 4294967295 }
+    requires settled { OnTrue told.are_settled (procedure_settled (theory_in names.now).logic
+        (procedure_of procedure.now) ≡ true) }
+    requires judged { StepsJudged told.are_judged (procedure_of procedure.now) }
     ensures { (earlier : List (ProcedureOf Named))
         → not (list_any (λ g. bytes_eq (procedure_of procedure.now).name g.name) earlier) ≡ is_new
         → Reports result (model.first_fault_at (record {
@@ -148,14 +184,16 @@ fn check_procedure(
         (procedure_of procedure.now).proof)) }
 {
     let scope = Scope::new(alloc, names, procedure)?;
-    check_header(alloc, &scope, number, is_new)?;
-    check_steps(alloc, &scope, number)
+    check_header(alloc, &scope, number, is_new, told)?;
+    check_steps(alloc, &scope, number, told)
 }
 
-// Whether the procedures of the theory are well formed.
-fn check_procedures(alloc: Global, names: &Names) -> Result<(), ProgramFault>
+// Whether the procedures of the theory are well formed. What is known of them may be told.
+fn check_procedures(alloc: Global, names: &Names, told: Told) -> Result<(), ProgramFault>
     requires names { HasNames names.now }
     requires small { TheoryIsSmall (theory_in names.now) }
+    requires settled { OnTrue told.are_settled (theory_settled (theory_in names.now) ≡ true) }
+    requires judged { TheoryJudged told.are_judged (theory_in names.now) }
     ensures { Reports result (model.first_fault_at
         (model.procedures_from (theory_in names.now) [] 1 (theory_in names.now).procedures)) }
 {
@@ -164,7 +202,7 @@ fn check_procedures(alloc: Global, names: &Names) -> Result<(), ProgramFault>
     for procedure in names.theory.procedures.as_slice() {
         number += 1;
         let is_new = earlier.get(procedure.name.as_str()).is_none();
-        check_procedure(alloc, names, procedure, number, is_new)?;
+        check_procedure(alloc, names, procedure, number, is_new, told)?;
         earlier.declare(procedure.name.as_str(), ())?;
     }
     Ok(())
@@ -186,9 +224,19 @@ pub fn check_program(alloc: Global, theory: &Theory) -> Result<(), ProgramFault>
     requires { TheoryIsSmall (theory_of theory.now) }
     ensures { Reports result (model.first_file_fault (theory_of theory.now)) }
 {
+    check_told_program(alloc, theory, NOTHING)
+}
+
+/// The same of a theory of which something may be known: what is known isn't asked of it again.
+pub fn check_told_program(alloc: Global, theory: &Theory, told: Told) -> Result<(), ProgramFault>
+    requires small { TheoryIsSmall (theory_of theory.now) }
+    requires settled { OnTrue told.are_settled (theory_settled (theory_of theory.now) ≡ true) }
+    requires judged { TheoryJudged told.are_judged (theory_of theory.now) }
+    ensures { Reports result (model.first_file_fault (theory_of theory.now)) }
+{
     let names = Names::new(alloc, theory)?;
     check_declarations(&names)?;
-    check_procedures(alloc, &names)
+    check_procedures(alloc, &names, told)
 }
 
 // Whether the step is well formed at this place of the proof of the procedure, the one with this
@@ -208,7 +256,7 @@ fn check_step_in(
         (step_of step.now))) }
 {
     let scope = Scope::new(alloc, names, own)?;
-    check_step_at(alloc, &scope, number, place, step)
+    check_step_at(alloc, &scope, number, place, step, NOTHING)
 }
 
 /// Whether the step is well formed at this place, counted from 1, of the proof of the procedure,

@@ -4,7 +4,7 @@ ghost use Rattle.formula_syntax.specs.Formulas.{any_var_of};
 ghost use Rattle.rule_table.specs.Letters.{Letters};
 ghost use Rattle.rule_table.specs.Verdicts.{SomeLine};
 ghost use Rattle.rule_patterns.specs.Patterns.{line_of, rows_of};
-ghost use Rattle.rule_patterns.specs.Stages.{Reaches};
+ghost use Rattle.rule_patterns.specs.Stages.{Reaches, all_stage};
 ghost use Rattle.rule_patterns.proofs.PatternTests.{fits, all_fit};
 ghost use Rattle.row_patterns.specs.Binders.{single_row, all_single};
 ghost use Rattle.row_patterns.specs.Views.{line_in, patterns_in};
@@ -15,12 +15,12 @@ ghost use Rattle.entail_rules.specs.Tried.{AreBelow, AreCovered, Enough, EnoughE
 
 use crate::steps::Step;
 use crate::variables::{SORTS, Tried, Variables};
-use dom_terms::{DataSort, Sort};
-use formula_syntax::AnyVar;
+use dom_terms::{DataSort, LogicVar, Sort};
+use formula_syntax::{AnyVar, Entailment, Formula};
 use opened_formulas::Candidate;
 use row_judging::{Stage, tries};
 use row_matching::Source;
-use row_patterns::{Condition, Row};
+use row_patterns::{Condition, Pattern, Row};
 
 // each sort
 fn sorts() -> &'static [Sort]
@@ -132,6 +132,55 @@ pub(crate) fn some_reaches<'r, 'a>(
             }
             some_reaches(stage, rest, step, tried)
         }
+    }
+}
+
+// the variable of the formula's binder, where the pattern has a binder there
+fn binder_of<'a>(pattern: &Pattern, written: &'a Formula) -> Option<&'a LogicVar> {
+    match (pattern, written) {
+        (Pattern::Exists(_), Formula::Exists(x, _)) | (Pattern::Forall(_), Formula::Forall(x, _)) =>
+            { Some(x) }
+        _ => None,
+    }
+}
+
+// the variable that the conclusion binds where the row binds $x
+fn likely_variable<'a>(row: &Row, conclusion: &'a Entailment) -> Option<&'a LogicVar> {
+    let left = binder_of(&row.conclusion.left, &conclusion.left);
+    if left.is_some() {
+        return left;
+    }
+    binder_of(&row.conclusion.right, &conclusion.right)
+}
+
+// whether the row's line of that variable goes the whole way
+fn reaches_likely<'r, 'a>(row: &'r Row<'r>, step: Step<'a>) -> bool
+    requires { IsTrue (single_row row.now) }
+    ensures { IsTrue result → ((letters : Letters) × Reaches all_stage (step_written step.entry)
+        (line_of letters (line_in row.now))) }
+{
+    let Some(x) = likely_variable(row, step.conclusion) else {
+        return false;
+    };
+    let source = Source {
+        row,
+        arguments: step.arguments,
+        cited: step.cited,
+        conclusion: step.conclusion,
+    };
+    tries(Stage::Condition, Candidate::Written(x), &source)
+}
+
+/// Whether a line of the rows, with the variable that the conclusion binds where the row binds $x,
+/// goes the whole way. Mostly one does, and then no other variable has to be tried.
+pub(crate) fn some_likely<'r, 'a>(rows: &'r [Row<'r>], step: Step<'a>) -> bool
+    requires { all_single rows.now ≡ true }
+    ensures { IsTrue result → SomeLine (rows_of (patterns_in rows.now))
+        (Reaches all_stage (step_written step.entry)) }
+{
+    match rows {
+        [] => false,
+        [row, rest @ ..] => reaches_likely(row, step) || some_likely(rest, step),
     }
 }
 

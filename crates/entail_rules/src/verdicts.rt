@@ -10,7 +10,7 @@ ghost use Rattle.entail_rules.specs.Steps.{step_written};
 ghost use Rattle.entail_rules.specs.Tried.{EnoughEach};
 
 use crate::plain::all_plain;
-use crate::reaching::{first_following, some_reaches};
+use crate::reaching::{first_following, some_likely, some_reaches};
 use crate::steps::Step;
 use crate::variables::{Tried, variables_of};
 use dom_terms::{OutOfMemory, SideName, Verdict};
@@ -53,6 +53,9 @@ pub(crate) fn matched<'r, 'a>(
 {
     if all_plain(rows) {
         return Ok(staged(rows, step, Tried::Any));
+    }
+    if some_likely(rows, step) {
+        return Ok(Verdict::Instance);
     }
     let variables = variables_of(alloc, step)?;
     Ok(staged(rows, step, Tried::These(&variables)))

@@ -68,7 +68,8 @@ fn set_with(
 {
     let variable_names = names_of(alloc, variables)?;
     let declared = Declared::new(variables, &variable_names, logics, logic_names);
-    formula.set_sorts(&declared);
+    // what is told of its variables is not asked here
+    let _ = formula.set_sorts(&declared);
     Ok(())
 }
 

@@ -40,9 +40,9 @@ fn bound(quantifier: Quantifier, name: Text, inner: Box<Formula>) -> Formula
 }
 
 // A term of a formula that is a logic variable, as a formula.
-fn lone(alloc: Global, left: Term, tokens: &mut Front) -> Result<Box<Formula>, ReadFault>
-    ensures { Gives (λ found. (formula_of found.value, lexemes_in tokens.new)) result
-        (lone_variable (term_of left) (lexemes_in tokens.old)) }
+fn lone(alloc: Global, left: Term, tokens: &Front) -> Result<Box<Formula>, ReadFault>
+    ensures { Gives (λ found. (formula_of found.value, lexemes_in tokens.now)) result
+        (lone_variable (term_of left) (lexemes_in tokens.now)) }
 {
     match left {
         Term::Logic(variable) => Ok(Box::new(alloc, Formula::Var(variable))?),

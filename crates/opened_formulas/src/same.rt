@@ -1,5 +1,6 @@
 // Whether two formulas are the same, each as it is read.
-ghost use Rattle.std.specs.Prelude.{◌≡◌, ◌&&◌, [], ◌∷◌};
+ghost use Rattle.std.specs.Prelude.{◌≡◌, ◌&&◌, [], ◌∷◌, IsTrue};
+ghost use Rattle.std.specs.Bool.{OnTrue};
 ghost use Rattle.model_terms.specs.Variables.{Var};
 ghost use Rattle.model_terms.specs.Terms.{term_with, under_binder, variable, Substitution};
 ghost use Rattle.model_formulas.specs.Nameless.{naming, nameless, walked};
@@ -8,7 +9,7 @@ ghost use Rattle.dom_terms.specs.Sorts.{sort_of};
 ghost use Rattle.dom_terms.specs.Terms.{logic_var_of, term_of};
 ghost use Rattle.formula_syntax.specs.Formulas.{formula_of, side_of};
 ghost use Rattle.formula_syntax.specs.Structural.{is_structural};
-ghost use Rattle.opened_formulas.specs.Readings.{tried_var, renaming, left_of, right_name, right_of, under_name, under_var, StaysSame};
+ghost use Rattle.opened_formulas.specs.Readings.{tried_var, renaming, left_of, right_name, right_of, under_name, under_var, reads_same, StaysSame};
 ghost use Rattle.model_formulas.specs.SameFormulas as tests;
 ghost use Rattle.model_shapes.specs.Tests as sorts;
 
@@ -131,6 +132,25 @@ fn same_variable(x: &LogicVar, right: &LogicVar, scope: &Scope) -> bool
     }
 }
 
+// whether nothing is opened or put in the scope, so that each variable stands for itself
+fn is_plain(scope: &Scope) -> bool
+    ensures { OnTrue result ((x : Var) → IsTrue (reads_same (left_of scope.now)
+        (right_name scope.now) x)) }
+{
+    match scope {
+        Scope::Outside(left, None) => left.opened.is_none() && left.put.is_none(),
+        _ => false,
+    }
+}
+
+// whether the two are one variable, which is the same in the scope
+fn is_same_there(x: &LogicVar, y: &LogicVar, scope: &Scope) -> bool
+    ensures { OnTrue result ((logic_var_of x.now ≡ logic_var_of y.now)
+        × IsTrue (reads_same (left_of scope.now) (right_name scope.now) (logic_var_of x.now))) }
+{
+    same_logic_var(x, y) && (is_plain(scope) || same_variable(x, y, scope))
+}
+
 // the same of two variables: one that is the same outside is so at once, and only for the others
 // are the binders of the scope walked through
 fn same_use(x: &LogicVar, y: &LogicVar, scope: &Scope, outside: Option<&Scope>) -> bool
@@ -140,7 +160,7 @@ fn same_use(x: &LogicVar, y: &LogicVar, scope: &Scope, outside: Option<&Scope>) 
         (variable (right_name scope.now (logic_var_of y.now))) }
 {
     match outside {
-        Some(o) if same_logic_var(x, y) && same_variable(x, y, o) => true,
+        Some(o) if is_same_there(x, y, o) => true,
         _ => same_variable(x, y, scope),
     }
 }

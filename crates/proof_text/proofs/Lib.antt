@@ -8,3 +8,5 @@ pub mod Exact
 pub mod MarkLemmas
 pub mod ConditionSizes
 pub mod LineLemmas
+pub mod SortedReader
+pub mod JudgedLoops

@@ -3,3 +3,5 @@ pub mod Lists
 pub mod Commands
 pub mod Theories
 pub mod Marked
+pub mod SortedTheories
+pub mod Judged

@@ -10,6 +10,7 @@ mod bracketed;
 mod commands;
 mod conditions;
 mod declarations;
+mod judged;
 mod judgements;
 mod lines;
 mod logics;
@@ -21,5 +22,5 @@ mod writing;
 mod written;
 
 pub use lines::write_theory;
-pub use theories::{MOST_DEPTH, one_theory, read_theory, theory_from};
+pub use theories::{MOST_DEPTH, ReadTheory, one_theory, read_theory, theory_from};
 pub use writing::{push_command, write_command};

@@ -1,23 +1,36 @@
 // Procedures.
-ghost use Rattle.std.specs.Prelude.{◌≡◌, [], ◌∷◌, map};
+ghost use Rattle.std.specs.Prelude.{◌≡◌, [], ◌∷◌, ◌++◌, IfOk, map, true};
+ghost use Rattle.std.specs.Bool.{OnTrue};
+ghost use Rattle.std.specs.List.{list_all};
+ghost use Rattle.model_commands.specs.CommandParts.{variables_of, variables_of_command};
+ghost use Rattle.model_grammar.specs.Sorts.{sorted_command, sorted_formula};
 ghost use Rattle.dom_terms.specs.Sorts.{data_sort_of};
-ghost use Rattle.dom_terms.specs.Terms.{prog_var_of};
+ghost use Rattle.dom_terms.specs.Terms.{logic_var_of, prog_var_of};
+ghost use Rattle.formula_syntax.specs.Formulas.{formula_of};
+ghost use Rattle.theory_syntax.specs.Commands.{command_of};
 ghost use Rattle.theory_syntax.specs.Theories.{procedure_of};
+ghost use Rattle.declared_sorts.specs.Declarations.{declared_of, scope_in};
+ghost use Rattle.declared_sorts.specs.Known.{Knows};
+ghost use Rattle.declared_sorts.specs.Names.{of_logic, Tells};
+ghost use Rattle.declared_sorts.specs.Settled.{is_settled, procedure_settled};
 ghost use Rattle.token_readers.specs.Giving.{Gives};
 ghost use Rattle.token_readers.specs.Leaves.{lexemes_in};
 ghost use Rattle.token_readers.specs.Reading.{with_front};
-ghost use Rattle.proof_text.specs.Theories.{contents_at, procedure_tail, more_procedures_at, procedures_at};
+ghost use Rattle.proof_text.specs.Judged.{steps_judged};
+ghost use Rattle.proof_text.specs.SortedTheories.{sorted_contents_at, sorted_procedure_tail, more_sorted_procedures_at, sorted_procedures_at};
 
 use crate::commands::command;
 use crate::declarations::declarations;
 use crate::sorts::data_sort;
 use crate::steps::steps;
-use dom_terms::{DataSort, Text, Vars};
+use declared_sorts::{Declared, Names, Sorted, declared_in, names_of};
+use dom_terms::{DataSort, LogicVar, Sort, Text, Vars};
+use formula_syntax::Formula;
 use logic_text::formula;
 use std::alloc::Global;
 use text_tokens::Front;
-use theory_syntax::{Procedure, Procedures};
-use token_readers::{ReadFault, Reader, expect, name, repeated};
+use theory_syntax::{Command, Procedure, Procedures, Steps};
+use token_readers::{ReadFault, expect, name, skip};
 
 // What stands before the requires of a procedure.
 #[derive(Drop)]
@@ -28,18 +41,88 @@ struct Header {
     sort: DataSort,
 }
 
-// What stands behind the header.
-#[tactic(auto, unfolding(crate::specs::Theories::contents_at))]
+// A procedure that was read.
+#[derive(Drop)]
+struct ReadProcedure {
+    // each variable in it with the sort of its declaration
+    procedure: Procedure,
+    // each of them is declared, first with the sort that it has
+    is_settled: bool,
+    // the formulas of each step may be judged at its sort; where false, that isn't known
+    is_judged: bool,
+}
+
+// The procedure of these parts, before its proof is read.
+fn unproved(alloc: Global, header: Header, pre: Formula, post: Formula, body: Command) -> Procedure
+    ensures { result ≡ record {
+      name = header.name;
+      params = header.params;
+      results = header.results;
+      sort = header.sort;
+      pre = pre;
+      post = post;
+      body = body;
+      proof = [];
+    } }
+{
+    let Header {
+        name,
+        params,
+        results,
+        sort,
+    } = header;
+    Procedure {
+        name,
+        params,
+        results,
+        sort,
+        pre,
+        post,
+        body,
+        proof: Steps::new(alloc),
+    }
+}
+
+// Gives each variable of the requires, the ensures and the body of a procedure the sort of its
+// declaration, and tells whether each of them is declared, first with the sort that it then has.
+fn set_head(pre: &mut Formula, post: &mut Formula, body: &mut Command, declared: &Declared) -> bool
+    requires { Knows declared.now }
+    ensures pre { formula_of pre.new
+        ≡ sorted_formula (declared_of declared.now) (formula_of pre.old) }
+    ensures post { formula_of post.new
+        ≡ sorted_formula (declared_of declared.now) (formula_of post.old) }
+    ensures body { command_of body.new
+        ≡ sorted_command (declared_of declared.now) (command_of body.old) }
+    ensures settled { result ≡ list_all (is_settled (scope_in declared.now))
+        (variables_of (formula_of pre.new) ++ (variables_of (formula_of post.new)
+        ++ variables_of_command (command_of body.new))) }
+{
+    let is_pre_settled = pre.set_sorts(declared);
+    let is_post_settled = post.set_sorts(declared);
+    let is_body_settled = body.set_sorts(declared);
+    is_pre_settled && is_post_settled && is_body_settled
+}
+
+// What stands behind the header. The variables of the requires, the ensures and the body get their
+// sorts once the body tells which local variables there are, and those of the proof step by step.
+#[tactic(auto, unfolding(crate::specs::SortedTheories::sorted_contents_at))]
 fn contents(
     alloc: Global,
     header: Header,
     depth: u32,
+    logics: &[LogicVar],
+    logic_names: &Names<Sort>,
     tokens: &mut Front,
-) -> Result<Procedure, ReadFault>
-    ensures { Gives (λ found. (procedure_of found, lexemes_in tokens.new)) result
-        (contents_at depth u32.MAX header.name (map prog_var_of header.params)
-        (map prog_var_of header.results)
+) -> Result<ReadProcedure, ReadFault>
+    requires { Tells logic_names.now (map of_logic logics.now) }
+    ensures read { Gives (λ found. (procedure_of found.procedure, lexemes_in tokens.new)) result
+        (sorted_contents_at (map logic_var_of logics.now) depth u32.MAX header.name
+        (map prog_var_of header.params) (map prog_var_of header.results)
         (data_sort_of header.sort) (lexemes_in tokens.old)) }
+    ensures settled { IfOk result (λ found. found.is_settled
+        ≡ procedure_settled (map logic_var_of logics.now) (procedure_of found.procedure)) }
+    ensures judged { IfOk result (λ found.
+        OnTrue found.is_judged (steps_judged (procedure_of found.procedure).proof ≡ true)) }
 {
     expect(tokens, "requires")?;
     let pre = formula(alloc, depth, tokens)?;
@@ -48,32 +131,40 @@ fn contents(
     expect(tokens, "body")?;
     let body = command(alloc, depth, tokens)?;
     expect(tokens, "proof")?;
-    let proof = steps(alloc, depth, tokens)?;
+    let mut found = unproved(alloc, header, pre, post, body);
+    let listed = declared_in(alloc, &found)?;
+    let variables = listed.as_slice();
+    let variable_names = names_of(alloc, variables)?;
+    let declared = Declared::new(variables, &variable_names, logics, logic_names);
+    let is_head_settled = set_head(&mut found.pre, &mut found.post, &mut found.body, &declared);
+    let proof = steps(alloc, depth, &declared, tokens)?;
     expect(tokens, "end")?;
-    let Header {
-        name,
-        params,
-        results,
-        sort,
-    } = header;
-    let procedure = Procedure {
-        name,
-        params,
-        results,
-        sort,
-        pre,
-        post,
-        body,
-        proof,
-    };
-    Ok(procedure)
+    found.proof = proof.steps;
+    let is_settled = is_head_settled && proof.are_settled;
+    Ok(ReadProcedure {
+        procedure: found,
+        is_settled,
+        is_judged: proof.are_judged,
+    })
 }
 
 // What stands behind the word `proc`.
-#[tactic(auto, unfolding(crate::specs::Theories::procedure_tail))]
-fn procedure(alloc: Global, depth: u32, tokens: &mut Front) -> Result<Procedure, ReadFault>
-    ensures { Gives (λ found. (procedure_of found, lexemes_in tokens.new)) result
-        (procedure_tail depth u32.MAX (lexemes_in tokens.old)) }
+#[tactic(auto, unfolding(crate::specs::SortedTheories::sorted_procedure_tail))]
+fn procedure(
+    alloc: Global,
+    depth: u32,
+    logics: &[LogicVar],
+    logic_names: &Names<Sort>,
+    tokens: &mut Front,
+) -> Result<ReadProcedure, ReadFault>
+    requires { Tells logic_names.now (map of_logic logics.now) }
+    ensures read { Gives (λ found. (procedure_of found.procedure, lexemes_in tokens.new)) result
+        (sorted_procedure_tail (map logic_var_of logics.now) depth u32.MAX
+        (lexemes_in tokens.old)) }
+    ensures settled { IfOk result (λ found. found.is_settled
+        ≡ procedure_settled (map logic_var_of logics.now) (procedure_of found.procedure)) }
+    ensures judged { IfOk result (λ found.
+        OnTrue found.is_judged (steps_judged (procedure_of found.procedure).proof ≡ true)) }
 {
     let name = name(alloc, tokens)?;
     let params = declarations(alloc, tokens)?;
@@ -87,56 +178,82 @@ fn procedure(alloc: Global, depth: u32, tokens: &mut Front) -> Result<Procedure,
         results,
         sort,
     };
-    contents(alloc, header, depth, tokens)
+    contents(alloc, header, depth, logics, logic_names, tokens)
 }
 
-// Reads what stands behind the word `proc`, nested at most so deep.
-#[derive(Clone, Copy)]
-struct ProcedureReader {
-    depth: u32,
-}
-
-impl Reader<Procedure> for ProcedureReader {
-    ghost use Rattle.model_formulas.specs.Formulas.{Named};
-    ghost use Rattle.model_commands.specs.Theories as model;
-
-    ghost Seen = { model.ProcedureOf Named };
-
-    ghost seen = { procedure_of };
-
-    ghost reading = { λ reader. procedure_tail reader.depth 4294967295 };
-
-    fn read(&self, alloc: Global, tokens: &mut Front) -> Result<Procedure, ReadFault>
-        ensures { Gives (λ found. (procedure_of found, lexemes_in tokens.new)) result
-            (procedure_tail self.now.depth 4294967295 (lexemes_in tokens.old)) }
-    {
-        procedure(alloc, self.depth, tokens)
-    }
+/// The procedures that were read, and what is told of their variables and of their proofs.
+#[derive(Drop)]
+pub struct ReadProcedures {
+    /// The procedures, each variable with the sort of its declaration.
+    pub procedures: Procedures,
+    /// Each variable in them is declared, first with the sort that it has.
+    pub are_settled: bool,
+    /// The formulas of each step may be judged at its sort; where false, that isn't known.
+    pub are_judged: bool,
 }
 
 // The procedures behind the first, as long as one begins.
 fn more_procedures(
     alloc: Global,
-    first: Procedure,
+    first: ReadProcedure,
     depth: u32,
+    logics: &[LogicVar],
+    logic_names: &Names<Sort>,
     tokens: &mut Front,
-) -> Result<Procedures, ReadFault>
-    ensures { Gives (λ found. (map procedure_of found, lexemes_in tokens.new)) result
-        (with_front (procedure_of first ∷ [])
-        (more_procedures_at depth u32.MAX (lexemes_in tokens.old))) }
+) -> Result<ReadProcedures, ReadFault>
+    requires logics { Tells logic_names.now (map of_logic logics.now) }
+    requires first { first.is_settled
+        ≡ procedure_settled (map logic_var_of logics.now) (procedure_of first.procedure) }
+    requires judged { OnTrue first.is_judged
+        (steps_judged (procedure_of first.procedure).proof ≡ true) }
+    ensures read { Gives (λ found. (map procedure_of found.procedures, lexemes_in tokens.new))
+        result (with_front (procedure_of first.procedure ∷ [])
+        (more_sorted_procedures_at (map logic_var_of logics.now) depth u32.MAX
+        (lexemes_in tokens.old))) }
+    ensures settled { IfOk result (λ found. found.are_settled ≡ list_all
+        (procedure_settled (map logic_var_of logics.now)) (map procedure_of found.procedures)) }
+    ensures judged { IfOk result (λ found. OnTrue found.are_judged
+        (list_all (λ f. steps_judged f.proof) (map procedure_of found.procedures) ≡ true)) }
 {
-    let mut found = Procedures::new(alloc);
-    found.push(first)?;
-    repeated(alloc, &ProcedureReader { depth }, "proc", found, tokens)
+    let mut procedures = Procedures::new(alloc);
+    let mut are_settled = first.is_settled;
+    let mut are_judged = first.is_judged;
+    procedures.push(first.procedure)?;
+    for _ in 0..u32::MAX {
+        if !skip(tokens, "proc") {
+            return Ok(ReadProcedures {
+                procedures,
+                are_settled,
+                are_judged,
+            });
+        }
+        let item = procedure(alloc, depth, logics, logic_names, tokens)?;
+        are_settled = are_settled && item.is_settled;
+        are_judged = are_judged && item.is_judged;
+        procedures.push(item.procedure)?;
+    }
+    Err(ReadFault::Memory)
 }
 
-/// One procedure or more; moves behind them.
-#[tactic(auto, unfolding(crate::specs::Theories::procedures_at))]
-pub fn procedures(alloc: Global, depth: u32, tokens: &mut Front) -> Result<Procedures, ReadFault>
-    ensures { Gives (λ found. (map procedure_of found, lexemes_in tokens.new)) result
-        (procedures_at depth u32.MAX (lexemes_in tokens.old)) }
+/// One procedure or more, with the sorts of what they and the file declare; moves behind them.
+#[tactic(auto, unfolding(crate::specs::SortedTheories::sorted_procedures_at))]
+pub fn procedures(
+    alloc: Global,
+    depth: u32,
+    logics: &[LogicVar],
+    logic_names: &Names<Sort>,
+    tokens: &mut Front,
+) -> Result<ReadProcedures, ReadFault>
+    requires { Tells logic_names.now (map of_logic logics.now) }
+    ensures read { Gives (λ found. (map procedure_of found.procedures, lexemes_in tokens.new))
+        result (sorted_procedures_at (map logic_var_of logics.now) depth u32.MAX
+        (lexemes_in tokens.old)) }
+    ensures settled { IfOk result (λ found. found.are_settled ≡ list_all
+        (procedure_settled (map logic_var_of logics.now)) (map procedure_of found.procedures)) }
+    ensures judged { IfOk result (λ found. OnTrue found.are_judged
+        (list_all (λ f. steps_judged f.proof) (map procedure_of found.procedures) ≡ true)) }
 {
     expect(tokens, "proc")?;
-    let first = procedure(alloc, depth, tokens)?;
-    more_procedures(alloc, first, depth, tokens)
+    let first = procedure(alloc, depth, logics, logic_names, tokens)?;
+    more_procedures(alloc, first, depth, logics, logic_names, tokens)
 }

@@ -1,15 +1,25 @@
 // Steps of proofs.
-ghost use Rattle.std.specs.Prelude.{◌≡◌, map};
+ghost use Rattle.std.specs.Prelude.{◌≡◌, IfOk, map, true};
+ghost use Rattle.std.specs.Bool.{OnTrue};
+ghost use Rattle.std.specs.List.{list_all};
+ghost use Rattle.model_files.specs.FileFaults.{judgement_sorted};
 ghost use Rattle.dom_terms.specs.Terms.{term_of};
 ghost use Rattle.theory_syntax.specs.Judgements.{reason_of, step_of};
-ghost use Rattle.token_readers.specs.Reading.{leaf, many};
+ghost use Rattle.declared_sorts.specs.Declarations.{declared_of, scope_in};
+ghost use Rattle.declared_sorts.specs.Known.{Knows};
+ghost use Rattle.declared_sorts.specs.Settled.{step_settled};
+ghost use Rattle.token_readers.specs.Reading.{leaf};
 ghost use Rattle.token_readers.specs.Giving.{Gives};
-ghost use Rattle.token_readers.specs.Leaves.{lexemes_in, leaf_number, leaf_step};
+ghost use Rattle.token_readers.specs.Leaves.{lexemes_in, leaf_number};
+ghost use Rattle.proof_text.specs.Judged.{steps_judged};
 ghost use Rattle.proof_text.specs.Lists.{bracketed_at};
 ghost use Rattle.proof_text.specs.Theories.{arguments_at, reason_at, step_tail};
+ghost use Rattle.proof_text.specs.SortedTheories.{sorted_step_tail, sorted_steps_at};
 
 use crate::bracketed::{bracketed, listed_terms};
+use crate::judged::is_judgement_judged;
 use crate::judgements::judgement;
+use declared_sorts::{Declared, Sorted};
 use dom_terms::{Numbers, Terms};
 use logic_text::Place;
 use std::alloc::Global;
@@ -103,18 +113,87 @@ fn step(alloc: Global, depth: u32, line: u32, tokens: &mut Front) -> Result<Step
     Ok(step)
 }
 
-/// The steps of a proof, as long as one begins; moves behind them.
-pub fn steps(alloc: Global, depth: u32, tokens: &mut Front) -> Result<Steps, ReadFault>
-    ensures { Gives (λ found. (map step_of found, lexemes_in tokens.new)) result
-        (many leaf_step (step_tail depth u32.MAX) u32.MAX (lexemes_in tokens.old)) }
+// A step that was read.
+#[derive(Drop)]
+struct ReadStep {
+    // each variable in it with the sort of its declaration
+    step: Step,
+    // each of them is declared, first with the sort that it has
+    is_settled: bool,
+    // the formulas of its judgement may be judged at its sort; where false, that isn't known
+    is_judged: bool,
+}
+
+// A step, whose variables get their sorts while it is at hand.
+#[tactic(auto, unfolding(crate::specs::SortedTheories::sorted_step_tail))]
+fn sorted_step(
+    alloc: Global,
+    depth: u32,
+    line: u32,
+    declared: &Declared,
+    tokens: &mut Front,
+) -> Result<ReadStep, ReadFault>
+    requires { Knows declared.now }
+    ensures read { Gives (λ found. (step_of found.step, lexemes_in tokens.new)) result
+        (sorted_step_tail (declared_of declared.now) depth u32.MAX line
+        (lexemes_in tokens.old)) }
+    ensures settled { IfOk result (λ found.
+        found.is_settled ≡ step_settled (scope_in declared.now) (step_of found.step)) }
+    ensures judged { IfOk result (λ found.
+        OnTrue found.is_judged (judgement_sorted (step_of found.step).judgement ≡ true)) }
 {
-    let mut found = Steps::new(alloc);
+    let mut step = step(alloc, depth, line, tokens)?;
+    let is_settled = step.set_sorts(declared);
+    let is_judged = is_judgement_judged(&step.judgement);
+    Ok(ReadStep {
+        step,
+        is_settled,
+        is_judged,
+    })
+}
+
+/// The steps of a proof that were read, and what is told of their variables and their formulas.
+#[derive(Drop)]
+pub struct ReadSteps {
+    /// The steps, each variable with the sort of its declaration.
+    pub steps: Steps,
+    /// Each variable in them is declared, first with the sort that it has.
+    pub are_settled: bool,
+    /// The formulas of each step may be judged at its sort; where false, that isn't known.
+    pub are_judged: bool,
+}
+
+/// The steps of a proof, as long as one begins, with the sorts of what is declared; moves behind
+/// them.
+pub fn steps(
+    alloc: Global,
+    depth: u32,
+    declared: &Declared,
+    tokens: &mut Front,
+) -> Result<ReadSteps, ReadFault>
+    requires { Knows declared.now }
+    ensures read { Gives (λ found. (map step_of found.steps, lexemes_in tokens.new)) result
+        (sorted_steps_at (declared_of declared.now) depth u32.MAX (lexemes_in tokens.old)) }
+    ensures settled { IfOk result (λ found. found.are_settled
+        ≡ list_all (step_settled (scope_in declared.now)) (map step_of found.steps)) }
+    ensures judged { IfOk result (λ found.
+        OnTrue found.are_judged (steps_judged (map step_of found.steps) ≡ true)) }
+{
+    let mut steps = Steps::new(alloc);
+    let mut are_settled = true;
+    let mut are_judged = true;
     for _ in 0..u32::MAX {
         let Some(line) = step_line(tokens) else {
-            return Ok(found);
+            return Ok(ReadSteps {
+                steps,
+                are_settled,
+                are_judged,
+            });
         };
-        let item = step(alloc, depth, line, tokens)?;
-        found.push(item)?;
+        let item = sorted_step(alloc, depth, line, declared, tokens)?;
+        are_settled = are_settled && item.is_settled;
+        are_judged = are_judged && item.is_judged;
+        steps.push(item.step)?;
     }
     Err(ReadFault::Memory)
 }

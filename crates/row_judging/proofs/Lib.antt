@@ -1,3 +1,4 @@
 pub mod Pure
 pub mod Tests
 pub mod Reaching
+pub mod Places

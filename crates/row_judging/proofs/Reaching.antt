@@ -56,43 +56,44 @@ asked-met l (asked.Argument a) (t ∷ []) e =
 asked-met l (asked.Argument a) (t ∷ (u ∷ us)) e = absurd cc
 
 -- THE CONCLUSION
-pub concludes-met : (l : Letters) (row : Row) (w : Written) (s : Sort) (a b c d r : Bool)
+pub concludes-met : (l : Letters) (row : Row) (w : Written) (s : Sort) (r : Bool)
     → s ≡ l.x.sort → same_judgement w.conclusion w.conclusion ≡ true
-    → a ≡ same_list same_term (terms_of l (arguments_in row.asked)) w.arguments
-    → b ≡ asked_met row.asked w.arguments s
-    → c ≡ same_judgement (judgement_of l (judgement_in row.conclusion)) w.conclusion
-    → d ≡ (b && c) → r ≡ (a && d) → IsTrue r ↔ Concludes w (line_of l (line_in row))
-concludes-met l row w s a b c d r q own ea eb ec ed er = (forth, back)
+    → r ≡ (asked_met row.asked w.arguments s
+    && (same_list same_term (terms_of l (arguments_in row.asked)) w.arguments
+    && same_judgement (judgement_of l (judgement_in row.conclusion)) w.conclusion))
+    → IsTrue r ↔ Concludes w (line_of l (line_in row))
+concludes-met l row w s r q own er = (forth, back)
   where
     forth : r ≡ true → Concludes w (line_of l (line_in row))
     forth e =
-        let h : (a ≡ true) × (d ≡ true) = both_true a d (sym er ∙ e) in
-        let k : (b ≡ true) × (c ≡ true) = both_true b c (sym ed ∙ h.1) in
+        let h : (asked_met row.asked w.arguments s ≡ true)
+        × ((same_list same_term (terms_of l (arguments_in row.asked)) w.arguments
+        && same_judgement (judgement_of l (judgement_in row.conclusion)) w.conclusion) ≡ true) =
+        both_true _ _ (sym er ∙ e) in
+        let k : (same_list same_term (terms_of l (arguments_in row.asked)) w.arguments ≡ true)
+        × (same_judgement (judgement_of l (judgement_in row.conclusion)) w.conclusion ≡ true) =
+        both_true _ _ h.1 in
         let t : terms_of l (arguments_in row.asked) ≡ w.arguments =
-        list-is same_term term-is (terms_of l (arguments_in row.asked)) w.arguments
-        (sym ea ∙ h.0) in (
+        list-is same_term term-is (terms_of l (arguments_in row.asked)) w.arguments k.0 in (
           t,
           (asked-met l row.asked w.arguments t).0
-              (ap (asked_met row.asked w.arguments) (sym q) ∙ (sym eb ∙ k.0)),
-          judgement-is (judgement_of l (judgement_in row.conclusion)) w.conclusion (sym ec ∙ k.1),
+              (ap (asked_met row.asked w.arguments) (sym q) ∙ h.0),
+          judgement-is (judgement_of l (judgement_in row.conclusion)) w.conclusion k.1,
         )
 
     back : Concludes w (line_of l (line_in row)) → r ≡ true
     back m =
-        let ta : a ≡ true = ea ∙ (ap (λ ts. same_list same_term ts w.arguments) m.0
-        ∙ list-refl same_term w.arguments (terms-refl w.arguments)) in
-        let tb : b ≡ true = eb ∙ (ap (asked_met row.asked w.arguments) q
-        ∙ (asked-met l row.asked w.arguments m.0).1 m.1) in
-        let tc : c ≡ true = ec ∙ (ap (λ j. same_judgement j w.conclusion) m.2 ∙ own) in
-        er ∙ both ta (ed ∙ both tb tc)
+        er ∙ both
+        (ap (asked_met row.asked w.arguments) q ∙ (asked-met l row.asked w.arguments m.0).1 m.1)
+        (both
+        (ap (λ ts. same_list same_term ts w.arguments) m.0
+        ∙ list-refl same_term w.arguments (terms-refl w.arguments))
+        (ap (λ j. same_judgement j w.conclusion) m.2 ∙ own))
 
--- TWO FACTS
-pub both-met : {A B : Type 0} (a b r : Bool) → IsTrue a ↔ A → IsTrue b ↔ B → r ≡ (a && b)
-    → IsTrue r ↔ (A × B)
-both-met a b r f g e = (
-  λ h. let k : (a ≡ true) × (b ≡ true) = both_true a b (sym e ∙ h) in (f.0 k.0, g.0 k.1),
-  λ m. e ∙ both (f.1 m.0) (g.1 m.1),
-)
+-- TWO FACTS, of which the second is asked only where the first holds
+pub both-where : {A B : Type 0} (a b : Bool) → IsTrue a ↔ A → a ≡ true → IsTrue b ↔ B
+    → IsTrue b ↔ (A × B)
+both-where a b f e g = (λ h. (f.0 e, g.0 h), λ m. g.1 m.1)
 
 -- THE PREMISES
 pub premises-met : (ks js : List Judgement) (b : Bool)

@@ -6,12 +6,14 @@ ghost use Rattle.rule_patterns.specs.Patterns as patterns;
 ghost use Rattle.row_patterns.specs.Binders.{single_judged, single_premises, single_row};
 ghost use Rattle.row_patterns.specs.Views.{arguments_in, judgement_in, premises_in};
 ghost use Rattle.row_matching.specs.Choices.{all_cited, choice_of, judged};
+ghost use Rattle.row_matching.specs.SeenLetters.{AreFirst, ArePassed};
+ghost use Rattle.row_judging.specs.Places.{place_judged, place_premises};
 ghost use Rattle.row_judging.specs.Tests.{same_judgement, same_list};
 
 use dom_terms::Term;
 use formula_syntax::Entailment;
 use opened_formulas::Candidate;
-use row_matching::{Cited, Source, fits_formula, fits_sort, fits_term};
+use row_matching::{Cited, Seen, Source, fits_formula, fits_sort, fits_term};
 use row_patterns::{Asked, Judged, Premises, TermPattern};
 
 // whether the arguments are those of the row
@@ -43,15 +45,21 @@ pub(crate) fn fits_judged<'r, 'a>(
     written: &Entailment,
     candidate: Candidate<'a>,
     source: &Source<'r, 'a>,
+    seen: &mut Seen,
 ) -> bool
     requires single { IsTrue (single_judged pattern.now) }
     requires row { IsTrue (single_row source.now.row.now) }
-    ensures { result ≡ same_judgement
+    requires unseen { AreFirst seen.old source.now candidate
+        (place_judged candidate pattern.now written.now) }
+    ensures fits { result ≡ same_judgement
         (patterns.judgement_of (choice_of source.now candidate.entry) (judgement_in pattern.now))
         (judged written.now) }
+    ensures passed { IsTrue result → ArePassed seen.old seen.new
+        (place_judged candidate.entry pattern.now written.now) }
 {
-    fits_formula(&pattern.left, &written.left, None, candidate, &*source)
-        && fits_formula(&pattern.right, &written.right, None, candidate, &*source)
+    let (left, right) = (&written.left, &written.right);
+    fits_formula(&pattern.left, left, None, candidate, &*source, &mut *seen)
+        && fits_formula(&pattern.right, right, None, candidate, &*source, &mut *seen)
         && fits_sort(pattern.sort, written.sort, candidate, &*source)
 }
 
@@ -61,18 +69,22 @@ pub(crate) fn fits_premises<'r, 'a>(
     cited: Cited,
     candidate: Candidate<'a>,
     source: &Source<'r, 'a>,
+    seen: &mut Seen,
 ) -> bool
     requires single { IsTrue (single_premises pattern.now) }
     requires row { IsTrue (single_row source.now.row.now) }
+    requires unseen { AreFirst seen.old source.now candidate
+        (place_premises candidate pattern.now cited) }
     ensures { result ≡ same_list same_judgement
         (patterns.judgements_of (choice_of source.now candidate.entry) (premises_in pattern.now))
         (all_cited cited.entry) }
 {
     match (pattern, cited) {
         (Premises::Nothing, Cited::Nothing) => true,
-        (Premises::One(p), Cited::One(a)) => fits_judged(p, a, candidate, &*source),
+        (Premises::One(p), Cited::One(a)) => fits_judged(p, a, candidate, &*source, &mut *seen),
         (Premises::Two(p, q), Cited::Two(a, b)) => {
-            fits_judged(p, a, candidate, &*source) && fits_judged(q, b, candidate, &*source)
+            fits_judged(p, a, candidate, &*source, &mut *seen)
+                && fits_judged(q, b, candidate, &*source, &mut *seen)
         }
         _ => false,
     }

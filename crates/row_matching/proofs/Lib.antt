@@ -1,3 +1,5 @@
 pub mod Opening
 pub mod ReadOff
 pub mod Bound
+pub mod Passing
+pub mod NoFormulas

@@ -82,17 +82,25 @@ pub plain-below : (x : Var) (p : Named)
     → walked (x ∷ []) p ≡ formula_with (closing x) (nameless p)
 plain-below x p = ap below (nameless-exists x p)
 
--- the whole step at a binder, where none has been opened
+-- the tree of what stands below a binder, where none has been opened
+pub below-tree : (o : Option Opened) (x : Var) (y : LogicVar) (p : Named) → o ≡ None
+    → tree_with (opening (variable x))
+    (formula_tree (formula_with (under_binder (renaming o)) (walked (as_logic y ∷ []) p)))
+    ≡ formula_tree (formula_with (λ z. variable (one_for (as_logic y) x z)) (nameless p))
+below-tree o x y p e =
+    (λ i. tree_with (opening (variable x)) (formula_tree (formula_with
+    (under_binder (renaming (e i))) (plain-below (as_logic y) p i))))
+    ∙ opened-tree x y (nameless p)
+
+-- the whole step at a binder
 pub at-binder : (o : Option Opened) (x : Var) (y : LogicVar) (a : Letter) (q : Pat) (p : Named)
     (n : Quantifier) (r : Option Tree) → o ≡ None → r ≡ find x a q
     (formula_tree (formula_with (λ z. variable (one_for (as_logic y) x z)) (nameless p)))
     → r ≡ find x a (under n q) (bind n y.sort
     (formula_tree (formula_with (under_binder (renaming o)) (walked (as_logic y ∷ []) p))))
 at-binder o x y a q p n r e g =
-    g ∙ (sym (ap (find x a q) (opened-tree x y (nameless p)))
-    ∙ (sym (same-cond (bind_number n == bind_number n) _ (nat-refl (bind_number n)))
-    ∙ (λ i. find x a (under n q) (bind n y.sort (formula_tree (formula_with
-    (under_binder (renaming (sym e i))) (sym (plain-below (as_logic y) p) i)))))))
+    g ∙ (sym (ap (find x a q) (below-tree o x y p e))
+    ∙ sym (same-cond (bind_number n == bind_number n) _ (nat-refl (bind_number n))))
 
 -- outside all binders nothing is read otherwise
 pub term-outside : (t : Term) → term_with (renaming None) t ≡ t

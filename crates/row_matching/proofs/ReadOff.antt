@@ -1,6 +1,6 @@
 -- What is read off for each letter is what was found at its first place.
-use Rattle.std.proofs.Common.{◌≡◌, refl, sym, ap, ◌∙◌, Option, None}
-use Rattle.std.specs.Option.{option_or, unwrap_or}
+use Rattle.std.proofs.Common.{◌≡◌, refl, sym, ap, ◌∙◌, Option, Some, None}
+use Rattle.std.specs.Option.{unwrap_or}
 use Rattle.model_shapes.specs.Sorts.{tree, shape}
 use Rattle.model_shapes.specs.Values.{null}
 use Rattle.model_terms.specs.Terms.{Term, literal, variable, sum, difference, appended, term_with}
@@ -15,15 +15,15 @@ use Rattle.rule_patterns.specs.Letter as letter
 use Rattle.rule_patterns.specs.Letter.{formula_at, term_at, data_at}
 use Rattle.rule_patterns.specs.Trees.{Tree, formula_tree, term_tree, formula_from, term_from, data_from, hole_from, sort_from}
 use Rattle.rule_patterns.specs.TreePatterns as pattern
-use Rattle.rule_patterns.specs.Finding.{read, find, attempt, conclusion_pat, premises_pat, conclusion_tree, cited_tree}
+use Rattle.rule_patterns.specs.Finding.{read, attempt}
 use Rattle.rule_patterns.proofs.Bridge.{formula-back, term-back}
 use Rattle.row_patterns.specs.Views.{line_in}
 use Rattle.opened_formulas.specs.declared.candidates.Candidate.{Candidate}
-use Rattle.opened_formulas.specs.Readings.{tried, tried_var, renaming}
+use Rattle.opened_formulas.specs.Readings.{tried, renaming}
 use Rattle.row_matching.specs.declared.found.Found.{Found}
 use Rattle.row_matching.specs.declared.found.Found.TheVariants as f
 use Rattle.row_matching.specs.declared.source.Source.{Source}
-use Rattle.row_matching.specs.FirstPlaces.{tree_found, formula_found, term_found, data_found, hole_found, sort_found}
+use Rattle.row_matching.specs.FirstPlaces.{first_place, tree_found, formula_found, term_found, data_found, hole_found, sort_found}
 use Rattle.row_matching.specs.Choices.{written_of, choice_of, choice-is}
 
 -- a tree is no term, no data sort, no hole and no sort
@@ -137,13 +137,8 @@ read-sort (f.Sort (s.Context h k)) = refl
 
 -- THE CHOICE
 module _ (source : Source) (x : Candidate) where
-  -- what is found at the first place
-  abbrev first_place : pattern.Letter → Option Tree
-  first_place a = option_or
-      (find (tried_var x) a (conclusion_pat (line_in source.row.now))
-      (conclusion_tree (written_of source)))
-      (find (tried_var x) a (premises_pat (line_in source.row.now))
-      (cited_tree (written_of source).premises))
+  abbrev first : pattern.Letter → Option Tree
+  first = first_place source x
 
   is : choice_of source x ≡ attempt (line_in source.row.now) (written_of source) (tried x)
   is = choice-is source.row.now (written_of source) (tried x)
@@ -152,14 +147,14 @@ module _ (source : Source) (x : Candidate) where
   the-variable = ap (λ (l : Letters). l.x) is
 
   the-sort : (choice_of source x).s
-      ≡ read sort_from (shape tree) (first_place pattern.sort_letter)
+      ≡ read sort_from (shape tree) (first pattern.sort_letter)
   the-sort = ap (λ (l : Letters). l.s) is
 
-  the-hole : (choice_of source x).o ≡ read hole_from None (first_place pattern.hole_letter)
+  the-hole : (choice_of source x).o ≡ read hole_from None (first pattern.hole_letter)
   the-hole = ap (λ (l : Letters). l.o) is
 
   the-formula : (a : letter.FormulaLetter) → formula_at (choice_of source x) a
-      ≡ read formula_from truth (first_place (pattern.formula_letter a))
+      ≡ read formula_from truth (first (pattern.formula_letter a))
   the-formula letter.P' = ap (λ (l : Letters). l.P) is
   the-formula letter.Q' = ap (λ (l : Letters). l.Q) is
   the-formula letter.R' = ap (λ (l : Letters). l.R) is
@@ -168,8 +163,15 @@ module _ (source : Source) (x : Candidate) where
   the-formula letter.K' = ap (λ (l : Letters). l.K) is
   the-formula letter.H' = ap (λ (l : Letters). l.H) is
 
+  -- a formula that stands at its letter's first place
+  pub formula-first : (a : letter.FormulaLetter) (p : Formula)
+      → first_place source x (pattern.formula_letter a) ≡ Some (formula_tree p)
+      → formula_at (choice_of source x) a ≡ p
+  formula-first a p e =
+      the-formula a ∙ (ap (read formula_from truth) e ∙ ap (or_that truth) (formula-back p))
+
   the-term : (a : letter.TermLetter) → term_at (choice_of source x) a
-      ≡ read term_from (literal null) (first_place (pattern.term_letter a))
+      ≡ read term_from (literal null) (first (pattern.term_letter a))
   the-term letter.E' = ap (λ (l : Letters). l.E) is
   the-term letter.F' = ap (λ (l : Letters). l.F) is
   the-term letter.S' = ap (λ (l : Letters). l.S) is
@@ -180,35 +182,35 @@ module _ (source : Source) (x : Candidate) where
   the-term letter.M' = ap (λ (l : Letters). l.M) is
 
   the-data : (a : letter.DataLetter) → data_at (choice_of source x) a
-      ≡ read data_from tree (first_place (pattern.data_letter a))
+      ≡ read data_from tree (first (pattern.data_letter a))
   the-data letter.h' = ap (λ (l : Letters). l.h) is
   the-data letter.k' = ap (λ (l : Letters). l.k) is
   the-data letter.j' = ap (λ (l : Letters). l.j) is
 
   -- and with what was found
   pub formula-read : (a : letter.FormulaLetter) (found : Found)
-      → tree_found found ≡ first_place (pattern.formula_letter a)
+      → tree_found found ≡ first (pattern.formula_letter a)
       → formula_found found ≡ formula_at (choice_of source x) a
   formula-read a found e =
       sym (the-formula a ∙ (ap (read formula_from truth) (sym e) ∙ read-formula found))
 
   pub term-read : (a : letter.TermLetter) (found : Found)
-      → tree_found found ≡ first_place (pattern.term_letter a)
+      → tree_found found ≡ first (pattern.term_letter a)
       → term_found found ≡ term_at (choice_of source x) a
   term-read a found e =
       sym (the-term a ∙ (ap (read term_from (literal null)) (sym e) ∙ read-term found))
 
   pub data-read : (a : letter.DataLetter) (found : Found)
-      → tree_found found ≡ first_place (pattern.data_letter a)
+      → tree_found found ≡ first (pattern.data_letter a)
       → data_found found ≡ data_at (choice_of source x) a
   data-read a found e =
       sym (the-data a ∙ (ap (read data_from tree) (sym e) ∙ read-data found))
 
-  pub hole-read : (found : Found) → tree_found found ≡ first_place pattern.hole_letter
+  pub hole-read : (found : Found) → tree_found found ≡ first pattern.hole_letter
       → hole_found found ≡ (choice_of source x).o
   hole-read found e = sym (the-hole ∙ (ap (read hole_from None) (sym e) ∙ read-hole found))
 
-  pub sort-read : (found : Found) → tree_found found ≡ first_place pattern.sort_letter
+  pub sort-read : (found : Found) → tree_found found ≡ first pattern.sort_letter
       → sort_found found ≡ (choice_of source x).s
   sort-read found e =
       sym (the-sort ∙ (ap (read sort_from (shape tree)) (sym e) ∙ read-sort found))

@@ -1,6 +1,7 @@
 -- Needn't be believed: what stands at the first place of a letter, as a tree and as what is read
 -- from it.
 use Rattle.std.specs.Prelude.{Option, Some, None, Bool, true, false}
+use Rattle.std.specs.Option.{option_or}
 use Rattle.model_shapes.specs.Sorts as sorts
 use Rattle.model_shapes.specs.Values.{null}
 use Rattle.model_terms.specs.Terms as terms
@@ -11,15 +12,19 @@ use Rattle.dom_terms.specs.Sorts.{data_sort_of, sort_of}
 use Rattle.dom_terms.specs.declared.sorts.DataSort.{DataSort}
 use Rattle.dom_terms.specs.Terms.{term_of}
 use Rattle.formula_syntax.specs.Formulas.{formula_of}
+use Rattle.rule_patterns.specs.Finding.{find, conclusion_pat, premises_pat, conclusion_tree, cited_tree}
 use Rattle.rule_patterns.specs.TreePatterns as pattern
 use Rattle.rule_patterns.specs.Trees.{Tree, leaf, no_hole_leaf, formula_tree, term_tree, data_tree, sort_tree}
-use Rattle.row_patterns.specs.Views.{letter_in, term_letter_in, data_letter_in}
+use Rattle.row_patterns.specs.Views.{letter_in, term_letter_in, data_letter_in, line_in}
+use Rattle.opened_formulas.specs.declared.candidates.Candidate.{Candidate}
 use Rattle.opened_formulas.specs.declared.reading.Opened.{Opened}
-use Rattle.opened_formulas.specs.Readings.{renaming}
+use Rattle.opened_formulas.specs.Readings.{tried_var, renaming}
+use Rattle.row_matching.specs.Choices.{written_of}
 use Rattle.row_matching.specs.declared.found.Letter.{Letter}
 use Rattle.row_matching.specs.declared.found.Letter.TheVariants as l
 use Rattle.row_matching.specs.declared.found.Found.{Found}
 use Rattle.row_matching.specs.declared.found.Found.TheVariants as f
+use Rattle.row_matching.specs.declared.source.Source.{Source}
 
 abbrev pub letter_of : Letter → pattern.Letter
 letter_of (l.Formula a) = pattern.formula_letter (letter_in a)
@@ -37,6 +42,14 @@ tree_found (f.Value a o) = Some (term_tree (terms.term_with (renaming o) (term_o
 tree_found (f.Data k) = Some (data_tree (data_sort_of k))
 tree_found f.NoHole = Some (leaf no_hole_leaf)
 tree_found (f.Sort s) = Some (sort_tree (sort_of s))
+
+-- what stands at the first place of a letter in all that is written
+abbrev pub first_place : Source → Candidate → pattern.Letter → Option Tree
+first_place source x a = option_or
+    (find (tried_var x) a (conclusion_pat (line_in source.row.now))
+    (conclusion_tree (written_of source)))
+    (find (tried_var x) a (premises_pat (line_in source.row.now))
+    (cited_tree (written_of source).premises))
 
 -- what is read from what was found
 abbrev pub formula_found : Found → formulas.Formula

@@ -1,3 +1,4 @@
 pub mod FirstPlaces
 pub mod Forms
 pub mod Choices
+pub mod SeenLetters

@@ -299,7 +299,10 @@ fn find_both<'a>(
         (formula_tree (formula_with (renaming opened.entry) (nameless (formula_of b.now))))) }
 {
     let left = find_formula(p, a, opened, candidate, letter);
-    left.or(find_formula(q, b, opened, candidate, letter))
+    if !left.is_nothing() {
+        return left;
+    }
+    find_formula(q, b, opened, candidate, letter)
 }
 
 // whether the hole is at the same side

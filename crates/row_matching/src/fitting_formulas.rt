@@ -11,17 +11,21 @@ ghost use Rattle.dom_terms.specs.Terms.{logic_var_of, term_of};
 ghost use Rattle.formula_syntax.specs.Formulas.{formula_of, side_of};
 ghost use Rattle.formula_syntax.specs.FreeVariables.{is_among, occurrences};
 ghost use Rattle.rule_table.specs.Letters.{as_logic};
+ghost use Rattle.rule_patterns.specs.Letter as letters;
 ghost use Rattle.rule_patterns.specs.Patterns as patterns;
+ghost use Rattle.row_patterns.specs.declared.patterns.Pattern as pa;
 ghost use Rattle.row_patterns.specs.Views.{letter_in, term_letter_in, formula_in};
 ghost use Rattle.row_patterns.specs.Binders.{single, single_row};
 ghost use Rattle.opened_formulas.specs.Readings.{tried_var, renaming, putting};
 ghost use Rattle.row_matching.specs.FirstPlaces.{formula_found, unopened};
 ghost use Rattle.row_matching.specs.Forms.{is_constant, is_connective, is_structural, is_sorted, is_of_terms};
 ghost use Rattle.row_matching.specs.Choices.{choice_of};
+ghost use Rattle.row_matching.specs.SeenLetters.{AreFirst, ArePassed, place_below, place_bound, place_in, place_or};
 
 use crate::choosing::{formula_at, term_at};
 use crate::fitting::{fits_data, fits_term, has_sort_of_x, is_x};
 use crate::found::Found;
+use crate::seen::Seen;
 use crate::source::Source;
 use closed_formulas::is_closed;
 use dom_terms::{LogicVar, Term};
@@ -128,31 +132,63 @@ fn fits_constant<'r, 'a>(
     }
 }
 
-/// Whether the formula is the pattern's, up to the names of bound variables.
+// whether the formula is the letter's; at its first place it is what was found there
+fn fits_letter<'r, 'a>(
+    letter: FormulaLetter,
+    a: &Formula,
+    opened: Option<Opened>,
+    candidate: Candidate<'a>,
+    source: &Source<'r, 'a>,
+    seen: &mut Seen,
+) -> bool
+    requires row { IsTrue (single_row source.now.row.now) }
+    requires unseen { AreFirst seen.old source.now candidate
+        (place_in candidate opened (pa.Letter letter) a.now) }
+    ensures fits { result ≡ tests.same_formula
+        (letters.formula_at (choice_of source.now candidate.entry) (letter_in letter))
+        (formula_with (renaming opened.entry) (nameless (formula_of a.now))) }
+    ensures passed { ArePassed seen.old seen.new
+        (place_in candidate.entry opened.entry (pa.Letter letter) a.now) }
+{
+    if seen.has(letter) {
+        return same_part(formula_at(&*source, candidate, letter), a, opened);
+    }
+    seen.add(letter);
+    true
+}
+
+/// Whether the formula is the pattern's, up to the names of bound variables, at a place behind the
+/// letters that were passed.
 #[cycle(fits)]
+#[tactic(auto, using(crate::proofs::Passing::passed_rules))]
 pub fn fits_formula<'r, 'a>(
     pattern: &Pattern,
     a: &Formula,
     opened: Option<Opened>,
     candidate: Candidate<'a>,
     source: &Source<'r, 'a>,
+    seen: &mut Seen,
 ) -> bool
     requires single { IsTrue (single (unopened opened) pattern.now) }
     requires row { IsTrue (single_row source.now.row.now) }
-    ensures { result ≡ tests.same_formula
+    requires unseen { AreFirst seen.old source.now candidate
+        (place_in candidate opened pattern.now a.now) }
+    ensures fits { result ≡ tests.same_formula
         (patterns.formula_of (choice_of source.now candidate.entry) (formula_in pattern.now))
         (formula_with (renaming opened.entry) (nameless (formula_of a.now))) }
+    ensures passed { IsTrue result → ArePassed seen.old seen.new
+        (place_in candidate.entry opened.entry pattern.now a.now) }
 {
     match pattern {
-        Pattern::Letter(l) => same_part(formula_at(&*source, candidate, *l), a, opened),
+        Pattern::Letter(l) => fits_letter(*l, a, opened, candidate, &*source, &mut *seen),
         Pattern::Replaced(e, l) => fits_replaced(*e, *l, a, opened, candidate, &*source),
         Pattern::Closed(closed) => is_closed(*closed, a, opened),
         Pattern::Exists(p) => match a {
-            Formula::Exists(y, b) => fits_bound(p, y, b, opened, candidate, &*source),
+            Formula::Exists(y, b) => fits_bound(p, y, b, opened, candidate, &*source, &mut *seen),
             _ => false,
         },
         Pattern::Forall(p) => match a {
-            Formula::Forall(y, b) => fits_bound(p, y, b, opened, candidate, &*source),
+            Formula::Forall(y, b) => fits_bound(p, y, b, opened, candidate, &*source, &mut *seen),
             _ => false,
         },
         Pattern::True
@@ -161,20 +197,22 @@ pub fn fits_formula<'r, 'a>(
         | Pattern::EmptyGrove
         | Pattern::Var => fits_constant(pattern, a, opened, candidate, &*source),
         Pattern::And(_, _) | Pattern::Or(_, _) | Pattern::Imp(_, _) | Pattern::Not(_) => {
-            fits_connective(pattern, a, opened, candidate, &*source)
+            fits_connective(pattern, a, opened, candidate, &*source, &mut *seen)
         }
         Pattern::One(_)
         | Pattern::Root(_)
         | Pattern::Plus(_, _)
         | Pattern::PlusHole(_, _)
         | Pattern::HoleAdj(_, _)
-        | Pattern::Is(_) => fits_structural(pattern, a, opened, candidate, &*source),
+        | Pattern::Is(_) => fits_structural(pattern, a, opened, candidate, &*source, &mut *seen),
         Pattern::Hole(_)
         | Pattern::Join(_, _, _)
         | Pattern::App(_, _, _)
-        | Pattern::CtxAdj(_, _, _) => fits_sorted(pattern, a, opened, candidate, &*source),
+        | Pattern::CtxAdj(_, _, _) => fits_sorted(
+            pattern, a, opened, candidate, &*source, &mut *seen,
+        ),
         Pattern::Eq(_, _) | Pattern::Le(_, _) | Pattern::Len(_) | Pattern::Node(_, _, _, _) => {
-            fits_of_terms(pattern, a, opened, candidate, &*source)
+            fits_of_terms(pattern, a, opened, candidate, &*source, &mut *seen)
         }
     }
 }
@@ -210,10 +248,13 @@ fn fits_below<'r, 'a>(
     b: &Formula,
     candidate: Candidate<'a>,
     source: &Source<'r, 'a>,
+    seen: &mut Seen,
 ) -> bool
     requires single { IsTrue (single false pattern.now) }
     requires row { IsTrue (single_row source.now.row.now) }
-    ensures { result
+    requires unseen { AreFirst seen.old source.now candidate
+        (place_below candidate pattern.now y.now b.now) }
+    ensures fits { result
         ≡ ((sorts.same_sort (choice_of source.now candidate.entry).x.sort (sort_of y.now.sort)
         && (same_var (tried_var candidate.entry) (logic_var_of y.now)
         || not (is_among (tried_var candidate.entry) (occurrences (formula_of b.now)))))
@@ -222,6 +263,8 @@ fn fits_below<'r, 'a>(
         (formula_with (λ z. variable
         (cond (same_var z (logic_var_of y.now)) (tried_var candidate.entry) z))
         (nameless (formula_of b.now)))) }
+    ensures passed { IsTrue result → ArePassed seen.old seen.new
+        (place_below candidate.entry pattern.now y.now b.now) }
 {
     binds_x(y, b, candidate, &*source)
         && fits_formula(
@@ -230,6 +273,7 @@ fn fits_below<'r, 'a>(
             Some(opened_at(y, candidate)),
             candidate,
             &*source,
+            &mut *seen,
         )
 }
 
@@ -242,53 +286,64 @@ fn fits_bound<'r, 'a>(
     opened: Option<Opened>,
     candidate: Candidate<'a>,
     source: &Source<'r, 'a>,
+    seen: &mut Seen,
 ) -> bool
     requires single { IsTrue (cond (unopened opened) (single false pattern.now) false) }
     requires row { IsTrue (single_row source.now.row.now) }
-    ensures { result
+    requires unseen { AreFirst seen.old source.now candidate
+        (place_bound candidate opened pattern.now y.now b.now) }
+    ensures fits { result
         ≡ (sorts.same_sort (choice_of source.now candidate.entry).x.sort (sort_of y.now.sort)
         && tests.same_formula
         (formula_with (closing (as_logic (choice_of source.now candidate.entry).x))
         (patterns.formula_of (choice_of source.now candidate.entry) (formula_in pattern.now)))
         (formula_with (under_binder (renaming opened.entry))
         (walked (logic_var_of y.now ∷ []) (formula_of b.now)))) }
+    ensures passed { IsTrue result → ArePassed seen.old seen.new
+        (place_bound candidate.entry opened.entry pattern.now y.now b.now) }
 {
     match opened {
-        None => fits_below(pattern, y, b, candidate, &*source),
+        None => fits_below(pattern, y, b, candidate, &*source, &mut *seen),
         Some(_) => false,
     }
 }
 
 // the same of a connective
 #[cycle(fits)]
+#[tactic(auto, using(crate::proofs::Passing::passed_rules))]
 fn fits_connective<'r, 'a>(
     pattern: &Pattern,
     a: &Formula,
     opened: Option<Opened>,
     candidate: Candidate<'a>,
     source: &Source<'r, 'a>,
+    seen: &mut Seen,
 ) -> bool
     requires single { IsTrue (single (unopened opened) pattern.now) }
     requires row { IsTrue (single_row source.now.row.now) }
-    ensures { result ≡ (is_connective pattern.now && tests.same_formula
+    requires unseen { AreFirst seen.old source.now candidate
+        (place_in candidate opened pattern.now a.now) }
+    ensures fits { result ≡ (is_connective pattern.now && tests.same_formula
         (patterns.formula_of (choice_of source.now candidate.entry) (formula_in pattern.now))
         (formula_with (renaming opened.entry) (nameless (formula_of a.now)))) }
+    ensures passed { IsTrue result → ArePassed seen.old seen.new
+        (place_in candidate.entry opened.entry pattern.now a.now) }
 {
     match pattern {
         Pattern::And(p, q) => match a {
-            Formula::And(b, c) => fits_both(p, b, q, c, opened, candidate, &*source),
+            Formula::And(b, c) => fits_both(p, b, q, c, opened, candidate, &*source, &mut *seen),
             _ => false,
         },
         Pattern::Or(p, q) => match a {
-            Formula::Or(b, c) => fits_both(p, b, q, c, opened, candidate, &*source),
+            Formula::Or(b, c) => fits_both(p, b, q, c, opened, candidate, &*source, &mut *seen),
             _ => false,
         },
         Pattern::Imp(p, q) => match a {
-            Formula::Imp(b, c) => fits_both(p, b, q, c, opened, candidate, &*source),
+            Formula::Imp(b, c) => fits_both(p, b, q, c, opened, candidate, &*source, &mut *seen),
             _ => false,
         },
         Pattern::Not(p) => match a {
-            Formula::Not(b) => fits_formula(p, b, opened, candidate, &*source),
+            Formula::Not(b) => fits_formula(p, b, opened, candidate, &*source, &mut *seen),
             _ => false,
         },
         _ => false,
@@ -297,45 +352,55 @@ fn fits_connective<'r, 'a>(
 
 // the same of a formula of parts alone
 #[cycle(fits)]
+#[tactic(auto, using(crate::proofs::Passing::passed_rules))]
 fn fits_structural<'r, 'a>(
     pattern: &Pattern,
     a: &Formula,
     opened: Option<Opened>,
     candidate: Candidate<'a>,
     source: &Source<'r, 'a>,
+    seen: &mut Seen,
 ) -> bool
     requires single { IsTrue (single (unopened opened) pattern.now) }
     requires row { IsTrue (single_row source.now.row.now) }
-    ensures { result ≡ (is_structural pattern.now && tests.same_formula
+    requires unseen { AreFirst seen.old source.now candidate
+        (place_in candidate opened pattern.now a.now) }
+    ensures fits { result ≡ (is_structural pattern.now && tests.same_formula
         (patterns.formula_of (choice_of source.now candidate.entry) (formula_in pattern.now))
         (formula_with (renaming opened.entry) (nameless (formula_of a.now)))) }
+    ensures passed { IsTrue result → ArePassed seen.old seen.new
+        (place_in candidate.entry opened.entry pattern.now a.now) }
 {
     match pattern {
         Pattern::Plus(p, q) => match a {
-            Formula::Plus(b, c) => fits_both(p, b, q, c, opened, candidate, &*source),
+            Formula::Plus(b, c) => fits_both(p, b, q, c, opened, candidate, &*source, &mut *seen),
             _ => false,
         },
         Pattern::PlusHole(p, q) => match a {
-            Formula::PlusHole(b, c) => fits_both(p, b, q, c, opened, candidate, &*source),
+            Formula::PlusHole(b, c) => fits_both(
+                p, b, q, c, opened, candidate, &*source, &mut *seen,
+            ),
             _ => false,
         },
         Pattern::HoleAdj(p, q) => match a {
-            Formula::HoleAdj(b, c) => fits_both(p, b, q, c, opened, candidate, &*source),
+            Formula::HoleAdj(b, c) => fits_both(
+                p, b, q, c, opened, candidate, &*source, &mut *seen,
+            ),
             _ => false,
         },
         Pattern::One(p) => match a {
-            Formula::One(b) => fits_formula(p, b, opened, candidate, &*source),
+            Formula::One(b) => fits_formula(p, b, opened, candidate, &*source, &mut *seen),
             _ => false,
         },
         Pattern::Root(p) => match a {
-            Formula::Root(b) => fits_formula(p, b, opened, candidate, &*source),
+            Formula::Root(b) => fits_formula(p, b, opened, candidate, &*source, &mut *seen),
             _ => false,
         },
         Pattern::Is(p) => match a {
             Formula::Is(y, b) => {
                 has_sort_of_x(y, candidate, &*source)
                     && is_x(y, opened, candidate, &*source)
-                    && fits_formula(p, b, opened, candidate, &*source)
+                    && fits_formula(p, b, opened, candidate, &*source, &mut *seen)
             },
             _ => false,
         },
@@ -345,18 +410,24 @@ fn fits_structural<'r, 'a>(
 
 // the same of a formula with a sort or a side
 #[cycle(fits)]
+#[tactic(auto, using(crate::proofs::Passing::passed_rules))]
 fn fits_sorted<'r, 'a>(
     pattern: &Pattern,
     a: &Formula,
     opened: Option<Opened>,
     candidate: Candidate<'a>,
     source: &Source<'r, 'a>,
+    seen: &mut Seen,
 ) -> bool
     requires single { IsTrue (single (unopened opened) pattern.now) }
     requires row { IsTrue (single_row source.now.row.now) }
-    ensures { result ≡ (is_sorted pattern.now && tests.same_formula
+    requires unseen { AreFirst seen.old source.now candidate
+        (place_in candidate opened pattern.now a.now) }
+    ensures fits { result ≡ (is_sorted pattern.now && tests.same_formula
         (patterns.formula_of (choice_of source.now candidate.entry) (formula_in pattern.now))
         (formula_with (renaming opened.entry) (nameless (formula_of a.now)))) }
+    ensures passed { IsTrue result → ArePassed seen.old seen.new
+        (place_in candidate.entry opened.entry pattern.now a.now) }
 {
     match pattern {
         Pattern::Hole(p) => match a {
@@ -365,21 +436,22 @@ fn fits_sorted<'r, 'a>(
         },
         Pattern::Join(side, p, q) => match a {
             Formula::Join(other, b, c) => {
-                same_side(*side, *other) && fits_both(p, b, q, c, opened, candidate, &*source)
+                same_side(*side, *other)
+                    && fits_both(p, b, q, c, opened, candidate, &*source, &mut *seen)
             },
             _ => false,
         },
         Pattern::App(h, p, q) => match a {
             Formula::App(k, b, c) => {
                 fits_data(*h, *k, candidate, &*source)
-                    && fits_both(p, b, q, c, opened, candidate, &*source)
+                    && fits_both(p, b, q, c, opened, candidate, &*source, &mut *seen)
             },
             _ => false,
         },
         Pattern::CtxAdj(h, p, q) => match a {
             Formula::CtxAdj(k, b, c) => {
                 fits_data(*h, *k, candidate, &*source)
-                    && fits_both(p, b, q, c, opened, candidate, &*source)
+                    && fits_both(p, b, q, c, opened, candidate, &*source, &mut *seen)
             },
             _ => false,
         },
@@ -389,18 +461,24 @@ fn fits_sorted<'r, 'a>(
 
 // the same of a formula with terms
 #[cycle(fits)]
+#[tactic(auto, using(crate::proofs::Passing::passed_rules))]
 fn fits_of_terms<'r, 'a>(
     pattern: &Pattern,
     a: &Formula,
     opened: Option<Opened>,
     candidate: Candidate<'a>,
     source: &Source<'r, 'a>,
+    seen: &mut Seen,
 ) -> bool
     requires single { IsTrue (single (unopened opened) pattern.now) }
     requires row { IsTrue (single_row source.now.row.now) }
-    ensures { result ≡ (is_of_terms pattern.now && tests.same_formula
+    requires unseen { AreFirst seen.old source.now candidate
+        (place_in candidate opened pattern.now a.now) }
+    ensures fits { result ≡ (is_of_terms pattern.now && tests.same_formula
         (patterns.formula_of (choice_of source.now candidate.entry) (formula_in pattern.now))
         (formula_with (renaming opened.entry) (nameless (formula_of a.now)))) }
+    ensures passed { IsTrue result → ArePassed seen.old seen.new
+        (place_in candidate.entry opened.entry pattern.now a.now) }
 {
     match pattern {
         Pattern::Eq(p, q) => match a {
@@ -425,7 +503,7 @@ fn fits_of_terms<'r, 'a>(
             Formula::Node(b, c, d, e) => {
                 fits_term(p, b, opened, candidate, &*source)
                     && fits_term(q, c, opened, candidate, &*source)
-                    && fits_formula(r, d, opened, candidate, &*source)
+                    && fits_formula(r, d, opened, candidate, &*source, &mut *seen)
                     && fits_term(s, e, opened, candidate, &*source)
             },
             _ => false,
@@ -444,19 +522,26 @@ fn fits_both<'r, 'a>(
     opened: Option<Opened>,
     candidate: Candidate<'a>,
     source: &Source<'r, 'a>,
+    seen: &mut Seen,
 ) -> bool
     requires left { IsTrue (single (unopened opened) p.now) }
     requires right { IsTrue (single (unopened opened) q.now) }
     requires row { IsTrue (single_row source.now.row.now) }
-    ensures { result ≡ (tests.same_formula
+    requires unseen { AreFirst seen.old source.now candidate
+        (place_or (place_in candidate opened p.now a.now)
+        (place_in candidate opened q.now b.now)) }
+    ensures fits { result ≡ (tests.same_formula
         (patterns.formula_of (choice_of source.now candidate.entry) (formula_in p.now))
         (formula_with (renaming opened.entry) (nameless (formula_of a.now)))
         && tests.same_formula
         (patterns.formula_of (choice_of source.now candidate.entry) (formula_in q.now))
         (formula_with (renaming opened.entry) (nameless (formula_of b.now)))) }
+    ensures passed { IsTrue result → ArePassed seen.old seen.new
+        (place_or (place_in candidate.entry opened.entry p.now a.now)
+        (place_in candidate.entry opened.entry q.now b.now)) }
 {
-    fits_formula(p, a, opened, candidate, &*source)
-        && fits_formula(q, b, opened, candidate, &*source)
+    fits_formula(p, a, opened, candidate, &*source, &mut *seen)
+        && fits_formula(q, b, opened, candidate, &*source, &mut *seen)
 }
 
 // whether the hole is at the same side

@@ -1,7 +1,8 @@
 // Letters of all kinds, and what stands at their places.
-ghost use Rattle.std.specs.Prelude.{◌≡◌};
+ghost use Rattle.std.specs.Prelude.{◌≡◌, MatchBool, None, Option};
 ghost use Rattle.std.specs.Option.{option_or};
 ghost use Rattle.rule_patterns.specs.Finding as patterns;
+ghost use Rattle.rule_patterns.specs.Trees.{Tree};
 ghost use Rattle.row_patterns.specs.Views.{letter_in, term_letter_in, data_letter_in};
 ghost use Rattle.row_matching.specs.FirstPlaces.{letter_of, tree_found};
 
@@ -43,6 +44,15 @@ pub enum Found<'a> {
 }
 
 impl<'a> Found<'a> {
+    /// Whether nothing was found, so that one has to look further.
+    pub fn is_nothing(self) -> bool
+        ensures { MatchBool result (tree_found self.entry ≡ None)
+            ((other : Option Tree) → option_or (tree_found self.entry) other
+            ≡ tree_found self.entry) }
+    {
+        matches!(self, Found::Nothing)
+    }
+
     /// This, or the other where nothing was found.
     pub fn or(self, other: Found<'a>) -> Found<'a>
         ensures { tree_found result ≡ option_or (tree_found self.entry) (tree_found other.entry) }

@@ -1,15 +1,14 @@
 // A row and what is written for it, and what stands at the first place of a letter in all of it.
 ghost use Rattle.std.specs.Prelude.{◌≡◌, IsTrue, map};
-ghost use Rattle.std.specs.Option.{option_or};
 ghost use Rattle.dom_terms.specs.Terms.{term_of};
 ghost use Rattle.rule_patterns.specs.Trees.{judgement_tree, judgements_tree, terms_tree};
 ghost use Rattle.rule_patterns.specs.TreePatterns.{judgement_pat, judgements_pat, terms_pat};
-ghost use Rattle.rule_patterns.specs.Finding.{find, conclusion_pat, premises_pat, conclusion_tree, cited_tree};
-ghost use Rattle.row_patterns.specs.Views.{arguments_in, judgement_in, premises_in, line_in};
+ghost use Rattle.rule_patterns.specs.Finding.{find};
+ghost use Rattle.row_patterns.specs.Views.{arguments_in, judgement_in, premises_in};
 ghost use Rattle.row_patterns.specs.Binders.{single_judged, single_premises, single_row};
 ghost use Rattle.opened_formulas.specs.Readings.{tried_var};
-ghost use Rattle.row_matching.specs.FirstPlaces.{letter_of, tree_found};
-ghost use Rattle.row_matching.specs.Choices.{judged, all_cited, written_of};
+ghost use Rattle.row_matching.specs.FirstPlaces.{first_place, letter_of, tree_found};
+ghost use Rattle.row_matching.specs.Choices.{judged, all_cited};
 
 use crate::finding::find_sort;
 use crate::finding_formulas::find_formula;
@@ -74,9 +73,15 @@ fn find_judged<'a>(
     ensures { tree_found result ≡ find (tried_var candidate.entry) (letter_of letter)
         (judgement_pat (judgement_in pattern.now)) (judgement_tree (judged written.now)) }
 {
+    let left = find_formula(&pattern.left, &written.left, None, candidate, letter);
+    if !left.is_nothing() {
+        return left;
+    }
     let right = find_formula(&pattern.right, &written.right, None, candidate, letter);
-    let sort = find_sort(pattern.sort, written.sort, candidate, letter);
-    find_formula(&pattern.left, &written.left, None, candidate, letter).or(right.or(sort))
+    if !right.is_nothing() {
+        return right;
+    }
+    find_sort(pattern.sort, written.sort, candidate, letter)
 }
 
 fn find_premises<'a>(
@@ -95,7 +100,12 @@ fn find_premises<'a>(
         }
         (Premises::Two(p, _), Cited::One(a)) => find_judged(p, a, candidate, letter),
         (Premises::Two(p, q), Cited::Two(a, b)) => {
-            find_judged(p, a, candidate, letter).or(find_judged(q, b, candidate, letter))
+            let first = find_judged(p, a, candidate, letter);
+            if first.is_nothing() {
+                find_judged(q, b, candidate, letter)
+            } else {
+                first
+            }
         }
         _ => Found::Nothing,
     }
@@ -109,15 +119,15 @@ pub fn found_at<'r, 'a>(
     letter: Letter,
 ) -> Found<'a>
     requires { IsTrue (single_row source.row.now) }
-    ensures { tree_found result ≡ option_or
-        (find (tried_var candidate.entry) (letter_of letter)
-        (conclusion_pat (line_in source.entry.row.now)) (conclusion_tree (written_of source.entry)))
-        (find (tried_var candidate.entry) (letter_of letter)
-        (premises_pat (line_in source.entry.row.now))
-        (cited_tree (written_of source.entry).premises)) }
+    ensures { tree_found result ≡ first_place source.entry candidate.entry (letter_of letter) }
 {
     let argument = find_argument(source.row.asked, source.arguments, candidate, letter);
+    if !argument.is_nothing() {
+        return argument;
+    }
     let judged = find_judged(&source.row.conclusion, source.conclusion, candidate, letter);
-    let premises = find_premises(&source.row.premises, source.cited, candidate, letter);
-    argument.or(judged).or(premises)
+    if !judged.is_nothing() {
+        return judged;
+    }
+    find_premises(&source.row.premises, source.cited, candidate, letter)
 }

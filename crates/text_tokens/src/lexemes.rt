@@ -7,7 +7,7 @@ ghost use Rattle.text_tokens.specs.Tokens.{kind_of};
 
 use crate::literals::unescape;
 use crate::numbers::number_value;
-use crate::reserved::{is_reserved, is_same};
+use crate::reserved::{is_reserved, is_same, is_word_reserved};
 use crate::tokens::TokenKind;
 use dom_terms::{OutOfMemory, Text};
 use std::alloc::Global;
@@ -32,18 +32,20 @@ impl<'a> Lexeme<'a> {
     pub fn is_terminal(self, text: &str) -> bool
         ensures { IsTrue result ↔ (lexeme_seen self.entry ≡ terminal text.now) }
     {
-        is_same(self.text, text) && self.is_of_terminal_kind()
+        is_same(self.text, text) && self.is_of_terminal_kind(text)
     }
 
-    // Whether a token of its kind and text is the symbol or the reserved word of its text. It is
-    // asked behind the comparison of the texts, which mostly differ.
+    // Whether a token of its kind and of this text is the symbol or the reserved word of the text.
+    // It is asked behind the comparison of the texts, which mostly differ, and of the text that is
+    // wanted: that is mostly a constant, so the compiler answers whether it is a reserved word.
     #[inline(always)]
-    fn is_of_terminal_kind(self) -> bool
-        ensures { IsTrue result ↔ (lexeme_seen self.entry ≡ terminal self.entry.text.now) }
+    fn is_of_terminal_kind(self, text: &str) -> bool
+        requires { self.text.now ≡ text.now }
+        ensures { IsTrue result ↔ (lexeme_seen self.entry ≡ terminal text.now) }
     {
         match self.kind {
             TokenKind::Symbol => true,
-            TokenKind::Word => !is_same(self.text, "step") && is_reserved(self.text),
+            TokenKind::Word => !is_same(text, "step") && is_word_reserved(text),
             _ => false,
         }
     }

@@ -3,22 +3,27 @@ ghost use Rattle.std.specs.Prelude.{◌≡◌, ℕ, List, ◌∷◌, bytes_eq};
 ghost use Rattle.std.specs.List.{list_any};
 ghost use Rattle.model_text.specs.Lexemes.{is_reserved};
 
+// Whether the bytes are the same.
+fn same_bytes(own: &[u8], wanted: &[u8]) -> bool
+    ensures { result ≡ bytes_eq own.now wanted.now }
+{
+    match (own, wanted) {
+        ([], []) => true,
+        ([first, rest @ ..], [other, others @ ..]) => *first == *other && same_bytes(rest, others),
+        _ => false,
+    }
+}
+
 /// Whether the texts are the same. Most that are compared differ in length or in their first byte.
 #[inline(always)]
 pub fn is_same(own: &str, wanted: &str) -> bool
     ensures { result ≡ bytes_eq own.now wanted.now }
 {
-    if own.len() != wanted.len() {
-        return false;
-    }
-    match (own.as_bytes(), wanted.as_bytes()) {
-        ([first], [other]) => *first == *other,
-        ([first, ..], [other, ..]) if *first != *other => false,
-        _ => own == wanted,
-    }
+    own.len() == wanted.len() && same_bytes(own.as_bytes(), wanted.as_bytes())
 }
 
 /// The words that decide whether a word with this first byte is reserved.
+#[inline(always)]
 fn words_from(first: u8) -> &'static [&'static str]
     ensures { (rest : List ℕ)
         → list_any (λ w. bytes_eq (first ∷ rest) w.now) result.now ≡ is_reserved (first ∷ rest) }
@@ -45,19 +50,34 @@ fn words_from(first: u8) -> &'static [&'static str]
 }
 
 /// Whether the word is one of these.
+#[inline(always)]
 fn is_among(words: &[&str], word: &str) -> bool
     ensures { result ≡ list_any (λ w. bytes_eq word.now w.now) words.now }
 {
-    words.iter().any(|other| is_same(word, *other))
+    for other in words {
+        if is_same(word, *other) {
+            return true;
+        }
+    }
+    false
 }
 
-/// Whether the word is no name.
+/// Whether the word is no name. Where the word is a constant, the compiler answers.
+#[inline(always)]
 #[tactic(auto, unfolding(model_text::specs::Lexemes::reserved_words))]
-pub fn is_reserved(word: &str) -> bool
+pub(crate) fn is_word_reserved(word: &str) -> bool
     ensures { result ≡ is_reserved word.now }
 {
     match word.as_bytes() {
         [first, ..] => is_among(words_from(*first), word),
         [] => false,
     }
+}
+
+/// Whether the word is no name.
+#[inline(never)]
+pub fn is_reserved(word: &str) -> bool
+    ensures { result ≡ is_reserved word.now }
+{
+    is_word_reserved(word)
 }

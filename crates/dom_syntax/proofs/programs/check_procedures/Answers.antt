@@ -1,12 +1,30 @@
--- A procedure at fault, and one that is none.
+-- A procedure at fault, and one that is none; what is told of each.
 use Rattle.std.proofs.Common.{◌∙◌, sym, ap, ◌+◌, [], ◌∷◌, is_none, arith}
 use Rattle.std.proofs.lemmas.Result.{err_from_is_err_and}
 use Rattle.model_files.specs.FileFaults.{first_fault_at, procedures_from}
 use Rattle.theory_syntax.specs.Theories.{procedure_of}
+use Rattle.declared_sorts.specs.Settled.{procedure_settled}
+use Rattle.dom_syntax.specs.Judged.{steps_judged}
 use Rattle.dom_syntax.specs.Scopes.{theory_in}
 use Rattle.dom_syntax.specs.Tables.{found}
 use Rattle.dom_syntax.proofs.FaultLaws.{nothing-found, refused, new-name, one-earlier, procedure-bad, procedure-fine, small-procedures, count-procedures}
+use Rattle.dom_syntax.proofs.ToldLaws.{told-in}
 use Rattle.dom_syntax.proofs.programs.check_procedures.Goals as goal
+
+pub check_procedure-requires-clause-settled : goal.check_procedure-requires-clause-settled
+check_procedure-requires-clause-settled c =
+    told-in procedure_of (procedure_settled (theory_in c.args.names.now).logic)
+    c.args.told.are_settled
+    c.args.names.now.theory.now.procedures c.as_slice-procedure-items.result.now
+    c.as_slice-procedure-items.ensures c.requires.settled c.loop-procedure.procedure-index
+    c.procedure-item.result c.loop-procedure-test.true c.procedure-item.is
+
+pub check_procedure-requires-clause-judged : goal.check_procedure-requires-clause-judged
+check_procedure-requires-clause-judged c =
+    told-in procedure_of steps_judged c.args.told.are_judged
+    c.args.names.now.theory.now.procedures c.as_slice-procedure-items.result.now
+    c.as_slice-procedure-items.ensures c.requires.judged c.loop-procedure.procedure-index
+    c.procedure-item.result c.loop-procedure-test.true c.procedure-item.is
 
 pub returns-in_err-check_procedure : goal.returns-in_err-check_procedure
 returns-in_err-check_procedure c =

@@ -22,7 +22,7 @@ returns-in_err-source-clause-told c =
 
 pub returns-in-Ok-clause-small : goal.returns-in-Ok-clause-small
 returns-in-Ok-clause-small c =
-    theory_small (subst (λ (z : List Lexeme). SpellsTheory (theory_of c.in-Ok.theory) z)
+    theory_small (subst (λ (z : List Lexeme). SpellsTheory (theory_of c.in-Ok.read.theory) z)
     (c.front.ensures ∙ c.in_ok-source.ensures.same) c.in-Ok.ensures.found)
     (few_lexemes c.args.bytes.now c.in_ok-source.ensures.small)
 

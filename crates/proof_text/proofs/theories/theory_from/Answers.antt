@@ -1,23 +1,39 @@
-use Rattle.std.proofs.Common.{sym}
+-- What is read with sorts is what is read without, with its sorts, and it is refused where that is.
+use Rattle.std.proofs.Common.{sym, List}
+use Rattle.model_text.specs.Lexemes.{Lexeme}
+use Rattle.token_readers.specs.Giving.{Fails}
+use Rattle.token_readers.specs.Spelling.{whole}
+use Rattle.token_readers.specs.declared.fault.ReadFault.{ReadFault}
+use Rattle.token_readers.specs.declared.fault.ReadFault.TheVariants as faults
+use Rattle.proof_text.specs.SortedTheories.{sorted_theory_at}
+use Rattle.proof_text.specs.Theories.{theory_at}
 use Rattle.proof_text.proofs.Exact.{found, within, none, fault_token}
+use Rattle.proof_text.proofs.SortedReader.{read-raw, not-read-raw}
 use Rattle.proof_text.proofs.theories.theory_from.Goals as goal
+
+fails-raw : (fault : ReadFault) (ts : List Lexeme)
+    → Fails fault (whole (sorted_theory_at 128 4294967295) ts)
+    → Fails fault (whole (theory_at 128 4294967295) ts)
+fails-raw faults.Memory ts e = tt
+fails-raw (faults.Text k) ts e = not-read-raw 128 4294967295 ts _ e
 
 pub of_whole-requires : goal.of_whole-requires
 of_whole-requires c =
-    within 128 _ _ c.in-Err.ensures _ (sym c.count.ensures)
+    within 128 _ _ (fails-raw _ _ c.in-Err.ensures.read) _ (sym c.count.ensures)
 
-pub returns-in_ok-set_theory-in-Ok-clause-found : goal.returns-in_ok-set_theory-in-Ok-clause-found
-returns-in_ok-set_theory-in-Ok-clause-found c = record {
-  raw = _;
-  spelled = found 128 _ _ c.in-Ok.ensures;
-  sorted = c.in_ok-set_theory-in-Ok.ensures;
-}
+pub returns-in-Ok-clause-found : goal.returns-in-Ok-clause-found
+returns-in-Ok-clause-found c =
+    let read = read-raw 128 4294967295 _ _ c.in-Ok.ensures.read in record {
+      raw = read.0;
+      spelled = found 128 _ _ read.1;
+      sorted = read.2;
+    }
 
 pub returns-in-Err-clause-bad_text : goal.returns-in-Err-clause-bad_text
 returns-in-Err-clause-bad_text c =
-    none 128 _ _ c.in-Err.ensures _ _ c.of_whole.ensures
+    none 128 _ _ (fails-raw _ _ c.in-Err.ensures.read) _ _ c.of_whole.ensures
 
 pub returns-in-Err-clause-fault_token : goal.returns-in-Err-clause-fault_token
 returns-in-Err-clause-fault_token c each =
-    fault_token 128 _ _ c.in-Err.ensures _
+    fault_token 128 _ _ (fails-raw _ _ c.in-Err.ensures.read) _
     (sym c.count.ensures) _ c.of_whole.ensures each

@@ -7,11 +7,10 @@ use Rattle.row_matching.proofs.ReadOff.{the-variable}
 use Rattle.row_judging.proofs.Reaching.{concludes-met, judged-refl}
 use Rattle.row_judging.proofs.stages.concludes.Goals as goal
 
-pub returns : goal.returns
-returns c =
+pub returns-clause-reaches : goal.returns-clause-reaches
+returns-clause-reaches c =
     concludes-met (choice_of c.args.source.now c.args.candidate) c.args.source.now.row.now
-    (written_of c.args.source.now) (sort_of c.sort_tried-sort.result) _ _ _ _ _
-    (c.sort_tried-sort.ensures
+    (written_of c.args.source.now) (sort_of c.sort_tried.result) _
+    (c.sort_tried.ensures
     ∙ sym (ap (λ (x : LogicVar). x.sort) (the-variable c.args.source.now c.args.candidate)))
-    (judged-refl c.args.source.now.conclusion.now) c.fits_arguments-arguments.ensures
-    c.meets_asked-asked.ensures c.fits_judged-judged.ensures c.both-met.ensures c.both.ensures
+    (judged-refl c.args.source.now.conclusion.now) c.fits_conclusion.ensures.fits

@@ -1,6 +1,9 @@
 -- The premises and the condition.
-use Rattle.row_judging.proofs.Reaching.{both-met}
+use Rattle.std.proofs.Common.{◌≡◌, true}
+use Rattle.row_judging.proofs.Reaching.{both-where}
 use Rattle.row_judging.proofs.stages.meets.Goals as goal
 
 pub returns : goal.returns
-returns c = both-met _ _ _ c.follows.ensures c.is_met-met.ensures c.both.ensures
+returns c =
+    let yes : c.follows.result ≡ true = cc in
+    both-where _ _ c.follows.ensures yes c.is_met.ensures

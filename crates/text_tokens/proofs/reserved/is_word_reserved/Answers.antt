@@ -2,7 +2,7 @@ use Rattle.std.proofs.Common.{◌≡◌, ◌∙◌, ℕ, List, bytes_eq, drop, s
 use Rattle.std.specs.List.{list_any}
 use Rattle.model_text.specs.Lexemes.{is_reserved}
 use Rattle.text_tokens.proofs.ReservedLemmas.{first_and_rest}
-use Rattle.text_tokens.proofs.reserved.is_reserved.Goals as goal
+use Rattle.text_tokens.proofs.reserved.is_word_reserved.Goals as goal
 
 pub returns-in-len1-up : goal.returns-in-len1-up
 returns-in-len1-up c =

@@ -7,7 +7,7 @@ use Rattle.theory_syntax.specs.declared.theories.Theory.{Theory}
 use Rattle.dom_syntax.specs.Faults.{Reports, FaultReports}
 use Rattle.dom_syntax.specs.Scopes.{theory_in}
 use Rattle.dom_syntax.proofs.FaultLaws.{refused, theory-bad, theory-fine}
-use Rattle.dom_syntax.proofs.programs.check_program.Goals as goal
+use Rattle.dom_syntax.proofs.programs.check_told_program.Goals as goal
 
 pub returns-in_err-check_declarations : goal.returns-in_err-check_declarations
 returns-in_err-check_declarations c =
