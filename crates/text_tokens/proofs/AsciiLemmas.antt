@@ -1,7 +1,9 @@
 -- The tokens of ASCII bytes from a place on, piece by piece.
-use Rattle.std.proofs.Common.{◌≡◌, ◌≢◌, ℕ, zero, suc, ◌+◌, ◌-◌, ◌<◌, ◌≤◌, ◌==◌, Bool, true, false, List, [], ◌∷◌, length, take, drop, count_by, map, refl, sym, ap, ◌∙◌, subst, arith, length-drop, eq-eqb}
-use Rattle.std.specs.Prelude.{Option, Some, None, if◌then◌else◌}
+use Rattle.std.proofs.Common.{◌≡◌, ◌≢◌, ℕ, zero, suc, ◌+◌, ◌-◌, ◌<◌, ◌≤◌, ◌==◌, Bool, true, false, List, [], ◌∷◌, length, take, drop, count_by, map, slice_index, refl, sym, ap, ◌∙◌, subst, arith, length-drop, eq-eqb}
+use Rattle.std.specs.Prelude.{Option, Some, None, is_some, if◌then◌else◌}
+use Rattle.std.specs.List.{prefix_len}
 use Rattle.std.specs.Str.{IsAscii, chars}
+use Rattle.unicode_ident.specs.Ident.{is_xid_continue}
 use Rattle.std.proofs.lemmas.Bool.{eqb-true}
 use Rattle.std.proofs.lemmas.List.{length-take-le, length-map}
 use Rattle.std.proofs.lemmas.Str.{IsAscii-take, IsAscii-drop, IsUtf8-from_ascii, chars-IsAscii, encodes-IsAscii, utf8_valid_len-IsUtf8}
@@ -9,17 +11,21 @@ use Rattle.std.proofs.Math.Seq.{take-length, drop-cons}
 use Rattle.model_text.specs.Lexemes.{Lexeme, lexeme_at, lexeme_of, bad_lexeme}
 use Rattle.model_text.specs.Nesting.{lexemes_of}
 use Rattle.model_text.specs.Tokens as model
-use Rattle.model_text.specs.Tokens.{literal_token, gap_piece, token_piece, no_piece, bad_token_at, tokens_with, piece_at, characters, place_of, line_of, token_text, token_from, tokens_from, newline, tokens_of}
+use Rattle.model_text.specs.Tokens.{word_token, logic_token, literal_token, symbol_token, gap_piece, token_piece, no_piece, bad_token_at, tokens_with, piece_at, characters, place_of, line_of, token_text, token_from, tokens_from, newline, tokens_of, digit_run, digits_piece, logic_length, longer_token, longest_at_front, symbols}
+use Rattle.text_tokens.specs.declared.pieces.Start.{Start}
+use Rattle.text_tokens.specs.declared.pieces.Start.TheVariants as start
 use Rattle.text_tokens.specs.declared.tokens.TokenKind.{TokenKind}
 use Rattle.text_tokens.specs.declared.tokens.TokenKind.TheVariants.{Word, LogicName, Number, Literal, Symbol, Bad}
 use Rattle.text_tokens.specs.Ascii.{SpaceStands, left_behind}
 use Rattle.text_tokens.specs.Lexemes.{meant}
+use Rattle.text_tokens.specs.Pieces.{start_of}
 use Rattle.text_tokens.specs.Reading.{tokens_left}
 use Rattle.text_tokens.specs.Standing.{IsSettled}
 use Rattle.text_tokens.specs.Tokens.{kind_of}
 use Rattle.text_tokens.proofs.NewlineLemmas.{token_none}
 use Rattle.text_tokens.proofs.PositionLemmas.{line_step}
 use Rattle.text_tokens.proofs.ReadingLemmas.{left_gap, left_token, left_none, gap_fits, token_fits}
+use Rattle.text_tokens.proofs.StartLemmas.{Begins, IsLone, by_start, one_character, nothing_in}
 
 -- a piece at a place ends in the bytes
 pub gap_in : (bytes : List ℕ) (from n : ℕ) → from ≤ length bytes
@@ -63,11 +69,64 @@ behind_gap bytes from n within e =
     let p = gap_in bytes from n within e in
     ap (map lexeme_of) (sym (left_gap bytes bytes from n e p.0 p.1))
 
+-- what begins with the byte at the place
+pub byte_drop : (bytes : List ℕ) (place c : ℕ) → place < length bytes → slice_index bytes place ≡ c
+    → drop place bytes ≡ c ∷ drop (suc place) bytes
+byte_drop bytes place c within is =
+    drop-cons bytes place 0 within ∙ ap (λ c. c ∷ drop (suc place) bytes) is
+
+-- which says what stands there
+pub byte_starts : (bytes : List ℕ) (place : ℕ) (start : Start) → place < length bytes
+    → start ≡ start_of (slice_index bytes place) → Begins (drop place bytes) start
+byte_starts bytes place start within e =
+    let c = slice_index bytes place in
+    subst (Begins (drop place bytes)) (sym e)
+    (subst (λ text. Begins text (start_of c)) (sym (byte_drop bytes place c within refl))
+    (by_start c (drop (suc place) bytes)))
+
+pub lone_stands : (bytes : List ℕ) (place : ℕ) (start : Start) → place < length bytes
+    → start ≡ start_of (slice_index bytes place) → IsLone start
+    → token_piece symbol_token 1 ≡ piece_at (drop place bytes)
+lone_stands bytes place start within e lone =
+    one_character start (drop place bytes) lone ∙ byte_starts bytes place start within e
+
+pub word_stands : (bytes : List ℕ) (place n : ℕ) → place < length bytes
+    → start.Word ≡ start_of (slice_index bytes place)
+    → n ≡ 1 + prefix_len is_xid_continue (drop 1 (drop place bytes))
+    → token_piece word_token n ≡ piece_at (drop place bytes)
+word_stands bytes place n within e n_is =
+    ap (token_piece word_token) n_is ∙ byte_starts bytes place start.Word within e
+
+pub logic_stands : (bytes : List ℕ) (place n : ℕ) → place < length bytes
+    → start.LogicName ≡ start_of (slice_index bytes place) → n ≡ logic_length (drop place bytes)
+    → longer_token logic_token n no_piece ≡ piece_at (drop place bytes)
+logic_stands bytes place n within e n_is =
+    ap (λ n. longer_token logic_token n no_piece) n_is
+    ∙ byte_starts bytes place start.LogicName within e
+
+pub symbol_stands : (bytes : List ℕ) (place n : ℕ) → place < length bytes
+    → start.Symbol ≡ start_of (slice_index bytes place)
+    → n ≡ longest_at_front symbols (drop place bytes)
+    → longer_token symbol_token n no_piece ≡ piece_at (drop place bytes)
+symbol_stands bytes place n within e n_is =
+    ap (λ n. longer_token symbol_token n no_piece) n_is
+    ∙ byte_starts bytes place start.Symbol within e
+
+pub digits_stand : (bytes : List ℕ) (place : ℕ) → place < length bytes
+    → start.Digit ≡ start_of (slice_index bytes place)
+    → digits_piece (digit_run (drop place bytes)) ≡ piece_at (drop place bytes)
+digits_stand bytes place within e = byte_starts bytes place start.Digit within e
+
+-- where the bytes end, nothing does
+pub end_stands : (bytes : List ℕ) (place : ℕ) → length bytes ≤ place
+    → no_piece ≡ piece_at (drop place bytes)
+end_stands bytes place end =
+    nothing_in (drop place bytes) (omega (arith, length-drop place bytes, end))
+
 -- a space is a gap, and no newline
 space_drop : (bytes : List ℕ) (place : ℕ) → SpaceStands bytes place
     → drop place bytes ≡ 32 ∷ drop (suc place) bytes
-space_drop bytes place is =
-    drop-cons bytes place 0 is.0 ∙ ap (λ c. c ∷ drop (suc place) bytes) is.1
+space_drop bytes place is = byte_drop bytes place 32 is.0 is.1
 
 pub space_gap : (bytes : List ℕ) (place : ℕ) → SpaceStands bytes place
     → gap_piece 1 ≡ piece_at (drop place bytes)
@@ -230,6 +289,10 @@ token_line bytes from n line None is some = absurd (some refl)
 token_line bytes from n line (Some kind) is some =
     same_line bytes line from n is.line_is
     (token_none (drop from bytes) (kind_of kind) n is.stands)
+
+-- a kind that is there isn't absent
+pub has_kind : (k : Option TokenKind) → is_some k ≡ true → k ≢ None
+has_kind k e none = let no : is_some k ≡ false = ap is_some none in cc
 
 -- there are no more than there are steps
 pub few_from : (bytes text : List ℕ) (steps number : ℕ)

@@ -1,11 +1,18 @@
 -- Only symbols are brackets.
-use Rattle.std.proofs.Common.{◌≡◌, ◌≢◌, ℕ, Bool, true, false, List, bytes_eq, codes, refl, sym, ap, ◌∙◌}
+use Rattle.std.proofs.Common.{◌≡◌, ◌≢◌, ℕ, ◌+◌, ◌-◌, ◌==◌, ◌&&◌, Bool, true, false, not, List, [], ◌∷◌, bytes_eq, codes, refl, sym, ap, ◌∙◌, arith}
 use Rattle.std.specs.Prelude.{if◌then◌else◌}
+use Rattle.std.specs.Char.{is_ascii_alphabetic, is_ascii_digit}
 use Rattle.std.specs.Str.Parse.{digits_value}
+use Rattle.std.proofs.lemmas.Bool.Decides.{nat_tests}
 use Rattle.std.proofs.lemmas.Slice.Eq.{bytes_eq-Decides}
 use Rattle.model_text.specs.Lexemes.{terminal, step_word, name_lexeme, number_lexeme, bad_lexeme, reserved_words, is_reserved, lexeme_at}
-use Rattle.model_text.specs.Tokens.{TokenKind, word_token, logic_token, number_token, literal_token, symbol_token, bad_token, digits_fit}
+use Rattle.model_text.specs.Tokens.{TokenKind, word_token, logic_token, number_token, literal_token, symbol_token, bad_token, digits_fit, is_blank}
 use Rattle.model_text.specs.Nesting.{open_behind}
+use Rattle.text_tokens.specs.declared.pieces.Start.{Start}
+use Rattle.text_tokens.specs.declared.pieces.Start.TheVariants.{Blank, Opening, Closing, LoneSymbol, Symbol, Word, LogicName, Literal, Digit, Other}
+use Rattle.text_tokens.specs.Pieces.{start_of}
+use Rattle.text_tokens.specs.Symbols.{is_among}
+use Rattle.text_tokens.proofs.StartLemmas.{by_test}
 
 -- no reserved word is this text, which isn't reserved
 other_text : (text bracket : List ℕ) → is_reserved text ≡ true → is_reserved bracket ≡ false
@@ -58,3 +65,27 @@ brackets before number_token text line n = by_digits (digits_fit text)
 brackets before literal_token text line n = refl
 brackets before symbol_token text line n = absurd (n refl)
 brackets before bad_token text line n = refl
+
+-- how many brackets are open behind a character, as far as it says it
+abbrev pub open_by : Start → ℕ → ℕ → ℕ
+open_by Opening c before = before + 1
+open_by Closing c before = before - 1
+open_by LoneSymbol c before = before
+open_by start c before = open_behind before (terminal (c ∷ []))
+
+abbrev Says : ℕ → ℕ → Start → Type 0
+Says c before start = open_by start c before ≡ open_behind before (terminal (c ∷ []))
+
+-- it says it right
+pub brackets_by : (c before : ℕ)
+    → Says c before (start_of c)
+brackets_by c before = by_test (Says c before) (is_blank c) Blank _ (λ e. refl)
+    (by_test (Says c before) (is_among (codes "([{") c) Opening _ (λ e. grind (arith, nat_tests))
+    (by_test (Says c before) (is_among (codes ")]}>") c) Closing _ (λ e. grind (arith, nat_tests))
+    (by_test (Says c before) (is_among (codes ",;=#%") c) LoneSymbol _
+    (λ e. grind (arith, nat_tests))
+    (by_test (Says c before) (is_ascii_alphabetic c && not (c == 111)) Word _ (λ e. refl)
+    (by_test (Says c before) (c == 36) LogicName _ (λ e. refl)
+    (by_test (Says c before) (is_ascii_digit c) Digit _ (λ e. refl)
+    (by_test (Says c before) (c == 34) Literal _ (λ e. refl)
+    (by_test (Says c before) (is_among (codes "<:.+-*@?") c) Symbol Other (λ e. refl) refl))))))))

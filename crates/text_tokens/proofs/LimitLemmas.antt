@@ -1,24 +1,28 @@
 -- The limits that a token passes, by its kind and its bytes.
-use Rattle.std.proofs.Common.{◌≡◌, ◌≢◌, ℕ, ◌+◌, ◌-◌, ◌<◌, ◌≤◌, ◌==◌, Bool, true, false, List, [], ◌∷◌, length, take, drop, map, nat_le, refl, sym, ap, ◌∙◌, subst}
-use Rattle.std.specs.Prelude.{Option, Some, None, if◌then◌else◌, encode_utf8_all}
+use Rattle.std.proofs.Common.{◌≡◌, ◌≢◌, ℕ, suc, ◌+◌, ◌-◌, ◌<◌, ◌≤◌, ◌==◌, Bool, true, false, List, [], ◌∷◌, length, take, drop, map, slice_index, nat_le, refl, sym, ap, ◌∙◌, subst, arith, length-drop, length-take}
+use Rattle.std.specs.Prelude.{Some, None, if◌then◌else◌, encode_utf8_all}
 use Rattle.std.specs.Str.{IsAscii}
 use Rattle.std.specs.Str.Parse.{digits_value}
 use Rattle.std.proofs.lemmas.Bool.{le-leb, lt-leb}
-use Rattle.std.proofs.lemmas.Str.{encodes-IsAscii}
+use Rattle.std.proofs.lemmas.Str.{IsAscii-take, IsAscii-drop, encodes-IsAscii}
+use Rattle.std.proofs.lemmas.Str.Ascii.{IsAscii-cons}
 use Rattle.model_limits.specs.Limits.{LimitKind, nesting_limit, text_limit, standard_limits}
 use Rattle.model_limits.specs.FirstOf.{or_else, unless}
-use Rattle.model_text.specs.Lexemes.{Lexeme, terminal, step_word, name_lexeme, number_lexeme, bad_lexeme, is_reserved, lexeme_at, lexeme_of}
+use Rattle.model_text.specs.Lexemes.{Lexeme, terminal, step_word, name_lexeme, number_lexeme, bad_lexeme, is_reserved, lexeme_of}
 use Rattle.model_text.specs.Nesting.{lexeme_limit, open_behind, text_within, token_limit}
-use Rattle.model_text.specs.Tokens.{unescaped, digits_fit, token_piece, no_piece, piece_at, place_of, line_of}
+use Rattle.model_text.specs.Tokens.{backslash, letter_n, newline, unescaped, digits_fit, gap_piece, token_piece, no_piece, piece_at, place_of, line_of}
 use Rattle.model_text.specs.Tokens as model
 use Rattle.std.specs.Prelude.{bytes_eq, codes}
+use Rattle.text_tokens.specs.declared.pieces.Start.{Start}
 use Rattle.text_tokens.specs.declared.tokens.TokenKind.{TokenKind}
 use Rattle.text_tokens.specs.declared.tokens.TokenKind.TheVariants.{Word, LogicName, Number, Literal, Symbol, Bad}
-use Rattle.text_tokens.specs.Ascii.{Stays, left_behind, own_lexeme}
+use Rattle.text_tokens.specs.Ascii.{Leads, Stays, left_behind, own_lexeme}
+use Rattle.text_tokens.specs.Pieces.{start_of}
 use Rattle.text_tokens.specs.Tokens.{kind_of}
-use Rattle.text_tokens.proofs.AsciiLemmas.{token_first}
-use Rattle.text_tokens.proofs.BracketLemmas.{brackets}
+use Rattle.text_tokens.proofs.AsciiLemmas.{gap_in, token_in, behind_gap, byte_drop, lone_stands, token_first, own_ascii}
+use Rattle.text_tokens.proofs.BracketLemmas.{brackets, open_by, brackets_by}
 use Rattle.text_tokens.proofs.ReadingLemmas.{left_none}
+use Rattle.text_tokens.proofs.StartLemmas.{IsLone}
 
 -- a token that passes none, or the limit of brackets, or that of its text
 stays : (most before behind : ℕ) (x : Lexeme) → behind ≡ open_behind before x → behind ≤ most
@@ -58,6 +62,41 @@ symbol_nests most before behind line own ascii e many =
 abbrev short : List ℕ → Bool
 short own = nat_le (length (encode_utf8_all
     (unescaped false (take (length own - 2) (drop 1 own))))) standard_limits.text_bytes
+
+-- the text that ASCII bytes stand for is ASCII, and no longer
+abbrev NoLonger : List ℕ → List ℕ → Type 0
+NoLonger text meant = IsAscii meant × (length meant ≤ length text)
+
+no_longer : (escaped : Bool) (text : List ℕ) → IsAscii text
+    → NoLonger text (unescaped escaped text)
+no_longer escaped [] ascii = (ascii, omega arith)
+no_longer true (c ∷ text) ascii =
+    let more = no_longer false text (λ i. ascii (suc i)) in
+    (IsAscii-cons _ _ (by_letter (c == letter_n)) more.0, omega (arith, more.1))
+  where
+    by_letter : (b : Bool) → (if b then newline else c) < 128
+    by_letter true = omega arith
+    by_letter false = ascii 0
+no_longer false (c ∷ text) ascii =
+    by_test (c == backslash) (no_longer true text (λ i. ascii (suc i)))
+    (no_longer false text (λ i. ascii (suc i)))
+  where
+    by_test : (b : Bool) → NoLonger text (unescaped true text)
+        → NoLonger text (unescaped false text)
+        → NoLonger (c ∷ text) (if b then unescaped true text else c ∷ unescaped false text)
+    by_test true here others = (here.0, omega (arith, here.1))
+    by_test false here others = (IsAscii-cons _ _ (ascii 0) others.0, omega (arith, others.1))
+
+-- so few bytes pass no limit
+pub few_short : (own : List ℕ) → IsAscii own → length own ≤ standard_limits.text_bytes
+    → short own ≡ true
+few_short own ascii few =
+    let count = length own - 2 in
+    let is = no_longer false (take count (drop 1 own))
+    (IsAscii-take (drop 1 own) count (IsAscii-drop own 1 ascii)) in
+    ap (λ l. nat_le (length l) standard_limits.text_bytes) (encodes-IsAscii _ is.0)
+    ∙ le-leb _ standard_limits.text_bytes
+    (omega (arith, is.1, few, length-take count (drop 1 own), length-drop 1 own))
 
 pub literal_passes : (most before line : ℕ) (own : List ℕ) → before ≤ most → short own ≡ false
     → lexeme_limit most before (own_lexeme Literal own line) ≡ Some text_limit
@@ -128,19 +167,46 @@ bad_limit most before few =
     rest_limit most before before bad_lexeme [] (stays most before before bad_lexeme refl few refl)
 
 -- AT A PLACE
+-- behind a gap
+pub gap_leads : (bytes : List ℕ) (place n most before : ℕ) → place ≤ length bytes → before ≤ most
+    → gap_piece n ≡ piece_at (drop place bytes) → Leads most before bytes place n before
+gap_leads bytes place n most before within few e =
+    let p = gap_in bytes place n within e in
+    record {
+      some = p.0;
+      within = p.1;
+      few = few;
+      same = ap (token_limit most before) (sym (behind_gap bytes place n within e));
+    }
+
 -- behind a token that passes none
-pub token_stays : (bytes own : List ℕ) (place n most before behind : ℕ) (kind : TokenKind)
+pub token_leads : (bytes own : List ℕ) (place n most before behind : ℕ) (kind : TokenKind)
     → place ≤ length bytes → token_piece (kind_of kind) n ≡ piece_at (drop place bytes)
-    → own ≡ take n (drop place bytes)
+    → own ≡ take n (drop place bytes) → behind ≤ most
     → ((line : ℕ) → Stays most before behind (own_lexeme kind own line))
-    → token_limit most before (left_behind bytes place)
-    ≡ token_limit most behind (left_behind bytes (place + n))
-token_stays bytes own place n most before behind kind within e own_is each =
+    → Leads most before bytes place n behind
+token_leads bytes own place n most before behind kind within e own_is few each =
+    let p = token_in bytes place n (kind_of kind) within e in
     let line = line_of bytes (place_of bytes place) in
-    ap (token_limit most before) (token_first bytes place n (kind_of kind) within e)
-    ∙ rest_limit most before behind (own_lexeme kind (take n (drop place bytes)) line)
-    (left_behind bytes (place + n))
-    (subst (λ o. Stays most before behind (own_lexeme kind o line)) own_is (each line))
+    record {
+      some = p.0;
+      within = p.1;
+      few = few;
+      same = ap (token_limit most before) (token_first bytes place n (kind_of kind) within e)
+          ∙ rest_limit most before behind (own_lexeme kind (take n (drop place bytes)) line)
+          (left_behind bytes (place + n))
+          (subst (λ o. Stays most before behind (own_lexeme kind o line)) own_is (each line));
+    }
+
+-- such as a word or a logic name
+pub plain_leads : (bytes : List ℕ) (place n most before : ℕ) (kind : TokenKind)
+    → place ≤ length bytes → before ≤ most → kind ≢ Symbol → kind ≢ Literal
+    → token_piece (kind_of kind) n ≡ piece_at (drop place bytes)
+    → Leads most before bytes place n before
+plain_leads bytes place n most before kind within few symbol literal e =
+    let own = take n (drop place bytes) in
+    token_leads bytes own place n most before before kind within e refl few
+    (λ line. other_stays most before line kind own symbol (λ e. absurd (literal e)) few)
 
 -- at one that passes one
 pub token_passes : (bytes own : List ℕ) (place n most before : ℕ) (kind : TokenKind)
@@ -171,3 +237,35 @@ end_limit bytes place most before few e = by_end (place_of bytes place == length
         ap (λ l. token_limit most before (map lexeme_of l))
         (left_none bytes bytes place false e test)
         ∙ bad_limit most before few
+
+-- AT A SYMBOL OF ONE CHARACTER
+lone_own : (bytes : List ℕ) (place before : ℕ) (start : Start) → place < length bytes
+    → start ≡ start_of (slice_index bytes place)
+    → open_by start (slice_index bytes place) before
+    ≡ open_behind before (terminal (take 1 (drop place bytes)))
+lone_own bytes place before start within e =
+    let c = slice_index bytes place in
+    ap (λ s. open_by s c before) e ∙ brackets_by c before
+    ∙ sym (ap (λ l. open_behind before (terminal (take 1 l))) (byte_drop bytes place c within refl))
+
+pub lone_leads : (bytes : List ℕ) (place most before : ℕ) (start : Start) → IsAscii bytes
+    → place < length bytes → start ≡ start_of (slice_index bytes place) → IsLone start
+    → open_by start (slice_index bytes place) before ≤ most
+    → Leads most before bytes place 1 (open_by start (slice_index bytes place) before)
+lone_leads bytes place most before start ascii within e lone few =
+    let own = take 1 (drop place bytes) in
+    token_leads bytes own place 1 most before _ Symbol (omega (arith, within))
+    (lone_stands bytes place start within e lone) refl few
+    (λ line. symbol_stays most before _ line own (own_ascii bytes place 1 ascii)
+    (lone_own bytes place before start within e) few)
+
+pub lone_passes : (bytes : List ℕ) (place most before : ℕ) (start : Start) → IsAscii bytes
+    → place < length bytes → start ≡ start_of (slice_index bytes place) → IsLone start
+    → most < open_by start (slice_index bytes place) before
+    → token_limit most before (left_behind bytes place) ≡ Some nesting_limit
+lone_passes bytes place most before start ascii within e lone many =
+    let own = take 1 (drop place bytes) in
+    token_passes bytes own place 1 most before Symbol nesting_limit (omega (arith, within))
+    (lone_stands bytes place start within e lone) refl
+    (λ line. symbol_nests most before _ line own (own_ascii bytes place 1 ascii)
+    (lone_own bytes place before start within e) many)

@@ -1,16 +1,17 @@
 -- What the first character of a text says of the piece at its front.
-use Rattle.std.proofs.Common.{◌≡◌, ℕ, ◌+◌, ◌<◌, ◌==◌, ◌&&◌, Bool, true, false, not, nat_eq, nat_lt, List, [], ◌∷◌, map, length, take, get_or, codes, refl, sym, ap, ◌∙◌, arith}
+use Rattle.std.proofs.Common.{◌≡◌, ◌⊎◌, ⊎_elim, ℕ, ◌+◌, ◌<◌, ◌≤◌, ◌==◌, ◌&&◌, Bool, true, false, not, nat_eq, nat_lt, List, [], ◌∷◌, map, length, take, drop, get_or, codes, refl, sym, ap, ◌∙◌, subst, arith}
 use Rattle.std.specs.Prelude.{if◌then◌else◌}
 use Rattle.std.specs.Cmp.Lexicographic.{pointwise}
 use Rattle.std.specs.Char.{is_ascii_alphabetic, is_ascii_digit}
 use Rattle.std.specs.List.{prefix_len, range_with_len, starts_with}
-use Rattle.std.proofs.lemmas.Bool.{and_parts, eq-eqb, ltb-true}
+use Rattle.std.proofs.lemmas.Bool.{and_parts, eq-eqb, lt-ltb, le-ltb, ltb-true}
 use Rattle.std.proofs.lemmas.Bool.Decides.{nat_tests}
+use Rattle.std.proofs.lemmas.List.{length-map}
 use Rattle.std.proofs.lemmas.List.FromFn.{get_or-map-range_with_len}
 use Rattle.model_text.specs.Tokens.{TokenKind, Piece, gap_piece, token_piece, no_piece, piece_length, word_token, logic_token, literal_token, symbol_token, symbols, longest_at_front, is_blank, comment_length, digit_run, digits_piece, word_length, logic_length, literal_end, literal_length, longer_token, longest_token, piece_at}
 use Rattle.text_tokens.specs.declared.pieces.TheConstants.{STARTS}
 use Rattle.text_tokens.specs.declared.pieces.Start.{Start}
-use Rattle.text_tokens.specs.declared.pieces.Start.TheVariants.{Blank, LoneSymbol, Symbol, Word, LogicName, Literal, Digit, Other}
+use Rattle.text_tokens.specs.declared.pieces.Start.TheVariants.{Blank, Opening, Closing, LoneSymbol, Symbol, Word, LogicName, Literal, Digit, Other}
 use Rattle.text_tokens.specs.Pieces.{start_of}
 use Rattle.text_tokens.specs.Symbols.{is_among, is_lone}
 use Rattle.text_tokens.specs.Words.{begins_ascii_word}
@@ -59,6 +60,16 @@ no_longer kind other = by_test (nat_lt (piece_length other) 0) refl
         → (if b then token_piece kind 0 else other) ≡ other
     by_test true e = absurd (omega (arith, ltb-true (piece_length other) 0 e))
     by_test false e = refl
+
+-- and one that has a length is longer than none
+pub some_longer : (kind : TokenKind) (n : ℕ) → 0 < n
+    → token_piece kind n ≡ longer_token kind n no_piece
+some_longer kind n some = sym (ap (λ b. if b then token_piece kind n else no_piece)
+    (lt-ltb 0 n some))
+
+pub none_longer : (kind : TokenKind) (n : ℕ) → n ≤ 0 → no_piece ≡ longer_token kind n no_piece
+none_longer kind n none = sym (ap (λ b. if b then token_piece kind n else no_piece)
+    (le-ltb 0 n none))
 
 not_same : (c k : ℕ) → not (c == k) ≡ true → c ≡ k → ⊥
 not_same c k other same =
@@ -109,13 +120,28 @@ symbol_only c rest low word quote dollar =
 -- the piece at the front of the text, by what begins it
 abbrev pub started : Start → List ℕ → Piece
 started Blank text = gap_piece 1
+started Opening text = token_piece symbol_token 1
+started Closing text = token_piece symbol_token 1
 started LoneSymbol text = token_piece symbol_token 1
 started Symbol text = longer_token symbol_token (longest_at_front symbols text) no_piece
-started Word text = longer_token word_token (word_length text) no_piece
+started Word text = token_piece word_token (1 + prefix_len is_xid_continue (drop 1 text))
 started LogicName text = longer_token logic_token (logic_length text) no_piece
 started Literal text = longer_token literal_token (literal_length text) no_piece
 started Digit text = digits_piece (digit_run text)
 started Other text = piece_at text
+
+-- each of these says that a symbol of one character stands there
+abbrev pub IsLone : Start → Type 0
+IsLone start = (start ≡ Opening) ⊎ ((start ≡ Closing) ⊎ (start ≡ LoneSymbol))
+
+pub one_character : (start : Start) (text : List ℕ) → IsLone start
+    → token_piece symbol_token 1 ≡ started start text
+one_character start text =
+    ⊎_elim (by_one Opening refl) (⊎_elim (by_one Closing refl) (by_one LoneSymbol refl))
+  where
+    by_one : (one : Start) → token_piece symbol_token 1 ≡ started one text → start ≡ one
+        → token_piece symbol_token 1 ≡ started start text
+    by_one one e is = e ∙ ap (λ s. started s text) (sym is)
 
 behind_gaps : (c : ℕ) (rest : List ℕ) → is_blank c ≡ false → nat_eq 47 c ≡ false
     → piece_at (c ∷ rest) ≡ (if is_ascii_digit c then digits_piece (digit_run (c ∷ rest))
@@ -170,13 +196,24 @@ lone_piece c rest lone =
     let begins : is_among (codes "()[]{}>,;=#%<:.+-*@?") c ≡ true = grind (arith, nat_tests) in
     ap (λ n. longer_token symbol_token n no_piece) (one c lone rest) ∙ symbol_piece c rest begins
 
+word_begun : (c : ℕ) (rest : List ℕ) → is_ascii_alphabetic c ≡ true
+    → longer_token word_token (word_length (c ∷ rest)) no_piece
+    ≡ token_piece word_token (1 + prefix_len is_xid_continue rest)
+word_begun c rest letter =
+    let low : c < 128 = grind (arith, nat_tests) in
+    let begins : begins_ascii_word c ≡ true = grind (arith, nat_tests) in
+    let count = prefix_len is_xid_continue rest in
+    ap (λ b. longer_token word_token (if b then 1 + count else 0) no_piece)
+    (begins_ascii c low ∙ begins) ∙ sym (some_longer word_token (1 + count) (omega arith))
+
 word_piece : (c : ℕ) (rest : List ℕ) → is_ascii_alphabetic c ≡ true → not (c == 111) ≡ true
-    → longer_token word_token (word_length (c ∷ rest)) no_piece ≡ piece_at (c ∷ rest)
+    → token_piece word_token (1 + prefix_len is_xid_continue rest) ≡ piece_at (c ∷ rest)
 word_piece c rest letter other =
     let blank : is_blank c ≡ false = grind (arith, nat_tests) in
     let slash : nat_eq 47 c ≡ false = grind (arith, nat_tests) in
     let digit : is_ascii_digit c ≡ false = grind (arith, nat_tests) in
-    word_only c rest letter other ∙ sym (no_gap c rest blank slash digit)
+    sym (word_begun c rest letter) ∙ word_only c rest letter other
+    ∙ sym (no_gap c rest blank slash digit)
 
 logic_piece : (c : ℕ) (rest : List ℕ) → (c == 36) ≡ true
     → longer_token logic_token (logic_length (c ∷ rest)) no_piece ≡ piece_at (c ∷ rest)
@@ -194,28 +231,35 @@ literal_piece c rest is =
     let digit : is_ascii_digit c ≡ false = grind (arith, nat_tests) in
     literal_only c rest is ∙ sym (no_gap c rest blank slash digit)
 
--- what begins the text where a test decides between two
-by_test : (text : List ℕ) (b : Bool) (one two : Start)
-    → (b ≡ true → started one text ≡ piece_at text) → started two text ≡ piece_at text
-    → started (if b then one else two) text ≡ piece_at text
-by_test text true one two here others = here refl
-by_test text false one two here others = others
+-- what holds of what begins a text, where a test decides between two
+pub by_test : (Holds : Start → Type 0) (b : Bool) (one two : Start)
+    → (b ≡ true → Holds one) → Holds two → Holds (if b then one else two)
+by_test Holds true one two here others = here refl
+by_test Holds false one two here others = others
 
-by_start : (c : ℕ) (rest : List ℕ) → started (start_of c) (c ∷ rest) ≡ piece_at (c ∷ rest)
-by_start c rest = by_test (c ∷ rest) (is_blank c) Blank _ (blank_piece c rest)
-    (by_test (c ∷ rest) (is_lone c) LoneSymbol _ (lone_piece c rest)
-    (by_test (c ∷ rest) (is_ascii_alphabetic c && not (c == 111)) Word _
+-- this is what the text begins with
+abbrev pub Begins : List ℕ → Start → Type 0
+Begins text start = started start text ≡ piece_at text
+
+pub by_start : (c : ℕ) (rest : List ℕ) → Begins (c ∷ rest) (start_of c)
+by_start c rest = by_test (Begins (c ∷ rest)) (is_blank c) Blank _ (blank_piece c rest)
+    (by_test (Begins (c ∷ rest)) (is_among (codes "([{") c) Opening _
+    (λ e. lone_piece c rest (grind (arith, nat_tests)))
+    (by_test (Begins (c ∷ rest)) (is_among (codes ")]}>") c) Closing _
+    (λ e. lone_piece c rest (grind (arith, nat_tests)))
+    (by_test (Begins (c ∷ rest)) (is_among (codes ",;=#%") c) LoneSymbol _
+    (λ e. lone_piece c rest (grind (arith, nat_tests)))
+    (by_test (Begins (c ∷ rest)) (is_ascii_alphabetic c && not (c == 111)) Word _
     (λ e. let parts = and_parts (is_ascii_alphabetic c) (not (c == 111)) e in
     word_piece c rest parts.0 parts.1)
-    (by_test (c ∷ rest) (c == 36) LogicName _ (logic_piece c rest)
-    (by_test (c ∷ rest) (is_ascii_digit c) Digit _ (digit_piece c rest)
-    (by_test (c ∷ rest) (c == 34) Literal _ (literal_piece c rest)
-    (by_test (c ∷ rest) (is_among (codes "<:.+-*@?") c) Symbol Other
-    (λ e. let begins : is_among (codes "()[]{}>,;=#%<:.+-*@?") c ≡ true =
-    grind (arith, nat_tests) in symbol_piece c rest begins) refl))))))
+    (by_test (Begins (c ∷ rest)) (c == 36) LogicName _ (logic_piece c rest)
+    (by_test (Begins (c ∷ rest)) (is_ascii_digit c) Digit _ (digit_piece c rest)
+    (by_test (Begins (c ∷ rest)) (c == 34) Literal _ (literal_piece c rest)
+    (by_test (Begins (c ∷ rest)) (is_among (codes "<:.+-*@?") c) Symbol Other
+    (λ e. symbol_piece c rest (grind (arith, nat_tests))) refl))))))))
 
 at_front : (text : List ℕ) (first d : ℕ) (start : Start) → 0 < length text
-    → first ≡ get_or text 0 d → start ≡ start_of first → started start text ≡ piece_at text
+    → first ≡ get_or text 0 d → start ≡ start_of first → Begins text start
 at_front [] first d start some is e = absurd (omega (arith, some))
 at_front (c ∷ rest) first d start some is e =
     ap (λ s. started s (c ∷ rest)) (e ∙ ap start_of is) ∙ by_start c rest
@@ -223,14 +267,18 @@ at_front (c ∷ rest) first d start some is e =
 -- which stands there
 pub at_start : {X : Type 0} (code : X → ℕ) (text : List X) (letter : X) (first : ℕ)
     (start : Start) → 0 < length text → letter ≡ get_or text 0 letter → first ≡ code letter
-    → start ≡ start_of first → started start (map code text) ≡ piece_at (map code text)
+    → start ≡ start_of first → Begins (map code text) start
 at_start code text letter first start some at is e =
     at_front (map code text) first (code letter) start (within_codes code text 0 some)
     (is ∙ code_at code text 0 letter some at) e
 
 -- and nothing at the front of no text
+pub nothing_in : (text : List ℕ) → length text < 1 → no_piece ≡ piece_at text
+unfolding piece_at
+nothing_in [] h = refl
+nothing_in (c ∷ text) h = absurd (omega (arith, h))
+
 pub nothing_at : {X : Type 0} (code : X → ℕ) (text : List X) → length text < 1
     → no_piece ≡ piece_at (map code text)
-unfolding piece_at
-nothing_at code [] h = refl
-nothing_at code (x ∷ text) h = absurd (omega (arith, h))
+nothing_at code text h =
+    nothing_in (map code text) (subst (λ n. n < 1) (sym (length-map text code)) h)

@@ -1,8 +1,10 @@
 -- Needn't be believed: the tokens of ASCII bytes that are left to a reader.
-use Rattle.std.specs.Prelude.{◌≡◌, ℕ, ◌<◌, List, length, map, slice_index}
-use Rattle.std.specs.Prelude.{None}
+use Rattle.std.specs.Prelude.{◌≡◌, ℕ, ◌+◌, ◌<◌, ◌≤◌, List, length, map, slice_index}
+use Rattle.std.specs.Prelude.{Option, Some, None, Result, Ok, Err}
+use Rattle.dom_terms.specs.declared.limits.LimitKind.{LimitKind}
+use Rattle.dom_terms.specs.Limits.{limit_kind_of}
 use Rattle.model_text.specs.Lexemes.{Lexeme, lexeme_at, lexeme_of}
-use Rattle.model_text.specs.Nesting.{lexeme_limit, open_behind}
+use Rattle.model_text.specs.Nesting.{lexeme_limit, open_behind, token_limit}
 use Rattle.model_text.specs.Tokens.{token_text}
 use Rattle.text_tokens.specs.declared.ascii.AsciiFront.{AsciiFront}
 use Rattle.text_tokens.specs.declared.tokens.TokenKind.{TokenKind}
@@ -30,3 +32,18 @@ own_lexeme kind own line = lexeme_at (kind_of kind) (token_text (kind_of kind) o
 pub record Stays (most before behind : ℕ) (lexeme : Lexeme) : Type 0 where
   pub behind_is : behind ≡ open_behind before lexeme
   pub no_limit : lexeme_limit most before lexeme ≡ None
+
+-- the first so many bytes from the place on pass no limit, and leave so many brackets open
+pub record Leads (most before : ℕ) (bytes : List ℕ) (place count behind : ℕ) : Type 0 where
+  pub some : 0 < count
+  pub within : place + count ≤ length bytes
+  pub few : behind ≤ most
+  pub same : token_limit most before (left_behind bytes place)
+      ≡ token_limit most behind (left_behind bytes (place + count))
+
+-- that is found at the place: none where no token begins, and the limit where one passes it
+abbrev pub IsStep : ℕ → ℕ → List ℕ → ℕ → Result (Option (ℕ × ℕ)) LimitKind → Type 0
+IsStep most before bytes place (Ok (Some step)) = Leads most before bytes place step.0 step.1
+IsStep most before bytes place (Ok None) = token_limit most before (left_behind bytes place) ≡ None
+IsStep most before bytes place (Err limit) =
+    token_limit most before (left_behind bytes place) ≡ Some (limit_kind_of limit)

@@ -1,18 +1,23 @@
 // The tokens of ASCII bytes, each read where it is asked for.
-ghost use Rattle.std.specs.Prelude.{◌≡◌, [], ◌∷◌, ◌+◌, ◌<◌, ◌≤◌, drop, take, length, count_by, ◌==◌, ◌≢◌, Some, None, MatchBool, MatchOption};
+ghost use Rattle.std.specs.Prelude.{◌≡◌, [], ◌∷◌, ◌+◌, ◌<◌, ◌≤◌, drop, take, length, count_by, ◌==◌, ◌≢◌, Some, None, IfSome, MatchBool, MatchOption};
 ghost use Rattle.std.specs.Bool.{OnTrue};
+ghost use Rattle.std.specs.List.{prefix_len};
 ghost use Rattle.std.specs.Str.{IsAscii, IsNotAscii};
+ghost use Rattle.unicode_ident.specs.Ident.{is_xid_continue};
 ghost use Rattle.model_text.specs.Nesting.{lexemes_of};
-ghost use Rattle.model_text.specs.Tokens.{line_of, newline, piece_at};
+ghost use Rattle.model_text.specs.Tokens.{digit_run, digits_piece, line_of, logic_length, longer_token, longest_at_front, newline, no_piece, piece_at, symbols, token_piece};
 ghost use Rattle.text_tokens.specs.Ascii.{SpaceStands, left_at, left_behind};
 ghost use Rattle.text_tokens.specs.Lexemes.{lexeme_seen};
 ghost use Rattle.text_tokens.specs.Pieces.{piece_of};
+ghost use Rattle.text_tokens.specs.Tokens.{kind_of};
 
 use crate::ascii::AsciiFront;
 use crate::lexemes::Lexeme;
-use crate::pieces::{Piece, piece_at};
+use crate::pieces::{Piece, Start, digits_token, piece_at, start_of};
 use crate::positions::newlines;
+use crate::symbols::symbol_length;
 use crate::tokens::TokenKind;
+use crate::words::{begun_length, logic_length};
 use crate::written::between_quotes;
 use std::str;
 
@@ -44,13 +49,97 @@ pub(crate) fn piece_from(bytes: &[u8], place: usize) -> Piece
     piece_at(&bytes[place..])
 }
 
+// How many bytes the word has that the byte at the place begins.
+#[inline(always)]
+pub(crate) fn word_from(bytes: &[u8], place: usize) -> usize
+    requires { place < length bytes.now }
+    ensures { result ≡ 1 + prefix_len is_xid_continue (drop 1 (drop place bytes.now)) }
+{
+    begun_length(&bytes[place..])
+}
+
+// How many bytes the logic name at the place has; 0 where none stands there.
+#[inline(always)]
+pub(crate) fn logic_from(bytes: &[u8], place: usize) -> usize
+    requires { place ≤ length bytes.now }
+    ensures { result ≡ logic_length (drop place bytes.now) }
+{
+    logic_length(&bytes[place..])
+}
+
+// How many bytes the symbol at the place has; 0 where none stands there.
+#[inline(always)]
+pub(crate) fn symbol_from(bytes: &[u8], place: usize) -> usize
+    requires { place ≤ length bytes.now }
+    ensures { result ≡ longest_at_front symbols (drop place bytes.now) }
+{
+    symbol_length(&bytes[place..])
+}
+
+// The token at the place that a digit begins.
+#[inline(always)]
+pub(crate) fn digits_from(bytes: &[u8], place: usize) -> Piece
+    requires { place ≤ length bytes.now }
+    ensures { piece_of result ≡ digits_piece (digit_run (drop place bytes.now)) }
+{
+    digits_token(&bytes[place..])
+}
+
 // Whether a space stands at the place. Most gaps are one.
 #[inline(always)]
-pub(crate) fn is_space_at(bytes: &[u8], place: usize) -> bool
+fn is_space_at(bytes: &[u8], place: usize) -> bool
     requires { place ≤ length bytes.now }
     ensures { OnTrue result (SpaceStands bytes.now place) }
 {
     place < bytes.len() && bytes[place] == b' '
+}
+
+// The place behind the space at the place, if one stands there. It ends no line.
+#[inline(always)]
+fn behind_space(bytes: &[u8], place: usize) -> usize
+    requires { place ≤ length bytes.now }
+    ensures within { result ≤ length bytes.now }
+    ensures line { line_of bytes.now place ≡ line_of bytes.now result }
+    ensures same { left_behind bytes.now result ≡ left_behind bytes.now place }
+{
+    if is_space_at(bytes, place) {
+        place + 1
+    } else {
+        place
+    }
+}
+
+// A token of the kind and the length, if it has one.
+#[inline(always)]
+fn some_token(kind: TokenKind, length: usize) -> Option<(TokenKind, usize)>
+    ensures { IfSome result (λ found.
+        token_piece (kind_of found.0) found.1 ≡ longer_token (kind_of kind) length no_piece) }
+{
+    if length > 0 {
+        Some((kind, length))
+    } else {
+        None
+    }
+}
+
+// The token at the place, with its length, where its first byte tells its kind.
+#[inline(always)]
+fn near_token(bytes: &[u8], place: usize) -> Option<(TokenKind, usize)>
+    requires { place < length bytes.now }
+    ensures { IfSome result (λ found.
+        token_piece (kind_of found.0) found.1 ≡ piece_at (drop place bytes.now)) }
+{
+    match start_of(bytes[place] as char) {
+        Start::Opening | Start::Closing | Start::LoneSymbol => Some((TokenKind::Symbol, 1)),
+        Start::Word => Some((TokenKind::Word, word_from(bytes, place))),
+        Start::LogicName => some_token(TokenKind::LogicName, logic_from(bytes, place)),
+        Start::Symbol => some_token(TokenKind::Symbol, symbol_from(bytes, place)),
+        Start::Digit => match digits_from(bytes, place) {
+            Piece::Token(kind, length) => Some((kind, length)),
+            _ => None,
+        },
+        _ => None,
+    }
 }
 
 // The tokens from the place on, which is on the line.
@@ -193,11 +282,47 @@ impl<'a> AsciiFront<'a> {
         settled(self.bytes, from + length, self.line)
     }
 
+    // The same where the next token is one that its first byte tells, and stands right behind the
+    // first or behind a space, as most do.
+    #[inline(always)]
+    fn near_behind(self) -> Option<AsciiFront<'a>>
+        ensures { IfSome result (λ front. left_at front ≡ drop 1 (left_at self.entry)) }
+    {
+        if self.kind.is_none() {
+            return None;
+        }
+        let place = behind_space(self.bytes, self.from as usize + self.length as usize);
+        if place >= self.bytes.len() {
+            return None;
+        }
+        match near_token(self.bytes, place) {
+            Some((kind, length)) => Some(AsciiFront {
+                bytes: self.bytes,
+                from: place as u32,
+                length: length as u32,
+                line: self.line,
+                kind: Some(kind),
+            }),
+            None => None,
+        }
+    }
+
+    // Moves on, wherever the next token stands.
+    #[inline(never)]
+    fn advance_far(&mut self)
+        ensures { left_at self.new ≡ drop 1 (left_at self.old) }
+    {
+        *self = self.behind();
+    }
+
     /// Moves on to the tokens behind the first.
     pub fn advance(&mut self)
         ensures { left_at self.new ≡ drop 1 (left_at self.old) }
     {
-        *self = self.behind();
+        match self.near_behind() {
+            Some(front) => *self = front,
+            None => self.advance_far(),
+        }
     }
 
     /// How many tokens are left. It reads them all.

@@ -15,12 +15,12 @@ use std::alloc::Global;
 /// A token as the grammar sees it: all but its places.
 #[derive(Clone, Copy, Debug)]
 pub struct Lexeme<'a> {
-    /// What kind of token it is.
-    pub kind: TokenKind,
     /// Its text. Of a literal it is what stands between the quotes, or what that stands for.
     pub text: &'a str,
     /// 1 and the newline bytes before it.
     pub line: u32,
+    /// What kind of token it is.
+    pub kind: TokenKind,
     /// Whether the text is that of a literal as it is written.
     pub is_written: bool,
 }

@@ -10,6 +10,7 @@ use crate::letters::Letter;
 const GREATEST: u64 = 9_223_372_036_854_775_807;
 
 /// Whether a 0 stands before another character.
+#[inline(always)]
 fn leading_zero<C: Letter>(run: &[C]) -> bool
     ensures { result ≡ leading_zero (map C.code run.now) }
 {
@@ -21,6 +22,7 @@ fn leading_zero<C: Letter>(run: &[C]) -> bool
 
 /// The number with one more digit, where the character of the code is a digit and the number then
 /// isn't too great.
+#[inline(always)]
 fn with_digit(value: u64, code: u32) -> Option<u64>
     requires { value ≤ GREATEST }
     ensures { result ≡ with_digit value code }
@@ -36,6 +38,7 @@ fn with_digit(value: u64, code: u32) -> Option<u64>
 }
 
 /// Whether these are digits, and the number that they write is at most the greatest.
+#[inline(always)]
 fn digits_fit<C: Letter>(run: &[C]) -> bool
     ensures { result ≡ digits_fit (map C.code run.now) }
 {
@@ -61,6 +64,7 @@ pub fn number_value(digits: &[u8]) -> Option<u64>
 }
 
 /// Whether the run is a number.
+#[inline(always)]
 pub fn is_number<C: Letter>(run: &[C]) -> bool
     ensures { result ≡ is_number (map C.code run.now) }
 {

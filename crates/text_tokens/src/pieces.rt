@@ -10,8 +10,8 @@ use crate::literals::literal_length;
 use crate::numbers::is_number;
 use crate::symbols::symbol_length;
 use crate::tokens::TokenKind;
-use crate::words::{comment_length, logic_length, run_length, word_length};
-use Start::{Blank, Digit, Literal, LogicName, LoneSymbol, Other, Symbol, Word};
+use crate::words::{begun_length, comment_length, logic_length, run_length, word_length};
+use Start::{Blank, Closing, Digit, Literal, LogicName, LoneSymbol, Opening, Other, Symbol, Word};
 
 /// What stands at the front of a text, with its number of characters.
 #[derive(Clone, Copy, Debug)]
@@ -39,10 +39,14 @@ impl Piece {
 
 /// What a text begins with, as far as its first character says.
 #[derive(Clone, Copy, Debug)]
-enum Start {
+pub(crate) enum Start {
     /// A blank.
     Blank,
-    /// A symbol of one character, and no longer token.
+    /// An opening bracket, and no longer token.
+    Opening,
+    /// A closing bracket, and no longer token.
+    Closing,
+    /// Another symbol of one character, and no longer token.
     LoneSymbol,
     /// A symbol, if it is a token.
     Symbol,
@@ -63,18 +67,18 @@ const STARTS: [Start; 128] = [
     Other, Other, Other, Other, Other, Other, Other, Other, Other, Blank, Blank, Other, Other,
     Blank, Other, Other, Other, Other, Other, Other, Other, Other, Other, Other, Other, Other,
     Other, Other, Other, Other, Other, Other, Blank, Other, Literal, LoneSymbol, LogicName,
-    LoneSymbol, Other, Other, LoneSymbol, LoneSymbol, Symbol, Symbol, LoneSymbol, Symbol, Symbol,
-    Other, Digit, Digit, Digit, Digit, Digit, Digit, Digit, Digit, Digit, Digit, Symbol,
-    LoneSymbol, Symbol, LoneSymbol, LoneSymbol, Symbol, Symbol, Word, Word, Word, Word, Word, Word,
+    LoneSymbol, Other, Other, Opening, Closing, Symbol, Symbol, LoneSymbol, Symbol, Symbol, Other,
+    Digit, Digit, Digit, Digit, Digit, Digit, Digit, Digit, Digit, Digit, Symbol, LoneSymbol,
+    Symbol, LoneSymbol, Closing, Symbol, Symbol, Word, Word, Word, Word, Word, Word, Word, Word,
     Word, Word, Word, Word, Word, Word, Word, Word, Word, Word, Word, Word, Word, Word, Word, Word,
-    Word, Word, Word, Word, LoneSymbol, Other, LoneSymbol, Other, Other, Other, Word, Word, Word,
-    Word, Word, Word, Word, Word, Word, Word, Word, Word, Word, Word, Other, Word, Word, Word,
-    Word, Word, Word, Word, Word, Word, Word, Word, LoneSymbol, Other, LoneSymbol, Other, Other,
+    Word, Word, Opening, Other, Closing, Other, Other, Other, Word, Word, Word, Word, Word, Word,
+    Word, Word, Word, Word, Word, Word, Word, Word, Other, Word, Word, Word, Word, Word, Word,
+    Word, Word, Word, Word, Word, Opening, Other, Closing, Other, Other,
 ];
 
 /// What a text begins with that begins with the character.
 #[inline(always)]
-fn start_of(character: char) -> Start
+pub(crate) fn start_of(character: char) -> Start
     ensures { result ≡ start_of character }
 {
     match looked_up(&STARTS, character) {
@@ -84,6 +88,7 @@ fn start_of(character: char) -> Start
 }
 
 /// Whether the run is `0f` or `0g`.
+#[inline(always)]
 fn is_empty_shape<C: Letter>(run: &[C]) -> bool
     ensures { result ≡ (bytes_eq (map C.code run.now) (codes "0f")
         || bytes_eq (map C.code run.now) (codes "0g")) }
@@ -97,6 +102,7 @@ fn is_empty_shape<C: Letter>(run: &[C]) -> bool
 }
 
 /// The token that the run is, of digits and characters of XID_Continue.
+#[inline(always)]
 fn digits_piece<C: Letter>(run: &[C]) -> Piece
     ensures { piece_of result ≡ digits_piece (map C.code run.now) }
 {
@@ -110,7 +116,8 @@ fn digits_piece<C: Letter>(run: &[C]) -> Piece
 }
 
 /// The token at the front of a text that a digit begins.
-fn digits_token<C: Letter>(text: &[C]) -> Piece
+#[inline(always)]
+pub(crate) fn digits_token<C: Letter>(text: &[C]) -> Piece
     ensures { piece_of result ≡ digits_piece (digit_run (map C.code text.now)) }
 {
     digits_piece(&text[..run_length(text)])
@@ -196,9 +203,9 @@ pub fn piece_at<C: Letter>(text: &[C]) -> Piece
     };
     match start_of(first.character()) {
         Blank => Piece::Gap(1),
-        LoneSymbol => Piece::Token(TokenKind::Symbol, 1),
+        Opening | Closing | LoneSymbol => Piece::Token(TokenKind::Symbol, 1),
         Symbol => only_token(TokenKind::Symbol, symbol_length(text)),
-        Word => only_token(TokenKind::Word, word_length(text)),
+        Word => Piece::Token(TokenKind::Word, begun_length(text)),
         LogicName => only_token(TokenKind::LogicName, logic_length(text)),
         Literal => only_token(TokenKind::Literal, literal_length(text)),
         Digit => digits_token(text),

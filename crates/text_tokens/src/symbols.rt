@@ -9,6 +9,7 @@ use crate::letters::Letter;
 const SHAPES: [char; 3] = ['t', 'f', 'g'];
 
 /// The length of the symbol that the character is, if it is one that begins no longer one.
+#[inline(always)]
 fn lone_length(character: char) -> usize
     ensures { result ≡ (if is_lone character then 1 else 0) }
 {
@@ -57,7 +58,7 @@ fn none_or_three<C: Letter>(rest: &[C]) -> usize
 }
 
 /// The length of the longest symbol that begins with the character and goes on with the rest.
-#[inline]
+#[inline(always)]
 fn length_from<C: Letter>(first: char, rest: &[C]) -> usize
     ensures { result ≡ longest_at_front symbols (first ∷ map C.code rest.now) }
 {

@@ -1,5 +1,5 @@
 // The words, logic names and comments at the front of a text.
-ghost use Rattle.std.specs.Prelude.{◌≡◌, ◌≤◌, ℕ, Bool, not, ◌||◌, ◌==◌, length, map};
+ghost use Rattle.std.specs.Prelude.{◌≡◌, ◌+◌, ◌<◌, ◌≤◌, ℕ, Bool, not, ◌||◌, ◌==◌, length, drop, map};
 ghost use Rattle.std.specs.Char.{is_ascii_digit};
 ghost use Rattle.std.specs.List.{prefix_len};
 ghost use Rattle.unicode_ident.specs.Ident.{is_xid_continue};
@@ -95,6 +95,7 @@ fn passing_length<C: Letter, T: Test>(text: &[C]) -> usize
 }
 
 /// How many digits and characters of XID_Continue stand at the front of the text.
+#[inline(always)]
 pub fn run_length<C: Letter>(text: &[C]) -> usize
     ensures value { result ≡ prefix_len in_digit_run (map C.code text.now) }
     ensures within { result ≤ length text.now }
@@ -137,6 +138,16 @@ pub fn word_length<C: Letter>(text: &[C]) -> usize
             + passing_length::<C, InWord>(rest),
         _ => 0,
     }
+}
+
+/// How many characters the word has that the first character of the text begins.
+#[inline(always)]
+pub fn begun_length<C: Letter>(text: &[C]) -> usize
+    requires { 0 < length text.now }
+    ensures value { result ≡ 1 + prefix_len is_xid_continue (drop 1 (map C.code text.now)) }
+    ensures within { result ≤ length text.now }
+{
+    1 + passing_length::<C, InWord>(&text[1..])
 }
 
 /// How many characters the logic name at the front of the text has; 0 where none stands there.

@@ -1,8 +1,6 @@
 use Rattle.std.proofs.Common.{ap, subst, ◌≤◌, ◌<◌, ◌∙◌, sym}
 use Rattle.model_text.specs.Lexemes.{terminal}
 use Rattle.model_text.specs.Nesting.{lexeme_limit, open_behind}
-use Rattle.model_limits.specs.Limits.{nesting_limit}
-use Rattle.std.specs.Prelude.{Some}
 use Rattle.text_tokens.specs.Ascii.{Stays, own_lexeme}
 use Rattle.text_tokens.proofs.LimitLemmas.{other_stays, symbol_stays, symbol_nests}
 use Rattle.text_tokens.proofs.ascii_limits.open_behind_own.Goals as goal

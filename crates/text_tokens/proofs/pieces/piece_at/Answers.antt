@@ -1,7 +1,7 @@
-use Rattle.std.proofs.Common.{ap, ◌∙◌}
-use Rattle.model_text.specs.Tokens.{symbol_token, word_token, logic_token, literal_token, no_piece, longer_token}
-use Rattle.text_tokens.specs.declared.pieces.Start.TheVariants.{Blank, LoneSymbol, Symbol, Word, LogicName, Literal, Digit}
-use Rattle.text_tokens.proofs.StartLemmas.{nothing_at, at_start}
+use Rattle.std.proofs.Common.{map, ap, ◌∙◌}
+use Rattle.model_text.specs.Tokens.{symbol_token, word_token, logic_token, literal_token, token_piece, no_piece, longer_token}
+use Rattle.text_tokens.specs.declared.pieces.Start.TheVariants.{Blank, Symbol, Word, LogicName, Literal, Digit}
+use Rattle.text_tokens.proofs.StartLemmas.{nothing_at, at_start, one_character}
 use Rattle.text_tokens.proofs.pieces.piece_at.Goals as goal
 
 pub returns-in_default : goal.returns-in_default
@@ -12,10 +12,12 @@ returns-in-Blank g c =
     at_start g.C.Letter.code c.args.text.now c.first-item.result c.character.result Blank
     c.in-len1-up.len_at_least c.first-item.is c.character.ensures c.in-Blank.ensures
 
-pub returns-in-LoneSymbol : goal.returns-in-LoneSymbol
-returns-in-LoneSymbol g c =
-    at_start g.C.Letter.code c.args.text.now c.first-item.result c.character.result LoneSymbol
-    c.in-len1-up.len_at_least c.first-item.is c.character.ensures c.in-LoneSymbol.ensures
+pub returns-in-Opening : goal.returns-in-Opening
+returns-in-Opening g c =
+    one_character c.start_of.result (map g.C.Letter.code c.args.text.now) c.in-Opening.is
+    ∙ at_start g.C.Letter.code c.args.text.now c.first-item.result c.character.result
+    c.start_of.result c.in-len1-up.len_at_least c.first-item.is c.character.ensures
+    c.start_of.ensures
 
 pub returns-in-Digit : goal.returns-in-Digit
 returns-in-Digit g c = c.digits_token.ensures
@@ -29,8 +31,7 @@ returns-in-Symbol g c = c.only_token.ensures
     c.in-len1-up.len_at_least c.first-item.is c.character.ensures c.in-Symbol.ensures
 
 pub returns-in-Word : goal.returns-in-Word
-returns-in-Word g c = c.only_token-in-Word.ensures
-    ∙ ap (λ n. longer_token word_token n no_piece) c.word_length.ensures.value
+returns-in-Word g c = ap (token_piece word_token) c.begun_length.ensures.value
     ∙ at_start g.C.Letter.code c.args.text.now c.first-item.result c.character.result Word
     c.in-len1-up.len_at_least c.first-item.is c.character.ensures c.in-Word.ensures
 
