@@ -40,12 +40,15 @@ fn bound(quantifier: Quantifier, name: Text, inner: Box<Formula>) -> Formula
 }
 
 // A term of a formula that is a logic variable, as a formula.
-fn lone(alloc: Global, left: Term, tokens: &Front) -> Result<Box<Formula>, ReadFault>
-    ensures { Gives (λ found. (formula_of found.value, lexemes_in tokens.now)) result
+fn lone(alloc: Global, left: Term, tokens: &Front, target: &mut Formula) -> Result<(), ReadFault>
+    ensures { Gives (λ _. (formula_of target.new, lexemes_in tokens.now)) result
         (lone_variable (term_of left) (lexemes_in tokens.now)) }
 {
     match left {
-        Term::Logic(variable) => Ok(Box::new(alloc, Formula::Var(variable))?),
+        Term::Logic(variable) => {
+            *target = Formula::Var(variable);
+            Ok(())
+        }
         _ => Err(ReadFault::Text(tokens.count())),
     }
 }
@@ -58,15 +61,17 @@ fn quantified(
     depth: u32,
     quantifier: Quantifier,
     tokens: &mut Front,
-) -> Result<Box<Formula>, ReadFault>
-    ensures { Gives (λ found. (formula_of found.value, lexemes_in tokens.new)) result
+    target: &mut Formula,
+) -> Result<(), ReadFault>
+    ensures { Gives (λ _. (formula_of target.new, lexemes_in tokens.new)) result
         (quantified_at (formula_at depth) (quantifier_of quantifier) (lexemes_in tokens.old)) }
 {
     let name = logic_name(alloc, tokens)?;
     expect(tokens, ".")?;
     let inner = part(alloc, depth, tokens)?;
     expect(tokens, ")")?;
-    Ok(Box::new(alloc, bound(quantifier, name, inner))?)
+    *target = bound(quantifier, name, inner);
+    Ok(())
 }
 
 // What stands behind an open bracket and a formula, with a connective.
@@ -77,14 +82,16 @@ fn connected(
     depth: u32,
     left: Box<Formula>,
     tokens: &mut Front,
-) -> Result<Box<Formula>, ReadFault>
-    ensures { Gives (λ found. (formula_of found.value, lexemes_in tokens.new)) result
+    target: &mut Formula,
+) -> Result<(), ReadFault>
+    ensures { Gives (λ _. (formula_of target.new, lexemes_in tokens.new)) result
         (joined_at (formula_at depth) (formula_of left.value) (lexemes_in tokens.old)) }
 {
     let connective = joint(tokens)?;
     let right = part(alloc, depth, tokens)?;
     expect(tokens, ")")?;
-    Ok(Box::new(alloc, joined(connective, left, right))?)
+    *target = joined(connective, left, right);
+    Ok(())
 }
 
 // What stands behind an open bracket and a formula.
@@ -94,8 +101,9 @@ fn connected_or_is(
     depth: u32,
     left: Box<Formula>,
     tokens: &mut Front,
-) -> Result<Box<Formula>, ReadFault>
-    ensures { Gives (λ found. (formula_of found.value, lexemes_in tokens.new)) result
+    target: &mut Formula,
+) -> Result<(), ReadFault>
+    ensures { Gives (λ _. (formula_of target.new, lexemes_in tokens.new)) result
         (joined_or_is (formula_at depth) (formula_of left.value) (lexemes_in tokens.old)) }
 {
     if let Formula::Var(variable) = &*left {
@@ -104,42 +112,54 @@ fn connected_or_is(
             let sort = variable.sort;
             let inner = part(alloc, depth, tokens)?;
             expect(tokens, ")")?;
-            return Ok(Box::new(alloc, Formula::Is(LogicVar { name, sort }, inner))?);
+            *target = Formula::Is(LogicVar { name, sort }, inner);
+            return Ok(());
         }
     }
-    connected(alloc, depth, left, tokens)
+    connected(alloc, depth, left, tokens, target)
 }
 
 // What stands behind an open bracket and the word for not.
 #[cycle(part)]
-fn negation(alloc: Global, depth: u32, tokens: &mut Front) -> Result<Box<Formula>, ReadFault>
-    ensures { Gives (λ found. (formula_of found.value, lexemes_in tokens.new)) result
+fn negation(
+    alloc: Global,
+    depth: u32,
+    tokens: &mut Front,
+    target: &mut Formula,
+) -> Result<(), ReadFault>
+    ensures { Gives (λ _. (formula_of target.new, lexemes_in tokens.new)) result
         (then (formula_at depth) (λ p. expect (codes ")") (ret (negation p)))
         (lexemes_in tokens.old)) }
 {
     let inner = part(alloc, depth, tokens)?;
     expect(tokens, ")")?;
-    Ok(Box::new(alloc, Formula::Not(inner))?)
+    *target = Formula::Not(inner);
+    Ok(())
 }
 
 // What stands behind an open bracket.
 #[cycle(part)]
 #[tactic(auto, unfolding(crate::specs::FormulaReaders::bracket_at))]
-fn bracket(alloc: Global, depth: u32, tokens: &mut Front) -> Result<Box<Formula>, ReadFault>
-    ensures { Gives (λ found. (formula_of found.value, lexemes_in tokens.new)) result
+fn bracket(
+    alloc: Global,
+    depth: u32,
+    tokens: &mut Front,
+    target: &mut Formula,
+) -> Result<(), ReadFault>
+    ensures { Gives (λ _. (formula_of target.new, lexemes_in tokens.new)) result
         (bracket_at (formula_at depth) (lexemes_in tokens.old)) }
 {
     if skip(tokens, "not") {
-        return negation(alloc, depth, tokens);
+        return negation(alloc, depth, tokens, target);
     }
     if skip(tokens, "exists") {
-        return quantified(alloc, depth, Quantifier::Exists, tokens);
+        return quantified(alloc, depth, Quantifier::Exists, tokens, target);
     }
     if skip(tokens, "forall") {
-        return quantified(alloc, depth, Quantifier::Forall, tokens);
+        return quantified(alloc, depth, Quantifier::Forall, tokens, target);
     }
     let left = part(alloc, depth, tokens)?;
-    connected_or_is(alloc, depth, left, tokens)
+    connected_or_is(alloc, depth, left, tokens, target)
 }
 
 // What stands behind the name of a node and the sign.
@@ -150,8 +170,9 @@ fn node(
     depth: u32,
     name: Term,
     tokens: &mut Front,
-) -> Result<Box<Formula>, ReadFault>
-    ensures { Gives (λ found. (formula_of found.value, lexemes_in tokens.new)) result
+    target: &mut Formula,
+) -> Result<(), ReadFault>
+    ensures { Gives (λ _. (formula_of target.new, lexemes_in tokens.new)) result
         (node_at (term_at in_formula depth) (formula_at depth) (term_of name)
         (lexemes_in tokens.old)) }
 {
@@ -161,7 +182,8 @@ fn node(
     expect(tokens, "]")?;
     expect(tokens, "%")?;
     let list = term(alloc, Place::Formula, depth, tokens)?;
-    Ok(Box::new(alloc, Formula::Node(name, number, inner, list))?)
+    *target = Formula::Node(name, number, inner, list);
+    Ok(())
 }
 
 // What stands behind the first term of a formula.
@@ -173,23 +195,26 @@ fn compared(
     depth: u32,
     left: Term,
     tokens: &mut Front,
-) -> Result<Box<Formula>, ReadFault>
-    ensures { Gives (λ found. (formula_of found.value, lexemes_in tokens.new)) result
+    target: &mut Formula,
+) -> Result<(), ReadFault>
+    ensures { Gives (λ _. (formula_of target.new, lexemes_in tokens.new)) result
         (compared_at (term_at in_formula depth) (formula_at depth) (term_of left)
         (lexemes_in tokens.old)) }
 {
     if skip(tokens, "=") {
         let right = term(alloc, Place::Formula, depth, tokens)?;
-        return Ok(Box::new(alloc, Formula::Eq(left, right))?);
+        *target = Formula::Eq(left, right);
+        return Ok(());
     }
     if skip(tokens, "<=") {
         let right = term(alloc, Place::Formula, depth, tokens)?;
-        return Ok(Box::new(alloc, Formula::Le(left, right))?);
+        *target = Formula::Le(left, right);
+        return Ok(());
     }
     if skip(tokens, "#") {
-        return node(alloc, depth, left, tokens);
+        return node(alloc, depth, left, tokens, target);
     }
-    lone(alloc, left, tokens)
+    lone(alloc, left, tokens, target)
 }
 
 // A formula that begins with a term of one token that is no reserved word and no symbol.
@@ -199,47 +224,66 @@ fn leaf_formula<'a>(
     depth: u32,
     first: Lexeme<'a>,
     tokens: &mut Front<'a>,
-) -> Result<Box<Formula>, ReadFault>
+    target: &mut Formula,
+) -> Result<(), ReadFault>
     requires { lexemes_in tokens.old ≡ lexeme_seen first ∷ drop 1 (lexemes_in tokens.old) }
-    ensures { Gives (λ found. (formula_of found.value, lexemes_in tokens.new)) result
+    ensures { Gives (λ _. (formula_of target.new, lexemes_in tokens.new)) result
         (then (leaf (leaf_term in_formula))
         (compared_at (term_at in_formula depth) (formula_at depth)) (lexemes_in tokens.old)) }
 {
     let left = leaf_term(alloc, Place::Formula, first, tokens)?;
-    compared(alloc, depth, left, tokens)
+    compared(alloc, depth, left, tokens, target)
 }
 
 // What stands behind an open angle.
 #[cycle(part)]
-fn tree(alloc: Global, depth: u32, tokens: &mut Front) -> Result<Box<Formula>, ReadFault>
-    ensures { Gives (λ found. (formula_of found.value, lexemes_in tokens.new)) result
+fn tree(
+    alloc: Global,
+    depth: u32,
+    tokens: &mut Front,
+    target: &mut Formula,
+) -> Result<(), ReadFault>
+    ensures { Gives (λ _. (formula_of target.new, lexemes_in tokens.new)) result
         (then (formula_at depth) (λ p. expect (codes ">") (ret (one_tree p)))
         (lexemes_in tokens.old)) }
 {
     let inner = part(alloc, depth, tokens)?;
     expect(tokens, ">")?;
-    Ok(Box::new(alloc, Formula::One(inner))?)
+    *target = Formula::One(inner);
+    Ok(())
 }
 
 // What stands behind an open square bracket.
 #[cycle(part)]
-fn root(alloc: Global, depth: u32, tokens: &mut Front) -> Result<Box<Formula>, ReadFault>
-    ensures { Gives (λ found. (formula_of found.value, lexemes_in tokens.new)) result
+fn root(
+    alloc: Global,
+    depth: u32,
+    tokens: &mut Front,
+    target: &mut Formula,
+) -> Result<(), ReadFault>
+    ensures { Gives (λ _. (formula_of target.new, lexemes_in tokens.new)) result
         (then (formula_at depth) (λ p. expect (codes "]") (ret (one_root p)))
         (lexemes_in tokens.old)) }
 {
     let inner = part(alloc, depth, tokens)?;
     expect(tokens, "]")?;
-    Ok(Box::new(alloc, Formula::Root(inner))?)
+    *target = Formula::Root(inner);
+    Ok(())
 }
 
 // What stands behind the word for a length.
-fn length(alloc: Global, depth: u32, tokens: &mut Front) -> Result<Box<Formula>, ReadFault>
-    ensures { Gives (λ found. (formula_of found.value, lexemes_in tokens.new)) result
+fn length(
+    alloc: Global,
+    depth: u32,
+    tokens: &mut Front,
+    target: &mut Formula,
+) -> Result<(), ReadFault>
+    ensures { Gives (λ _. (formula_of target.new, lexemes_in tokens.new)) result
         (then (term_at in_formula depth) (λ a. ret (length_is a)) (lexemes_in tokens.old)) }
 {
     let number = term(alloc, Place::Formula, depth, tokens)?;
-    Ok(Box::new(alloc, Formula::Len(number))?)
+    *target = Formula::Len(number);
+    Ok(())
 }
 
 // A formula that begins with a term. The first token is handed over too.
@@ -249,14 +293,15 @@ fn comparison<'a>(
     depth: u32,
     first: Lexeme<'a>,
     tokens: &mut Front<'a>,
-) -> Result<Box<Formula>, ReadFault>
+    target: &mut Formula,
+) -> Result<(), ReadFault>
     requires { lexemes_in tokens.old ≡ lexeme_seen first ∷ drop 1 (lexemes_in tokens.old) }
-    ensures { Gives (λ found. (formula_of found.value, lexemes_in tokens.new)) result
+    ensures { Gives (λ _. (formula_of target.new, lexemes_in tokens.new)) result
         (then (term_at in_formula (suc depth))
         (compared_at (term_at in_formula depth) (formula_at depth)) (lexemes_in tokens.old)) }
 {
     let left = term_from(alloc, Place::Formula, depth, first, tokens)?;
-    compared(alloc, depth, left, tokens)
+    compared(alloc, depth, left, tokens, target)
 }
 
 // A formula that begins with neither a bracket nor the word for a length. The first token is
@@ -267,18 +312,20 @@ fn word_or_comparison<'a>(
     depth: u32,
     first: Lexeme<'a>,
     tokens: &mut Front<'a>,
-) -> Result<Box<Formula>, ReadFault>
+    target: &mut Formula,
+) -> Result<(), ReadFault>
     requires { lexemes_in tokens.old ≡ lexeme_seen first ∷ drop 1 (lexemes_in tokens.old) }
-    ensures { Gives (λ found. (formula_of found.value, lexemes_in tokens.new)) result
+    ensures { Gives (λ _. (formula_of target.new, lexemes_in tokens.new)) result
         (begins leaf_word ret (then (term_at in_formula (suc depth))
         (compared_at (term_at in_formula depth) (formula_at depth))) (lexemes_in tokens.old)) }
 {
     match word_of(first) {
         Some(found) => {
             tokens.advance();
-            Ok(Box::new(alloc, found)?)
+            *target = found;
+            Ok(())
         }
-        None => comparison(alloc, depth, first, tokens),
+        None => comparison(alloc, depth, first, tokens, target),
     }
 }
 
@@ -290,35 +337,40 @@ fn part_from<'a>(
     depth: u32,
     first: Lexeme<'a>,
     tokens: &mut Front<'a>,
-) -> Result<Box<Formula>, ReadFault>
+    target: &mut Formula,
+) -> Result<(), ReadFault>
     requires { lexemes_in tokens.old ≡ lexeme_seen first ∷ drop 1 (lexemes_in tokens.old) }
-    ensures { Gives (λ found. (formula_of found.value, lexemes_in tokens.new)) result
+    ensures { Gives (λ _. (formula_of target.new, lexemes_in tokens.new)) result
         (formula_at (suc depth) (lexemes_in tokens.old)) }
 {
     if is_this(first, "(") {
         tokens.advance();
-        return bracket(alloc, depth, tokens);
+        return bracket(alloc, depth, tokens, target);
     }
     if is_this(first, "[") {
         tokens.advance();
-        return root(alloc, depth, tokens);
+        return root(alloc, depth, tokens, target);
     }
     if is_this(first, "<") {
         tokens.advance();
-        return tree(alloc, depth, tokens);
+        return tree(alloc, depth, tokens, target);
     }
     if is_this(first, "len") {
         tokens.advance();
-        return length(alloc, depth, tokens);
+        return length(alloc, depth, tokens, target);
     }
-    word_or_comparison(alloc, depth, first, tokens)
+    word_or_comparison(alloc, depth, first, tokens, target)
 }
 
-// A formula in a box of its own, nested at most so deep. Boxes are handed on, since they are
-// smaller than formulas.
+// Puts a formula, nested at most so deep, into the target.
 #[cycle(part)]
-fn part(alloc: Global, depth: u32, tokens: &mut Front) -> Result<Box<Formula>, ReadFault>
-    ensures { Gives (λ found. (formula_of found.value, lexemes_in tokens.new)) result
+fn fill(
+    alloc: Global,
+    depth: u32,
+    tokens: &mut Front,
+    target: &mut Formula,
+) -> Result<(), ReadFault>
+    ensures { Gives (λ _. (formula_of target.new, lexemes_in tokens.new)) result
         (formula_at depth (lexemes_in tokens.old)) }
 {
     if depth == 0 {
@@ -328,9 +380,21 @@ fn part(alloc: Global, depth: u32, tokens: &mut Front) -> Result<Box<Formula>, R
         return Err(ReadFault::Text(0));
     };
     if is_word_or_symbol(first) {
-        return part_from(alloc, depth - 1, first, tokens);
+        return part_from(alloc, depth - 1, first, tokens, target);
     }
-    leaf_formula(alloc, depth - 1, first, tokens)
+    leaf_formula(alloc, depth - 1, first, tokens, target)
+}
+
+// A formula in a box of its own, nested at most so deep. Its box is taken before those of its parts
+// are, so that a walk, which comes to a formula before its parts, goes through memory in order.
+#[cycle(part)]
+fn part(alloc: Global, depth: u32, tokens: &mut Front) -> Result<Box<Formula>, ReadFault>
+    ensures { Gives (λ found. (formula_of found.value, lexemes_in tokens.new)) result
+        (formula_at depth (lexemes_in tokens.old)) }
+{
+    let mut found = Box::new(alloc, Formula::True)?;
+    fill(alloc, depth, tokens, &mut found)?;
+    Ok(found)
 }
 
 /// A formula, nested at most so deep; moves behind it.
@@ -338,6 +402,7 @@ pub fn formula(alloc: Global, depth: u32, tokens: &mut Front) -> Result<Formula,
     ensures { Gives (λ found. (formula_of found, lexemes_in tokens.new)) result
         (formula_at depth (lexemes_in tokens.old)) }
 {
-    let found = part(alloc, depth, tokens)?;
-    Ok(Box::into_inner(found))
+    let mut found = Formula::True;
+    fill(alloc, depth, tokens, &mut found)?;
+    Ok(found)
 }

@@ -177,7 +177,7 @@ fn word<'a>(
     leaf_term(alloc, place, first, tokens)
 }
 
-// A term in a box of its own.
+// A term in a box of its own, which is taken before those of its parts are.
 #[cycle(term)]
 fn boxed<'a>(
     alloc: Global,
@@ -188,8 +188,9 @@ fn boxed<'a>(
     ensures { Gives (λ found. (term_of found.value, lexemes_in tokens.new)) result
         (term_at (place_of place) depth (lexemes_in tokens.old)) }
 {
-    let inner = term(alloc, place, depth, tokens)?;
-    Ok(Box::new(alloc, inner)?)
+    let mut found = Box::new(alloc, Term::NullNode)?;
+    *found = term(alloc, place, depth, tokens)?;
+    Ok(found)
 }
 
 // What stands behind an open brace.

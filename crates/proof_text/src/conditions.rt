@@ -42,14 +42,15 @@ fn compared(alloc: Global, depth: u32, left: Term, tokens: &mut Front) -> Result
     lone(left, tokens)
 }
 
-// A condition in a box of its own.
+// A condition in a box of its own, which is taken before those of its parts are.
 #[cycle(condition)]
 fn boxed(alloc: Global, depth: u32, tokens: &mut Front) -> Result<Box<Cond>, ReadFault>
     ensures { Gives (λ found. (cond_of found.value, lexemes_in tokens.new)) result
         (cond_at depth (lexemes_in tokens.old)) }
 {
-    let inner = condition(alloc, depth, tokens)?;
-    Ok(Box::new(alloc, inner)?)
+    let mut found = Box::new(alloc, Cond::True)?;
+    *found = condition(alloc, depth, tokens)?;
+    Ok(found)
 }
 
 // What stands behind an open bracket and a condition.

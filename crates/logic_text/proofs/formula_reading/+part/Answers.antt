@@ -4,15 +4,15 @@ use Rattle.token_readers.specs.Leaves.{lexeme_seen, lexemes_in}
 use Rattle.logic_text.proofs.LeafFirst.{formula_of_leaf, formula_of_length, formula_of_none}
 use Rattle.logic_text.proofs.formula_reading.+part.Goals as goal
 
-pub part-returns : goal.part-returns
-part-returns t c = rw
+pub fill-returns : goal.fill-returns
+fill-returns t c = rw
     (formula_of_leaf c.args.depth (c.args.depth - 1) (lexemes_in c.args.tokens.now)
     (omega (arith, c.if-depth-eq0.false)) c.in-Some.ensures
     (c.is_word_or_symbol.ensures c.if-is_word_or_symbol.false))
     c.leaf_formula.ensures
 
-pub part-returns-in_default : goal.part-returns-in_default
-part-returns-in_default t c =
+pub fill-returns-in_default : goal.fill-returns-in_default
+fill-returns-in_default t c =
     formula_of_none c.args.depth (c.args.depth - 1) (lexemes_in c.args.tokens.now)
     (omega (arith, c.if-depth-eq0.false)) c.in_default.ensures
 

@@ -2,8 +2,11 @@ use Rattle.std.proofs.Common.{◌+◌, ◌*◌}
 use Rattle.logic_text.proofs.formula_reading.+part.Given as goal
 
 -- the nesting that is left, and at one depth the order of the calls
+abbrev pub decreases-fill : goal.decreases-fill
+decreases-fill l = 8 * l.depth
+
 abbrev pub decreases-part : goal.decreases-part
-decreases-part l = 8 * l.depth
+decreases-part l = 8 * l.depth + 1
 
 abbrev pub decreases-quantified : goal.decreases-quantified
 decreases-quantified l = 8 * l.depth + 2
