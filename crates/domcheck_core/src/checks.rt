@@ -1,22 +1,26 @@
 // Checks of a file, over its bytes.
 ghost use Rattle.std.specs.Prelude.{◌≡◌, ℕ, List, Some, IfOk};
-ghost use Rattle.model_commands.specs.Theories.{auto};
+ghost use Rattle.std.specs.Bool.{OnTrue};
+ghost use Rattle.model_commands.specs.Theories.{auto, procedures_of};
 ghost use Rattle.model_files.specs.FileFaults.{IsWellFormedTheory};
 ghost use Rattle.model_files.specs.Sizes.{TheoryIsSmall};
 ghost use Rattle.rule_table.specs.Accepted as bad;
 ghost use Rattle.row_patterns.specs.Verdicts.{verdict_in};
 ghost use Rattle.theory_syntax.specs.Judgements.{reason_of};
 ghost use Rattle.theory_syntax.specs.Theories.{theory_of};
+ghost use Rattle.cited_steps.specs.Held.{EachHolds};
 ghost use Rattle.domcheck_core.specs.Answers.{CheckAnswer, IsBadAt, Verdict, numbered};
 ghost use Rattle.domcheck_core.specs.Clauses.{IsProved};
 ghost use Rattle.domcheck_core.specs.Stands.{HasProcedure, HasStep, NamesRule};
 
 use crate::file::read_file;
+use crate::judging::Kernel;
 use crate::replies::{Reply, accepted, answered, reported};
 use crate::status::Status;
 use dom_terms::{Copied, OutOfMemory, Text};
 use fault_report::Report;
-use hoare_kernel::{Refusal, check_theory};
+use hoare_kernel::{Refusal, check_told_theory};
+use proof_text::ReadTheory;
 use std::alloc::Global;
 use theory_syntax::{Procedure, Reason, Step, Theory};
 
@@ -100,13 +104,16 @@ fn no_proof(alloc: Global, theory: &Theory, procedure: u32) -> Result<Reply, Out
     reported(alloc, Status::StepFails, Report::NoProof { procedure })
 }
 
-// The answer on the theory of a file.
-fn verdict(alloc: Global, theory: &Theory) -> Result<Reply, OutOfMemory>
-    requires small { TheoryIsSmall (theory_of theory.now) }
-    requires formed { IsWellFormedTheory (theory_of theory.now) }
-    ensures { IfOk result (λ r. Verdict (theory_of theory.now) r.status r.output) }
+// The answer on the theory of a file. What reading it told of its steps isn't asked again.
+fn verdict(alloc: Global, read: &ReadTheory) -> Result<Reply, OutOfMemory>
+    requires small { TheoryIsSmall (theory_of read.now.theory) }
+    requires formed { IsWellFormedTheory (theory_of read.now.theory) }
+    requires told { OnTrue read.now.are_instances
+        (EachHolds (procedures_of (theory_of read.now.theory))) }
+    ensures { IfOk result (λ r. Verdict (theory_of read.now.theory) r.status r.output) }
 {
-    match check_theory(alloc, theory) {
+    let theory = &read.theory;
+    match check_told_theory(alloc, theory, read.are_instances) {
         Ok(counts) => accepted(alloc, counts.procedures, counts.steps),
         Err(
             Refusal::Fails {
@@ -131,8 +138,8 @@ pub fn check_bytes(alloc: Global, bytes: &[u8]) -> Result<Reply, OutOfMemory>
     // A yes is a proof.
     ensures soundness_of_yes { IfOk result (λ r. r.status ≡ Status.Done → IsProved bytes.now) }
 {
-    match read_file(alloc, bytes) {
-        Ok(theory) => verdict(alloc, &theory),
+    match read_file::<Kernel>(alloc, bytes) {
+        Ok(read) => verdict(alloc, &read),
         Err(why) => answered(alloc, why),
     }
 }

@@ -19,6 +19,7 @@ mod document;
 mod file;
 mod generated;
 mod groves;
+mod judging;
 mod limits;
 mod replies;
 mod runs;

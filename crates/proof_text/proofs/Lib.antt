@@ -10,3 +10,4 @@ pub mod ConditionSizes
 pub mod LineLemmas
 pub mod SortedReader
 pub mod JudgedLoops
+pub mod HeldLoops

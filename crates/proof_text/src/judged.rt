@@ -4,6 +4,7 @@ ghost use Rattle.std.specs.Bool.{OnTrue};
 ghost use Rattle.std.specs.Option.{IfSome};
 ghost use Rattle.model_formulas.specs.Parts.{parts};
 ghost use Rattle.model_files.specs.FileFaults.{is_judged_at, judgement_sorted};
+ghost use Rattle.model_files.specs.Sizes.{IsSmall, JudgementIsSmall};
 ghost use Rattle.dom_terms.specs.Sorts.{sort_of};
 ghost use Rattle.formula_syntax.specs.Formulas.{formula_of};
 ghost use Rattle.theory_syntax.specs.Judgements.{judgement_of};
@@ -36,17 +37,21 @@ fn room_behind(formula: &Formula, room: u32) -> Option<u32>
     }
 }
 
-// Whether the formula may be judged at the sort; where false, that isn't known, as it may have too
-// many parts to be asked.
+// Whether the formula is small and may be judged at the sort; where false, that isn't known, as it
+// may have too many parts to be asked.
 fn is_judged(formula: &Formula, sort: Sort) -> bool
-    ensures { OnTrue result (is_judged_at (sort_of sort) (formula_of formula.now) ≡ true) }
+    ensures judged { OnTrue result
+        (is_judged_at (sort_of sort) (formula_of formula.now) ≡ true) }
+    ensures small { OnTrue result (IsSmall (formula_of formula.now)) }
 {
     room_behind(formula, u32::MAX - 1).is_some() && sorted_as(formula, sort).is_ok()
 }
 
-// Whether the formulas of the judgement may be judged at its sort; where false, that isn't known.
+// Whether the formulas of the judgement are small and may be judged at its sort; where false, that
+// isn't known.
 pub(crate) fn is_judgement_judged(judgement: &Judgement) -> bool
-    ensures { OnTrue result (judgement_sorted (judgement_of judgement.now) ≡ true) }
+    ensures judged { OnTrue result (judgement_sorted (judgement_of judgement.now) ≡ true) }
+    ensures small { OnTrue result (JudgementIsSmall (judgement_of judgement.now)) }
 {
     match judgement {
         Judgement::Entails(entailment) => {

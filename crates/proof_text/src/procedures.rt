@@ -3,12 +3,14 @@ ghost use Rattle.std.specs.Prelude.{◌≡◌, [], ◌∷◌, ◌++◌, IfOk, ma
 ghost use Rattle.std.specs.Bool.{OnTrue};
 ghost use Rattle.std.specs.List.{list_all};
 ghost use Rattle.model_commands.specs.CommandParts.{variables_of, variables_of_command};
+ghost use Rattle.model_commands.specs.Theories.{nameless_procedure};
 ghost use Rattle.model_grammar.specs.Sorts.{sorted_command, sorted_formula};
 ghost use Rattle.dom_terms.specs.Sorts.{data_sort_of};
 ghost use Rattle.dom_terms.specs.Terms.{logic_var_of, prog_var_of};
 ghost use Rattle.formula_syntax.specs.Formulas.{formula_of};
 ghost use Rattle.theory_syntax.specs.Commands.{command_of};
 ghost use Rattle.theory_syntax.specs.Theories.{procedure_of};
+ghost use Rattle.cited_steps.specs.Held.{AllHold, EachHolds};
 ghost use Rattle.declared_sorts.specs.Declarations.{declared_of, scope_in};
 ghost use Rattle.declared_sorts.specs.Known.{Knows};
 ghost use Rattle.declared_sorts.specs.Names.{of_logic, Tells};
@@ -21,6 +23,7 @@ ghost use Rattle.proof_text.specs.SortedTheories.{sorted_contents_at, sorted_pro
 
 use crate::commands::command;
 use crate::declarations::declarations;
+use crate::judging::StepJudge;
 use crate::sorts::data_sort;
 use crate::steps::steps;
 use declared_sorts::{Declared, Names, Sorted, declared_in, names_of};
@@ -50,6 +53,9 @@ struct ReadProcedure {
     is_settled: bool,
     // the formulas of each step may be judged at its sort; where false, that isn't known
     is_judged: bool,
+    // each entailment in it is an instance of the rule that its step names; where false, that isn't
+    // known
+    are_instances: bool,
 }
 
 // The procedure of these parts, before its proof is read.
@@ -106,7 +112,7 @@ fn set_head(pre: &mut Formula, post: &mut Formula, body: &mut Command, declared:
 // What stands behind the header. The variables of the requires, the ensures and the body get their
 // sorts once the body tells which local variables there are, and those of the proof step by step.
 #[tactic(auto, unfolding(crate::specs::SortedTheories::sorted_contents_at))]
-fn contents(
+fn contents<J: StepJudge>(
     alloc: Global,
     header: Header,
     depth: u32,
@@ -123,6 +129,8 @@ fn contents(
         ≡ procedure_settled (map logic_var_of logics.now) (procedure_of found.procedure)) }
     ensures judged { IfOk result (λ found.
         OnTrue found.is_judged (steps_judged (procedure_of found.procedure).proof ≡ true)) }
+    ensures instances { IfOk result (λ found. OnTrue found.are_instances
+        (AllHold [] (nameless_procedure (procedure_of found.procedure)).proof)) }
 {
     expect(tokens, "requires")?;
     let pre = formula(alloc, depth, tokens)?;
@@ -137,7 +145,7 @@ fn contents(
     let variable_names = names_of(alloc, variables)?;
     let declared = Declared::new(variables, &variable_names, logics, logic_names);
     let is_head_settled = set_head(&mut found.pre, &mut found.post, &mut found.body, &declared);
-    let proof = steps(alloc, depth, &declared, tokens)?;
+    let proof = steps::<J>(alloc, depth, &declared, tokens)?;
     expect(tokens, "end")?;
     found.proof = proof.steps;
     let is_settled = is_head_settled && proof.are_settled;
@@ -145,12 +153,13 @@ fn contents(
         procedure: found,
         is_settled,
         is_judged: proof.are_judged,
+        are_instances: proof.are_instances,
     })
 }
 
 // What stands behind the word `proc`.
 #[tactic(auto, unfolding(crate::specs::SortedTheories::sorted_procedure_tail))]
-fn procedure(
+fn procedure<J: StepJudge>(
     alloc: Global,
     depth: u32,
     logics: &[LogicVar],
@@ -165,6 +174,8 @@ fn procedure(
         ≡ procedure_settled (map logic_var_of logics.now) (procedure_of found.procedure)) }
     ensures judged { IfOk result (λ found.
         OnTrue found.is_judged (steps_judged (procedure_of found.procedure).proof ≡ true)) }
+    ensures instances { IfOk result (λ found. OnTrue found.are_instances
+        (AllHold [] (nameless_procedure (procedure_of found.procedure)).proof)) }
 {
     let name = name(alloc, tokens)?;
     let params = declarations(alloc, tokens)?;
@@ -178,7 +189,7 @@ fn procedure(
         results,
         sort,
     };
-    contents(alloc, header, depth, logics, logic_names, tokens)
+    contents::<J>(alloc, header, depth, logics, logic_names, tokens)
 }
 
 /// The procedures that were read, and what is told of their variables and of their proofs.
@@ -190,10 +201,13 @@ pub struct ReadProcedures {
     pub are_settled: bool,
     /// The formulas of each step may be judged at its sort; where false, that isn't known.
     pub are_judged: bool,
+    /// Each entailment in them is an instance of the rule that its step names; where false, that
+    /// isn't known.
+    pub are_instances: bool,
 }
 
 // The procedures behind the first, as long as one begins.
-fn more_procedures(
+fn more_procedures<J: StepJudge>(
     alloc: Global,
     first: ReadProcedure,
     depth: u32,
@@ -206,6 +220,8 @@ fn more_procedures(
         ≡ procedure_settled (map logic_var_of logics.now) (procedure_of first.procedure) }
     requires judged { OnTrue first.is_judged
         (steps_judged (procedure_of first.procedure).proof ≡ true) }
+    requires instances { OnTrue first.are_instances
+        (AllHold [] (nameless_procedure (procedure_of first.procedure)).proof) }
     ensures read { Gives (λ found. (map procedure_of found.procedures, lexemes_in tokens.new))
         result (with_front (procedure_of first.procedure ∷ [])
         (more_sorted_procedures_at (map logic_var_of logics.now) depth u32.MAX
@@ -214,10 +230,13 @@ fn more_procedures(
         (procedure_settled (map logic_var_of logics.now)) (map procedure_of found.procedures)) }
     ensures judged { IfOk result (λ found. OnTrue found.are_judged
         (list_all (λ f. steps_judged f.proof) (map procedure_of found.procedures) ≡ true)) }
+    ensures instances { IfOk result (λ found. OnTrue found.are_instances
+        (EachHolds (map nameless_procedure (map procedure_of found.procedures)))) }
 {
     let mut procedures = Procedures::new(alloc);
     let mut are_settled = first.is_settled;
     let mut are_judged = first.is_judged;
+    let mut are_instances = first.are_instances;
     procedures.push(first.procedure)?;
     for _ in 0..u32::MAX {
         if !skip(tokens, "proc") {
@@ -225,11 +244,13 @@ fn more_procedures(
                 procedures,
                 are_settled,
                 are_judged,
+                are_instances,
             });
         }
-        let item = procedure(alloc, depth, logics, logic_names, tokens)?;
+        let item = procedure::<J>(alloc, depth, logics, logic_names, tokens)?;
         are_settled = are_settled && item.is_settled;
         are_judged = are_judged && item.is_judged;
+        are_instances = are_instances && item.are_instances;
         procedures.push(item.procedure)?;
     }
     Err(ReadFault::Memory)
@@ -237,7 +258,7 @@ fn more_procedures(
 
 /// One procedure or more, with the sorts of what they and the file declare; moves behind them.
 #[tactic(auto, unfolding(crate::specs::SortedTheories::sorted_procedures_at))]
-pub fn procedures(
+pub fn procedures<J: StepJudge>(
     alloc: Global,
     depth: u32,
     logics: &[LogicVar],
@@ -252,8 +273,10 @@ pub fn procedures(
         (procedure_settled (map logic_var_of logics.now)) (map procedure_of found.procedures)) }
     ensures judged { IfOk result (λ found. OnTrue found.are_judged
         (list_all (λ f. steps_judged f.proof) (map procedure_of found.procedures) ≡ true)) }
+    ensures instances { IfOk result (λ found. OnTrue found.are_instances
+        (EachHolds (map nameless_procedure (map procedure_of found.procedures)))) }
 {
     expect(tokens, "proc")?;
-    let first = procedure(alloc, depth, logics, logic_names, tokens)?;
-    more_procedures(alloc, first, depth, logics, logic_names, tokens)
+    let first = procedure::<J>(alloc, depth, logics, logic_names, tokens)?;
+    more_procedures::<J>(alloc, first, depth, logics, logic_names, tokens)
 }

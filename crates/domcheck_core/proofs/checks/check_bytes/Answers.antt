@@ -9,19 +9,19 @@ use Rattle.domcheck_core.proofs.checks.check_bytes.Goals as goal
 pub returns-in-Ok-clause-answer : goal.returns-in-Ok-clause-answer
 returns-in-Ok-clause-answer c =
     IfOk-weaker c.verdict.result _ _
-    (λ r h. judged (theory_of c.in-Ok.theory) c.in-Ok.ensures.is h) c.verdict.ensures
+    (λ r h. judged (theory_of c.in-Ok.read.theory) c.in-Ok.ensures.is h) c.verdict.ensures
 
 pub returns-in-Ok-clause-exactly : goal.returns-in-Ok-clause-exactly
 returns-in-Ok-clause-exactly c = λ s output a.
     IfOk-weaker c.verdict.result _ _
     (λ r h. one_check c.args.bytes.now r.status s r.output output
-    (judged (theory_of c.in-Ok.theory) c.in-Ok.ensures.is h) a) c.verdict.ensures
+    (judged (theory_of c.in-Ok.read.theory) c.in-Ok.ensures.is h) a) c.verdict.ensures
 
 pub returns-in-Ok-clause-soundness_of_yes : goal.returns-in-Ok-clause-soundness_of_yes
 returns-in-Ok-clause-soundness_of_yes c =
     IfOk-weaker c.verdict.result _ _
     (λ r h. sound c.args.bytes.now r.status r.output
-    (judged (theory_of c.in-Ok.theory) c.in-Ok.ensures.is h)) c.verdict.ensures
+    (judged (theory_of c.in-Ok.read.theory) c.in-Ok.ensures.is h)) c.verdict.ensures
 
 pub returns-in-Err-clause-answer : goal.returns-in-Err-clause-answer
 returns-in-Err-clause-answer c =

@@ -13,7 +13,7 @@ use Rattle.domcheck_core.proofs.Refusing.{handed_on, over, nothing}
 use Rattle.domcheck_core.proofs.file.spelled_theory.Goals as goal
 
 pub returns-in_err-source-clause-told : goal.returns-in_err-source-clause-told
-returns-in_err-source-clause-told c =
+returns-in_err-source-clause-told g c =
     let p = err_from_is_err_and c.from_residual.result c.from_residual.ensures.1 in
     handed_on (λ e. IfAnswer e (Unread SpellsTheory standard_limits.file_nesting bad_text_line
     c.args.bytes.now)) c.from_residual.result p.0 c.in_err-source.field-0.0 p.1 p.2
@@ -21,13 +21,13 @@ returns-in_err-source-clause-told c =
     c.in_err-source.field-0.0 c.in_err-source.ensures.told)
 
 pub returns-in-Ok-clause-small : goal.returns-in-Ok-clause-small
-returns-in-Ok-clause-small c =
+returns-in-Ok-clause-small g c =
     theory_small (subst (λ (z : List Lexeme). SpellsTheory (theory_of c.in-Ok.read.theory) z)
     (c.front.ensures ∙ c.in_ok-source.ensures.same) c.in-Ok.ensures.found)
     (few_lexemes c.args.bytes.now c.in_ok-source.ensures.small)
 
 pub returns-in-Err-BadText-clause-told : goal.returns-in-Err-BadText-clause-told
-returns-in-Err-BadText-clause-told c =
+returns-in-Err-BadText-clause-told g c =
     nothing SpellsTheory standard_limits.file_nesting bad_text_line c.args.bytes.now _
     c.in-Err-BadText.token (c.front.ensures ∙ c.in_ok-source.ensures.same)
     c.in_ok-source.ensures.passes

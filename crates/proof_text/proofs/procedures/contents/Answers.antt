@@ -33,7 +33,7 @@ told_in_scope logics f scope same told head proof both h k =
 
 pub returns-clause-settled : goal.returns-clause-settled
 unfolding scope_in
-returns-clause-settled c =
+returns-clause-settled g c =
     let both : c.if-is_head_settled.is_settled
     ≡ (c.set_head-is_head_settled.result && c.in_ok-proof.proof.are_settled) =
     elim c.if-is_head_settled.branch [

@@ -18,11 +18,11 @@ fails-raw faults.Memory ts e = tt
 fails-raw (faults.Text k) ts e = not-read-raw 128 4294967295 ts _ e
 
 pub of_whole-requires : goal.of_whole-requires
-of_whole-requires c =
+of_whole-requires g c =
     within 128 _ _ (fails-raw _ _ c.in-Err.ensures.read) _ (sym c.count.ensures)
 
 pub returns-in-Ok-clause-found : goal.returns-in-Ok-clause-found
-returns-in-Ok-clause-found c =
+returns-in-Ok-clause-found g c =
     let read = read-raw 128 4294967295 _ _ c.in-Ok.ensures.read in record {
       raw = read.0;
       spelled = found 128 _ _ read.1;
@@ -30,10 +30,10 @@ returns-in-Ok-clause-found c =
     }
 
 pub returns-in-Err-clause-bad_text : goal.returns-in-Err-clause-bad_text
-returns-in-Err-clause-bad_text c =
+returns-in-Err-clause-bad_text g c =
     none 128 _ _ (fails-raw _ _ c.in-Err.ensures.read) _ _ c.of_whole.ensures
 
 pub returns-in-Err-clause-fault_token : goal.returns-in-Err-clause-fault_token
-returns-in-Err-clause-fault_token c each =
+returns-in-Err-clause-fault_token g c each =
     fault_token 128 _ _ (fails-raw _ _ c.in-Err.ensures.read) _
     (sym c.count.ensures) _ c.of_whole.ensures each
