@@ -15,6 +15,15 @@ fn are_few_and_same(left: &[u8], right: &[u8]) -> bool
     }
 }
 
+// Whether the names are the same, byte by byte. It isn't inlined, so that the walk over a row keeps
+// nothing in memory for it.
+#[inline(never)]
+fn same_bytes(left: &str, right: &str) -> bool
+    ensures { result ≡ bytes_eq left.now right.now }
+{
+    left == right
+}
+
 // Whether the names are the same. Most that differ differ in length or in their last byte, and most
 // have one letter or two.
 #[inline(always)]
@@ -25,7 +34,7 @@ fn same_name(left: &str, right: &str) -> bool
     if own.len() != other.len() || own.last() != other.last() {
         return false;
     }
-    are_few_and_same(own, other) || left == right
+    are_few_and_same(own, other) || same_bytes(left, right)
 }
 
 /// The place of the name in the row: its length where the name isn't there.
