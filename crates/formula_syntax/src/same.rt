@@ -12,13 +12,14 @@ ghost use Rattle.formula_syntax.specs.Substitution.{below, replacing_each, repla
 
 use crate::binders::Binders;
 use crate::formulas::{Formula, Side};
+use crate::identical::is_identical;
 use crate::replaced::{Replacing, same_replaced_term, same_replaced_variable};
 use crate::variables::Pair;
 use dom_terms::{OutOfMemory, ProgVar, Term, same_data_sort, same_sort};
 use std::alloc::Global;
 
-/// Whether the formulas are equal up to the names of bound variables. No memory is taken.
-#[tactic(auto, using(crate::proofs::Replacing::formula_rules))]
+/// Whether the formulas are equal up to the names of bound variables. No memory is taken. Most that
+/// are equal are alike to the last name, which is found sooner.
 pub fn same_formula(_alloc: Global, left: &Formula, right: &Formula) -> Result<bool, OutOfMemory>
     requires left { parts (formula_of left.now) < 4294967295 }
     requires right { parts (formula_of right.now) < 4294967295 }
@@ -26,13 +27,18 @@ pub fn same_formula(_alloc: Global, left: &Formula, right: &Formula) -> Result<b
         (λ same. IsTrue same ↔ SameFormula (formula_of left.now) (formula_of right.now)) }
     ensures always { IsOk result }
 {
-    Ok(same_below(
-        left,
-        right,
-        &Replacing::Pairs(&[]),
-        &Binders::Empty,
-        &Binders::Empty,
-    ))
+    Ok(is_identical(left, right) || is_same_renamed(left, right))
+}
+
+// whether they are, where the names of bound variables may differ
+#[tactic(auto, using(crate::proofs::Replacing::formula_rules))]
+fn is_same_renamed(left: &Formula, right: &Formula) -> bool
+    requires left { parts (formula_of left.now) < 4294967295 }
+    requires right { parts (formula_of right.now) < 4294967295 }
+    ensures { IsTrue result ↔ SameFormula (formula_of left.now) (formula_of right.now) }
+{
+    let nothing = Replacing::Pairs(&[]);
+    same_below(left, right, &nothing, &Binders::Empty, &Binders::Empty)
 }
 
 /// Whether the second formula is the first with the term of a pair for each of its free variables

@@ -41,8 +41,8 @@ pub(crate) fn is_context(sort: Sort) -> bool
     matches!(sort, Sort::Context(_, _))
 }
 
-// the data sort that a shape has and that a context gives
-pub(crate) fn outer(sort: Sort) -> DataSort
+/// The data sort that a shape has and that a context gives; tree for a value.
+pub fn outer(sort: Sort) -> DataSort
     ensures { data_sort_of result ≡ model.outer (sort_of sort) }
 {
     match sort {
@@ -51,8 +51,8 @@ pub(crate) fn outer(sort: Sort) -> DataSort
     }
 }
 
-// the data sort of the hole of a context
-pub(crate) fn inner(sort: Sort) -> DataSort
+/// The data sort of the hole of a context, and of a shape its own; tree for a value.
+pub fn inner(sort: Sort) -> DataSort
     ensures { data_sort_of result ≡ model.inner (sort_of sort) }
 {
     match sort {
@@ -61,8 +61,8 @@ pub(crate) fn inner(sort: Sort) -> DataSort
     }
 }
 
-// the same sort but for the data sort that it gives
-pub(crate) fn giving(whole: DataSort, sort: Sort) -> Sort
+/// The same sort but for the data sort that it gives.
+pub fn giving(whole: DataSort, sort: Sort) -> Sort
     ensures { sort_of result ≡ model.with_outer (data_sort_of whole) (sort_of sort) }
 {
     match sort {
@@ -89,8 +89,8 @@ pub(crate) fn side_fits(side: Side, sort: Sort) -> bool
     }
 }
 
-// the sort of the left part of a concatenation of the sort
-pub(crate) fn left_at(side: Side, sort: Sort) -> Sort
+/// The sort of the left part of a concatenation of the sort.
+pub fn left_at(side: Side, sort: Sort) -> Sort
     ensures { sort_of result ≡ formulas.left_sort (side_of side) (sort_of sort) }
 {
     match side {
@@ -99,8 +99,8 @@ pub(crate) fn left_at(side: Side, sort: Sort) -> Sort
     }
 }
 
-// the sort of the right part of a concatenation of the sort
-pub(crate) fn right_at(side: Side, sort: Sort) -> Sort
+/// The sort of the right part of a concatenation of the sort.
+pub fn right_at(side: Side, sort: Sort) -> Sort
     ensures { sort_of result ≡ formulas.right_sort (side_of side) (sort_of sort) }
 {
     match side {

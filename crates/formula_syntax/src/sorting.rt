@@ -1,5 +1,5 @@
 // The first part at fault of a formula judged at a sort.
-ghost use Rattle.std.specs.Prelude.{◌≡◌, ◌+◌, ◌<◌, ◌^◌, ◌++◌, not, MatchResult, None, Some};
+ghost use Rattle.std.specs.Prelude.{◌≡◌, ◌+◌, ◌<◌, ◌^◌, ◌++◌, ◌∷◌, not, drop, MatchResult, None, Some};
 ghost use Rattle.std.specs.List.{position_from};
 ghost use Rattle.model_formulas.specs.Parts.{parts};
 ghost use Rattle.model_formulas.specs.WellSorted.{flags, first_fault};
@@ -101,10 +101,12 @@ fn fault_in_two(
     fault_in(right, right_sort, next)
 }
 
-// whether the formula itself, its parts apart, may be judged at the sort
+/// Whether the formula itself, its parts apart, may be judged at the sort.
 #[tactic(auto, using(crate::proofs::OneSort::same_sort_rules))]
-fn fits(formula: &Formula, sort: Sort) -> bool
-    ensures { result ≡ own.fits (formula_of formula.now) (sort_of sort) }
+pub fn fits(formula: &Formula, sort: Sort) -> bool
+    ensures own { result ≡ own.fits (formula_of formula.now) (sort_of sort) }
+    ensures first { flags (formula_of formula.now) (sort_of sort)
+        ≡ result ∷ drop 1 (flags (formula_of formula.now) (sort_of sort)) }
 {
     match formula {
         Formula::True | Formula::False | Formula::Not(_) => is_form(sort),
