@@ -14,3 +14,4 @@ pub mod Laws
 pub mod Fronts
 pub mod LinesAndSorts
 pub mod SameText
+pub mod NoBadToken

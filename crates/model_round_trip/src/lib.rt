@@ -1,15 +1,18 @@
 //! The laws that printed text reads back, with no Rust data. Promises that what a reader gives can
 //! be written, and that the text of what can be written, with literals of UTF-8, reads as what it
-//! was made from, but for the lines of steps. Stands on the grammar and on what is printed.
+//! was made from, but for the lines of steps; and that no token of what is spelled is bad. Stands
+//! on the grammar and on what is printed.
 #![tactic(auto)]
 
-ghost use Rattle.std.specs.Prelude.{◌≡◌, ℕ, List};
+ghost use Rattle.std.specs.Prelude.{◌≡◌, ℕ, List, Some, slice_get};
+ghost use Rattle.model_shapes.specs.Trees.{Trees};
 ghost use Rattle.model_formulas.specs.Formulas.{Named};
 ghost use Rattle.model_commands.specs.Commands.{Command};
 ghost use Rattle.model_commands.specs.Theories.{Theory};
-ghost use Rattle.model_text.specs.Lexemes.{Lexeme};
+ghost use Rattle.model_text.specs.Lexemes.{Lexeme, bad_lexeme};
 ghost use Rattle.model_text.specs.Nesting.{lexemes_of};
 ghost use Rattle.model_text.specs.FaultTokens.{AreOfTokens};
+ghost use Rattle.model_documents.specs.Grammar.{SpellsGrove};
 ghost use Rattle.model_grammar.specs.Formulas.{SpellsFormula};
 ghost use Rattle.model_grammar.specs.Commands.{SpellsCommand};
 ghost use Rattle.model_grammar.specs.Theories.{SpellsTheory};
@@ -99,4 +102,12 @@ pub fn printed_theories_read_back()
 /// The text of a theory has nothing of the lines of its steps: what is read of it has the same.
 pub fn lines_are_not_printed()
     ensures { (t u : Theory) → without_lines t ≡ without_lines u → theory_text t ≡ theory_text u }
+{}
+
+/// Where a theory or a grove is spelled, no token is bad.
+pub fn spelled_text_has_no_bad_token()
+    ensures theories { (t : Theory) (lexemes : List Lexeme) → SpellsTheory t lexemes
+        → (place : ℕ) → slice_get lexemes place ≡ Some bad_lexeme → ⊥ }
+    ensures groves { (g : Trees) (lexemes : List Lexeme) → SpellsGrove g lexemes
+        → (place : ℕ) → slice_get lexemes place ≡ Some bad_lexeme → ⊥ }
 {}
