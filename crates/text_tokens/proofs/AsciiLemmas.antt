@@ -25,7 +25,7 @@ use Rattle.text_tokens.specs.Tokens.{kind_of}
 use Rattle.text_tokens.proofs.NewlineLemmas.{token_none}
 use Rattle.text_tokens.proofs.PositionLemmas.{line_step}
 use Rattle.text_tokens.proofs.ReadingLemmas.{left_gap, left_token, left_none, gap_fits, token_fits}
-use Rattle.text_tokens.proofs.StartLemmas.{Begins, IsLone, by_start, one_character, nothing_in}
+use Rattle.text_tokens.proofs.StartLemmas.{Begins, IsLone, by_start, one_character}
 
 -- a piece at a place ends in the bytes
 pub gap_in : (bytes : List ℕ) (from n : ℕ) → from ≤ length bytes
@@ -116,12 +116,6 @@ pub digits_stand : (bytes : List ℕ) (place : ℕ) → place < length bytes
     → start.Digit ≡ start_of (slice_index bytes place)
     → digits_piece (digit_run (drop place bytes)) ≡ piece_at (drop place bytes)
 digits_stand bytes place within e = byte_starts bytes place start.Digit within e
-
--- where the bytes end, nothing does
-pub end_stands : (bytes : List ℕ) (place : ℕ) → length bytes ≤ place
-    → no_piece ≡ piece_at (drop place bytes)
-end_stands bytes place end =
-    nothing_in (drop place bytes) (omega (arith, length-drop place bytes, end))
 
 -- a space is a gap, and no newline
 space_drop : (bytes : List ℕ) (place : ℕ) → SpaceStands bytes place
@@ -221,7 +215,7 @@ none_left bytes from n line is end = ap (map lexeme_of)
     (left_none bytes bytes from true is.stands (eq-eqb (place_of bytes from) (length bytes)
     (place_is bytes from is.ascii is.within ∙ end)))
 
-bad_left : (bytes : List ℕ) (from n line : ℕ) → IsSettled bytes from n line None
+pub bad_left : (bytes : List ℕ) (from n line : ℕ) → IsSettled bytes from n line None
     → (from ≡ length bytes → ⊥) → left_behind bytes from ≡ bad_lexeme ∷ []
 bad_left bytes from n line is before_end = ap (map lexeme_of)
     (left_none bytes bytes from false is.stands (other (place_of bytes from == length bytes) refl))

@@ -12,3 +12,4 @@ pub mod SymbolLemmas
 pub mod BracketLemmas
 pub mod ReservedLemmas
 pub mod SourceLemmas
+pub mod WithinLemmas

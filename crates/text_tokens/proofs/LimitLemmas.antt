@@ -1,5 +1,5 @@
 -- The limits that a token passes, by its kind and its bytes.
-use Rattle.std.proofs.Common.{◌≡◌, ◌≢◌, ℕ, suc, ◌+◌, ◌-◌, ◌<◌, ◌≤◌, ◌==◌, Bool, true, false, List, [], ◌∷◌, length, take, drop, map, slice_index, nat_le, refl, sym, ap, ◌∙◌, subst, arith, length-drop, length-take}
+use Rattle.std.proofs.Common.{◌≡◌, ◌≢◌, ℕ, suc, ◌+◌, ◌-◌, ◌<◌, ◌≤◌, ◌==◌, Bool, true, false, List, [], ◌∷◌, length, take, drop, map, nat_le, refl, sym, ap, ◌∙◌, subst, arith, length-drop, length-take}
 use Rattle.std.specs.Prelude.{Some, None, if◌then◌else◌, encode_utf8_all}
 use Rattle.std.specs.Str.{IsAscii}
 use Rattle.std.specs.Str.Parse.{digits_value}
@@ -13,16 +13,13 @@ use Rattle.model_text.specs.Nesting.{lexeme_limit, open_behind, text_within, tok
 use Rattle.model_text.specs.Tokens.{backslash, letter_n, newline, unescaped, digits_fit, gap_piece, token_piece, no_piece, piece_at, place_of, line_of}
 use Rattle.model_text.specs.Tokens as model
 use Rattle.std.specs.Prelude.{bytes_eq, codes}
-use Rattle.text_tokens.specs.declared.pieces.Start.{Start}
 use Rattle.text_tokens.specs.declared.tokens.TokenKind.{TokenKind}
 use Rattle.text_tokens.specs.declared.tokens.TokenKind.TheVariants.{Word, LogicName, Number, Literal, Symbol, Bad}
 use Rattle.text_tokens.specs.Ascii.{Leads, Stays, left_behind, own_lexeme}
-use Rattle.text_tokens.specs.Pieces.{start_of}
 use Rattle.text_tokens.specs.Tokens.{kind_of}
-use Rattle.text_tokens.proofs.AsciiLemmas.{gap_in, token_in, behind_gap, byte_drop, lone_stands, token_first, own_ascii}
-use Rattle.text_tokens.proofs.BracketLemmas.{brackets, open_by, brackets_by}
+use Rattle.text_tokens.proofs.AsciiLemmas.{gap_in, token_in, behind_gap, token_first}
+use Rattle.text_tokens.proofs.BracketLemmas.{brackets}
 use Rattle.text_tokens.proofs.ReadingLemmas.{left_none}
-use Rattle.text_tokens.proofs.StartLemmas.{IsLone}
 
 -- a token that passes none, or the limit of brackets, or that of its text
 stays : (most before behind : ℕ) (x : Lexeme) → behind ≡ open_behind before x → behind ≤ most
@@ -198,16 +195,6 @@ token_leads bytes own place n most before behind kind within e own_is few each =
           (subst (λ o. Stays most before behind (own_lexeme kind o line)) own_is (each line));
     }
 
--- such as a word or a logic name
-pub plain_leads : (bytes : List ℕ) (place n most before : ℕ) (kind : TokenKind)
-    → place ≤ length bytes → before ≤ most → kind ≢ Symbol → kind ≢ Literal
-    → token_piece (kind_of kind) n ≡ piece_at (drop place bytes)
-    → Leads most before bytes place n before
-plain_leads bytes place n most before kind within few symbol literal e =
-    let own = take n (drop place bytes) in
-    token_leads bytes own place n most before before kind within e refl few
-    (λ line. other_stays most before line kind own symbol (λ e. absurd (literal e)) few)
-
 -- at one that passes one
 pub token_passes : (bytes own : List ℕ) (place n most before : ℕ) (kind : TokenKind)
     (limit : LimitKind)
@@ -237,35 +224,3 @@ end_limit bytes place most before few e = by_end (place_of bytes place == length
         ap (λ l. token_limit most before (map lexeme_of l))
         (left_none bytes bytes place false e test)
         ∙ bad_limit most before few
-
--- AT A SYMBOL OF ONE CHARACTER
-lone_own : (bytes : List ℕ) (place before : ℕ) (start : Start) → place < length bytes
-    → start ≡ start_of (slice_index bytes place)
-    → open_by start (slice_index bytes place) before
-    ≡ open_behind before (terminal (take 1 (drop place bytes)))
-lone_own bytes place before start within e =
-    let c = slice_index bytes place in
-    ap (λ s. open_by s c before) e ∙ brackets_by c before
-    ∙ sym (ap (λ l. open_behind before (terminal (take 1 l))) (byte_drop bytes place c within refl))
-
-pub lone_leads : (bytes : List ℕ) (place most before : ℕ) (start : Start) → IsAscii bytes
-    → place < length bytes → start ≡ start_of (slice_index bytes place) → IsLone start
-    → open_by start (slice_index bytes place) before ≤ most
-    → Leads most before bytes place 1 (open_by start (slice_index bytes place) before)
-lone_leads bytes place most before start ascii within e lone few =
-    let own = take 1 (drop place bytes) in
-    token_leads bytes own place 1 most before _ Symbol (omega (arith, within))
-    (lone_stands bytes place start within e lone) refl few
-    (λ line. symbol_stays most before _ line own (own_ascii bytes place 1 ascii)
-    (lone_own bytes place before start within e) few)
-
-pub lone_passes : (bytes : List ℕ) (place most before : ℕ) (start : Start) → IsAscii bytes
-    → place < length bytes → start ≡ start_of (slice_index bytes place) → IsLone start
-    → most < open_by start (slice_index bytes place) before
-    → token_limit most before (left_behind bytes place) ≡ Some nesting_limit
-lone_passes bytes place most before start ascii within e lone many =
-    let own = take 1 (drop place bytes) in
-    token_passes bytes own place 1 most before Symbol nesting_limit (omega (arith, within))
-    (lone_stands bytes place start within e lone) refl
-    (λ line. symbol_nests most before _ line own (own_ascii bytes place 1 ascii)
-    (lone_own bytes place before start within e) many)

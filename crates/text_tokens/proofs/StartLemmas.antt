@@ -1,10 +1,10 @@
 -- What the first character of a text says of the piece at its front.
-use Rattle.std.proofs.Common.{◌≡◌, ◌⊎◌, ⊎_elim, ℕ, ◌+◌, ◌<◌, ◌≤◌, ◌==◌, ◌&&◌, Bool, true, false, not, nat_eq, nat_lt, List, [], ◌∷◌, map, length, take, drop, get_or, codes, refl, sym, ap, ◌∙◌, subst, arith}
+use Rattle.std.proofs.Common.{◌≡◌, ◌⊎◌, ⊎_elim, ℕ, ◌+◌, ◌<◌, ◌==◌, ◌&&◌, Bool, true, false, not, nat_eq, nat_lt, List, [], ◌∷◌, map, length, take, drop, get_or, codes, refl, sym, ap, ◌∙◌, subst, arith}
 use Rattle.std.specs.Prelude.{if◌then◌else◌}
 use Rattle.std.specs.Cmp.Lexicographic.{pointwise}
 use Rattle.std.specs.Char.{is_ascii_alphabetic, is_ascii_digit}
 use Rattle.std.specs.List.{prefix_len, range_with_len, starts_with}
-use Rattle.std.proofs.lemmas.Bool.{and_parts, eq-eqb, lt-ltb, le-ltb, ltb-true}
+use Rattle.std.proofs.lemmas.Bool.{and_parts, eq-eqb, lt-ltb, ltb-true}
 use Rattle.std.proofs.lemmas.Bool.Decides.{nat_tests}
 use Rattle.std.proofs.lemmas.List.{length-map}
 use Rattle.std.proofs.lemmas.List.FromFn.{get_or-map-range_with_len}
@@ -66,10 +66,6 @@ pub some_longer : (kind : TokenKind) (n : ℕ) → 0 < n
     → token_piece kind n ≡ longer_token kind n no_piece
 some_longer kind n some = sym (ap (λ b. if b then token_piece kind n else no_piece)
     (lt-ltb 0 n some))
-
-pub none_longer : (kind : TokenKind) (n : ℕ) → n ≤ 0 → no_piece ≡ longer_token kind n no_piece
-none_longer kind n none = sym (ap (λ b. if b then token_piece kind n else no_piece)
-    (le-ltb 0 n none))
 
 not_same : (c k : ℕ) → not (c == k) ≡ true → c ≡ k → ⊥
 not_same c k other same =
@@ -189,6 +185,11 @@ symbol_piece c rest begins =
     let slash : nat_eq 47 c ≡ false = grind (arith, nat_tests) in
     let digit : is_ascii_digit c ≡ false = grind (arith, nat_tests) in
     symbol_only c rest low word quote dollar ∙ sym (no_gap c rest blank slash digit)
+
+-- no token begins with `!`
+pub mark_piece : no_piece ≡ piece_at (33 ∷ [])
+unfolding symbols
+mark_piece = symbol_only 33 [] (omega arith) refl refl refl ∙ sym (no_gap 33 [] refl refl refl)
 
 lone_piece : (c : ℕ) (rest : List ℕ) → is_lone c ≡ true
     → token_piece symbol_token 1 ≡ piece_at (c ∷ rest)

@@ -7,9 +7,9 @@ ghost use Rattle.model_text.specs.Tokens.{literal_token, token_text};
 ghost use Rattle.dom_terms.specs.Limits.{NamesLimit, limit_kind_of};
 ghost use Rattle.text_tokens.specs.Ascii.{IsStep, Stays, left_behind, own_lexeme};
 
-use crate::ascii_reading::{logic_from, part, piece_from, text_of, word_from};
+use crate::ascii_bytes::{part, piece_from, text_of};
 use crate::brackets::open_behind_symbol;
-use crate::pieces::{Piece, Start, start_of};
+use crate::pieces::Piece;
 use crate::tokens::TokenKind;
 use crate::written::{between_quotes, is_written_within};
 use dom_terms::LimitKind;
@@ -28,7 +28,12 @@ fn is_literal_within(own: &[u8]) -> bool
 // How many brackets are open behind a token with these bytes, where so many are open before it, or
 // the limit that it passes.
 #[inline(always)]
-fn open_behind_own(before: u64, most: u32, kind: TokenKind, own: &[u8]) -> Result<u64, LimitKind>
+pub(crate) fn open_behind_own(
+    before: u32,
+    most: u32,
+    kind: TokenKind,
+    own: &[u8],
+) -> Result<u32, LimitKind>
     requires ascii { IsAscii own.now }
     requires few { before ≤ most }
     ensures few { IfOk result (λ behind. behind ≤ most) }
@@ -40,11 +45,11 @@ fn open_behind_own(before: u64, most: u32, kind: TokenKind, own: &[u8]) -> Resul
 {
     match kind {
         TokenKind::Symbol => {
-            let behind = open_behind_symbol(before, text_of(own));
+            let behind = open_behind_symbol(u64::from(before), text_of(own));
             if behind > u64::from(most) {
                 Err(LimitKind::Nesting)
             } else {
-                Ok(behind)
+                Ok(behind as u32)
             }
         }
         TokenKind::Literal => if is_literal_within(own) {
@@ -59,12 +64,12 @@ fn open_behind_own(before: u64, most: u32, kind: TokenKind, own: &[u8]) -> Resul
 // Where the walk goes on from the place: how many bytes it passes, and how many brackets are open
 // behind them. None comes where no token begins, and the limit where the token there passes one.
 #[inline(always)]
-fn longer_at(
+fn step_at(
     bytes: &[u8],
     place: usize,
-    before: u64,
+    before: u32,
     most: u32,
-) -> Result<Option<(usize, u64)>, LimitKind>
+) -> Result<Option<(usize, u32)>, LimitKind>
     requires ascii { IsAscii bytes.now }
     requires few { before ≤ most }
     requires within { place ≤ length bytes.now }
@@ -82,50 +87,14 @@ fn longer_at(
     }
 }
 
-// The same, where the first byte mostly tells it.
-#[inline(always)]
-fn step_at(
-    bytes: &[u8],
-    place: usize,
-    before: u64,
-    most: u32,
-) -> Result<Option<(usize, u64)>, LimitKind>
-    requires ascii { IsAscii bytes.now }
-    requires few { before ≤ most }
-    requires within { place ≤ length bytes.now }
-    ensures { IsStep most before bytes.now place result }
-{
-    if place >= bytes.len() {
-        return Ok(None);
-    }
-    match start_of(bytes[place] as char) {
-        Start::Blank => Ok(Some((1, before))),
-        Start::LoneSymbol => Ok(Some((1, before))),
-        Start::Word => Ok(Some((word_from(bytes, place), before))),
-        Start::LogicName => {
-            let length = logic_from(bytes, place);
-            if length > 0 {
-                Ok(Some((length, before)))
-            } else {
-                Ok(None)
-            }
-        }
-        Start::Opening if before >= u64::from(most) => Err(LimitKind::Nesting),
-        Start::Opening => Ok(Some((1, before + 1))),
-        Start::Closing => Ok(Some((1, before.saturating_sub(1)))),
-        _ => longer_at(bytes, place, before, most),
-    }
-}
-
-/// The limit that the first token from the place on passes that passes one.
-pub fn ascii_limit(bytes: &[u8], from: usize, nesting: u32) -> Option<LimitKind>
+/// The limit that the first token of the bytes passes that passes one.
+pub fn ascii_limit(bytes: &[u8], nesting: u32) -> Option<LimitKind>
     requires ascii { IsAscii bytes.now }
     requires bounded { length bytes.now < 4294967295 }
-    requires within { from ≤ length bytes.now }
-    ensures { NamesLimit result (model.token_limit nesting 0 (left_behind bytes.now from)) }
+    ensures { NamesLimit result (model.token_limit nesting 0 (left_behind bytes.now 0)) }
 {
-    let mut open = 0u64;
-    let mut place = from;
+    let mut open = 0;
+    let mut place = 0;
     loop {
         match step_at(bytes, place, open, nesting) {
             Ok(Some((length, behind))) => {

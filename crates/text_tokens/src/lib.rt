@@ -1,12 +1,15 @@
 //! The tokens of the bytes of a file, as a list or each read where it is asked for, and what a
 //! reader asks of a token. Promises that they are exactly the tokens of the bytes as they are
-//! defined, and that each question is answered by what the grammar sees of the token.
+//! defined, up to the first that passes a limit, where a bad one stands, and that each question is
+//! answered by what the grammar sees of the token.
 //! Stands on the types of terms, on the definition of tokens and on the Unicode tables.
 #![tactic(auto)]
 
 mod ascii;
+mod ascii_bytes;
 mod ascii_limits;
 mod ascii_reading;
+mod ascii_watching;
 mod brackets;
 mod fronts;
 mod letters;
@@ -28,7 +31,7 @@ mod written;
 
 pub use fronts::Front;
 pub use lexemes::Lexeme;
-pub use limits::{front_limit, token_limit};
+pub use limits::{bytes_limit, token_limit};
 pub use numbers::number_value;
 pub use reading::token_list;
 pub use reserved::is_reserved;

@@ -1,18 +1,21 @@
 // The first token that passes a limit.
-ghost use Rattle.std.specs.Prelude.{◌≡◌, ◌<◌, length};
-ghost use Rattle.model_text.specs.Lexemes.{terminal};
+ghost use Rattle.std.specs.Prelude.{◌≡◌, ◌<◌, length, IfOk};
 ghost use Rattle.model_text.specs.Nesting as model;
+ghost use Rattle.model_text.specs.Nesting.{lexemes_of};
 ghost use Rattle.dom_terms.specs.Limits.{NamesLimit};
 ghost use Rattle.text_tokens.specs.Lexemes.{lexeme_seen, listed, lexemes_in};
 
+use crate::ascii_bytes::is_ascii;
 use crate::ascii_limits::ascii_limit;
 use crate::brackets::open_behind_symbol;
 use crate::fronts::Front;
 use crate::lexemes::Lexeme;
+use crate::reading::token_list;
 use crate::tokens::{TokenKind, Tokens};
 use crate::written::is_written_within;
-use dom_terms::LimitKind;
 use dom_terms::limits::TEXT_BYTES;
+use dom_terms::{LimitKind, OutOfMemory};
+use std::alloc::Global;
 
 // How many brackets are open behind the token, where so many are open before it.
 #[tactic(auto, using(crate::proofs::BracketLemmas::brackets))]
@@ -62,19 +65,26 @@ fn limit_in(tokens: Front, nesting: u32) -> Option<LimitKind>
 /// The limit that the first token passes that passes one: Nesting where more brackets are open at
 /// it than the most, and Text where it is a literal for a text of more than 4,096 bytes. None comes
 /// exactly where no token passes one.
-#[tactic(auto, unfolding(crate::specs::Lexemes::lexemes_in))]
-pub fn front_limit(tokens: Front, nesting: u32) -> Option<LimitKind>
-    ensures { NamesLimit result (model.token_limit nesting 0 (lexemes_in tokens.entry)) }
-{
-    match tokens {
-        Front::Listed(_) => limit_in(tokens, nesting),
-        Front::Ascii(front) => ascii_limit(front.bytes, front.from as usize, nesting),
-    }
-}
-
-/// The same for the tokens of a list.
 pub fn token_limit(tokens: &Tokens, nesting: u32) -> Option<LimitKind>
     ensures { NamesLimit result (model.token_limit nesting 0 (listed tokens.now)) }
 {
-    front_limit(Front::of_list(tokens), nesting)
+    limit_in(Front::of_list(tokens), nesting)
+}
+
+/// The limit that the first token of the bytes passes that passes one. OutOfMemory comes only where
+/// memory is refused.
+pub fn bytes_limit(
+    alloc: Global,
+    bytes: &[u8],
+    nesting: u32,
+) -> Result<Option<LimitKind>, OutOfMemory>
+    requires { length bytes.now < 4294967295 }
+    ensures { IfOk result
+        (λ limit. NamesLimit limit (model.token_limit nesting 0 (lexemes_of bytes.now))) }
+{
+    if is_ascii(bytes) {
+        return Ok(ascii_limit(bytes, nesting));
+    }
+    let tokens = token_list(alloc, bytes)?;
+    Ok(token_limit(&tokens, nesting))
 }

@@ -7,7 +7,7 @@ abbrev pub invariant-loop-length : goal.invariant-loop-length
 invariant-loop-length l = record {
   within : l.place ≤ length l.bytes;
   few : l.open ≤ l.nesting;
-  same : model.token_limit l.nesting 0 (left_behind l.bytes l.from)
+  same : model.token_limit l.nesting 0 (left_behind l.bytes 0)
       ≡ model.token_limit l.nesting l.open (left_behind l.bytes l.place);
 }
 

@@ -12,8 +12,10 @@ returns-then-behind-from-clause-err c = λ line.
     ∙ symbol_nests c.args.most c.args.before c.open_behind_symbol-behind.result line
     c.args.own.now c.requires.ascii
     (c.open_behind_symbol-behind.ensures
+    ∙ ap (λ n. open_behind n (terminal c.text_of.result.now)) c.from.ensures
     ∙ ap (λ t. open_behind c.args.before (terminal t)) c.text_of.ensures)
-    (subst (λ n. n < c.open_behind_symbol-behind.result) c.from.ensures c.if-behind-from.true)
+    (subst (λ n. n < c.open_behind_symbol-behind.result) c.from-in-Symbol.ensures
+    c.if-behind-from.true)
 
 pub returns-else-behind-from-clause-ok : goal.returns-else-behind-from-clause-ok
 returns-else-behind-from-clause-ok c = λ line.
@@ -22,8 +24,10 @@ returns-else-behind-from-clause-ok c = λ line.
     (symbol_stays c.args.most c.args.before c.open_behind_symbol-behind.result line
     c.args.own.now c.requires.ascii
     (c.open_behind_symbol-behind.ensures
+    ∙ ap (λ n. open_behind n (terminal c.text_of.result.now)) c.from.ensures
     ∙ ap (λ t. open_behind c.args.before (terminal t)) c.text_of.ensures)
-    (subst (λ n. c.open_behind_symbol-behind.result ≤ n) c.from.ensures c.if-behind-from.false))
+    (subst (λ n. c.open_behind_symbol-behind.result ≤ n) c.from-in-Symbol.ensures
+    c.if-behind-from.false))
 
 pub returns-in_default : goal.returns-in_default
 returns-in_default c = record {

@@ -1,5 +1,7 @@
-use Rattle.std.proofs.Common.{◌∙◌}
+use Rattle.std.proofs.Common.{ap, ◌∙◌}
+use Rattle.text_tokens.specs.Within.{within_limits}
 use Rattle.text_tokens.proofs.AsciiLemmas.{some_in, token_line}
+use Rattle.text_tokens.proofs.WithinLemmas.{rest_within}
 use Rattle.text_tokens.proofs.ascii.AsciiFront.behind_token.Goals as goal
 
 pub settled-requires-clause-within : goal.settled-requires-clause-within
@@ -10,4 +12,8 @@ pub settled-requires-clause-line : goal.settled-requires-clause-line
 settled-requires-clause-line c = token_line _ _ _ _ _ c.args.self.settled c.requires
 
 pub returns : goal.returns
-returns c = c.settled.ensures ∙ (some_in _ _ _ _ _ c.args.self.settled c.requires).1
+returns c =
+    let self = c.args.self in
+    c.settled.ensures ∙ ap (within_limits self.most self.open)
+    (some_in _ _ _ _ _ self.settled c.requires).1
+    ∙ rest_within self.most self.open _

@@ -4,6 +4,7 @@ use Rattle.std.specs.Str.{IsAscii}
 use Rattle.std.proofs.lemmas.Str.{IsAscii-take, IsAscii-drop}
 use Rattle.model_text.specs.Lexemes.{lexeme_at}
 use Rattle.text_tokens.proofs.AsciiLemmas.{of_kind, token_in, own_ascii, plain_first, literal_first}
+use Rattle.text_tokens.proofs.WithinLemmas.{first_same}
 use Rattle.text_tokens.specs.Ascii.{left_behind}
 use Rattle.text_tokens.specs.Lexemes.{meant}
 use Rattle.text_tokens.specs.Tokens.{kind_of}
@@ -32,17 +33,17 @@ returns-in-Literal c =
     let is = of_kind _ _ _ _ _ _ self.settled (c.requires ∙ ap Some c.in-Literal.is) in
     let text = c.text_of.ensures ∙ c.between_quotes.ensures
     ∙ ap (λ own. take (length own - 2) (drop 1 own)) c.part-own.ensures in
-    literal_first _ _ _ _ is
+    first_same self.most self.open _ _ (literal_first _ _ _ _ is
     ∙ ap (λ t. lexeme_at (kind_of Literal) (meant Literal true t) self.line
     ∷ drop 1 (left_behind self.bytes.now self.from)) (sym text)
     ∙ ap (λ k. lexeme_at (kind_of k) (meant k true c.text_of.result.now) self.line
-    ∷ drop 1 (left_behind self.bytes.now self.from)) (sym c.in-Literal.is)
+    ∷ drop 1 (left_behind self.bytes.now self.from)) (sym c.in-Literal.is))
 
 pub returns-in_default : goal.returns-in_default
 returns-in_default c =
     let self = c.args.self in
     let is = of_kind _ _ _ _ _ _ self.settled c.requires in
-    plain_first _ _ _ _ _ is c.in_default.not-Literal
+    first_same self.most self.open _ _ (plain_first _ _ _ _ _ is c.in_default.not-Literal
     ∙ ap (λ t. lexeme_at (kind_of c.args.kind) (meant c.args.kind false t) self.line
     ∷ drop 1 (left_behind self.bytes.now self.from))
-    (sym (c.text_of-in_default.ensures ∙ c.part-own.ensures))
+    (sym (c.text_of-in_default.ensures ∙ c.part-own.ensures)))

@@ -1,7 +1,7 @@
 use Rattle.std.proofs.Common.{◌≡◌, ◌-◌, ◌≤◌, length}
 use Rattle.model_text.specs.Tokens.{line_of}
 use Rattle.text_tokens.specs.Ascii.{left_behind}
-use Rattle.text_tokens.proofs.ascii_reading.settled.Given as goal
+use Rattle.text_tokens.proofs.ascii_watching.found.Given as goal
 
 abbrev pub invariant-loop-place : goal.invariant-loop-place
 invariant-loop-place l = record {

@@ -1,7 +1,7 @@
 use Rattle.std.proofs.Common.{◌+◌, ap, ◌∙◌, arith}
 use Rattle.text_tokens.proofs.AsciiLemmas.{gap_in, token_in, behind_gap, line_behind, space_gap, space_line}
 use Rattle.text_tokens.specs.Tokens.{kind_of}
-use Rattle.text_tokens.proofs.ascii_reading.settled.Goals as goal
+use Rattle.text_tokens.proofs.ascii_watching.found.Goals as goal
 
 pub overflow_add-place-in-Gap : goal.overflow_add-place-in-Gap
 overflow_add-place-in-Gap c =

@@ -1,6 +1,6 @@
 use Rattle.std.proofs.Common.{ℕ, ◌<◌, ◌≤◌, slice_index}
 use Rattle.std.specs.Str.{IsNotAscii}
-use Rattle.text_tokens.proofs.ascii_reading.is_ascii.Given as goal
+use Rattle.text_tokens.proofs.ascii_bytes.is_ascii.Given as goal
 
 -- no byte that was seen is greater, and a great one is one of them
 abbrev pub invariant-loop-byte : goal.invariant-loop-byte

@@ -1,5 +1,5 @@
 use Rattle.text_tokens.proofs.AsciiLemmas.{behind_gap, space_gap}
-use Rattle.text_tokens.proofs.ascii_reading.behind_space.Goals as goal
+use Rattle.text_tokens.proofs.ascii_bytes.behind_space.Goals as goal
 
 pub returns-then-is_space_at-clause-same : goal.returns-then-is_space_at-clause-same
 returns-then-is_space_at-clause-same c =
