@@ -1,5 +1,5 @@
 -- Loops over items that get their sorts, each of which tells whether its variables are settled.
-use Rattle.std.proofs.Common.{◌≡◌, ◌∙◌, sym, refl, ap, ℕ, ◌+◌, ◌<◌, ◌≤◌, List, [], ◌∷◌, length, map, take, Bool, true, false, ◌&&◌}
+use Rattle.std.proofs.Common.{◌≡◌, ◌∙◌, sym, refl, ap, ℕ, ◌+◌, ◌<◌, ◌≤◌, List, [], ◌∷◌, ◌++◌, length, map, take, Bool, true, false, ◌&&◌, append_assoc}
 use Rattle.std.proofs.Math.Bool.{and-true}
 use Rattle.std.proofs.Math.ListN.{set}
 use Rattle.std.proofs.lemmas.List.{map-append, take_all, take_more_set}
@@ -26,6 +26,12 @@ each_item p parts [] = refl
 each_item p parts (y ∷ ys) =
     (λ j. list_all p (parts y) && each_item p parts ys j)
     ∙ sym (list_all-append p (parts y) (flat_map parts ys))
+
+-- a test of each of three lists, of which it is told for the first two together
+pub last_behind : (p : Var → Bool) (xs ys zs : List Var)
+    → list_all p (xs ++ (ys ++ zs)) ≡ (list_all p (xs ++ ys) && list_all p zs)
+last_behind p xs ys zs =
+    ap (list_all p) (sym (append_assoc xs ys zs)) ∙ list_all-append p (xs ++ ys) zs
 
 -- two tests, of which the second is told only where the first passes
 pub then_both : (told more both : Bool) → told ≡ true → both ≡ more → both ≡ (told && more)

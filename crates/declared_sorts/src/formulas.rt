@@ -1,100 +1,167 @@
-// Formulas.
-ghost use Rattle.std.specs.Prelude.{◌≡◌, ◌++◌, ◌∷◌};
+// Formulas: one walk gives their variables the sorts of their declarations, counts their parts and
+// asks whether they may be judged.
+ghost use Rattle.std.specs.Prelude.{◌≡◌, ◌+◌, ◌<◌, ◌++◌, ◌∷◌, drop, true};
 ghost use Rattle.std.specs.List.{list_all};
 ghost use Rattle.model_commands.specs.CommandParts.{variables_of};
+ghost use Rattle.model_files.specs.FileFaults.{is_judged_at};
+ghost use Rattle.model_formulas.specs.Parts.{parts};
+ghost use Rattle.model_formulas.specs.WellSorted.{flags};
 ghost use Rattle.model_grammar.specs.Sorts.{sorted_formula, sorted_var};
+ghost use Rattle.dom_terms.specs.Sorts.{sort_of};
 ghost use Rattle.dom_terms.specs.Terms.{logic_var_of};
 ghost use Rattle.formula_syntax.specs.Formulas.{formula_of};
 ghost use Rattle.declared_sorts.specs.Declarations.{declared_of, scope_in};
+ghost use Rattle.declared_sorts.specs.Judged.{none_fails};
 ghost use Rattle.declared_sorts.specs.Known.{Knows};
 ghost use Rattle.declared_sorts.specs.Settled.{is_settled};
 
 use crate::declared::Declared;
+use crate::part_sorts::{applied, filled, joined, surrounded};
 use crate::sorted::Sorted;
 use crate::terms::set_terms;
-use dom_terms::LogicVar;
-use formula_syntax::Formula;
+use dom_terms::{DataSort, LogicVar, Sort};
+use formula_syntax::{Formula, fits, giving};
 
-impl Sorted for Formula {
-    ghost use Rattle.model_formulas.specs.Formulas as model;
+/// What is told of a formula whose variables got their sorts.
+#[derive(Clone, Copy)]
+pub struct ToldFormula {
+    /// Each variable in it is declared, first with the sort that it has.
+    pub is_settled: bool,
+    /// How much of the room is left behind its parts where it may be judged at the sort; 0 where
+    /// that isn't known.
+    pub left: u32,
+}
 
-    ghost Seen = { model.Named };
+// What is told where this is known of the variables, and so much room is left.
+fn told_of(is_settled: bool, left: u32) -> ToldFormula
+    ensures settled { result.is_settled ≡ is_settled }
+    ensures left { result.left ≡ left }
+{
+    ToldFormula { is_settled, left }
+}
 
-    ghost seen = { formula_of };
+/// Gives each variable of a formula the sort of its declaration, and tells whether each of them is
+/// declared, first with the sort that it then has, and whether the formula may be judged at the
+/// sort and has fewer parts than there is room.
+#[cycle(formula_sorting)]
+#[tactic(auto, using(crate::proofs::JudgedLaws::judged_rules))]
+pub fn set_formula(formula: &mut Formula, sort: Sort, room: u32, declared: &Declared) -> ToldFormula
+    requires { Knows declared.now }
+    ensures sorted { formula_of formula.new
+        ≡ sorted_formula (declared_of declared.now) (formula_of formula.old) }
+    ensures settled { result.is_settled ≡ list_all (is_settled (scope_in declared.now))
+        (variables_of (formula_of formula.new)) }
+    ensures judged { 0 < result.left
+        → is_judged_at (sort_of sort) (formula_of formula.new) ≡ true }
+    ensures small { 0 < result.left → parts (formula_of formula.new) + result.left ≡ room }
+{
+    let told = set_parts(formula, sort, room, declared);
+    let left = if told.left > 0 && fits(formula, sort) {
+        told.left - 1
+    } else {
+        0
+    };
+    told_of(told.is_settled, left)
+}
 
-    ghost sorted = { sorted_formula };
-
-    ghost variables = { variables_of };
-
-    #[cycle(formula_sorting)]
-    fn set_sorts(&mut self, declared: &Declared) -> bool
-        requires { Knows declared.now }
-        ensures sorted { formula_of self.new
-            ≡ sorted_formula (declared_of declared.now) (formula_of self.old) }
-        ensures settled { result ≡ list_all (is_settled (scope_in declared.now))
-            (variables_of (formula_of self.new)) }
-    {
-        match self {
-            Formula::True | Formula::False | Formula::Hole(_) => true,
-            Formula::EmptyForest | Formula::EmptyGrove => true,
-            Formula::And(left, right) => set_formulas(left, right, declared),
-            Formula::Or(left, right) => set_formulas(left, right, declared),
-            Formula::Imp(left, right) => set_formulas(left, right, declared),
-            Formula::Plus(left, right) => set_formulas(left, right, declared),
-            Formula::PlusHole(left, right) => set_formulas(left, right, declared),
-            Formula::HoleAdj(left, right) => set_formulas(left, right, declared),
-            Formula::Join(_, left, right) => set_formulas(left, right, declared),
-            Formula::App(_, left, right) => set_formulas(left, right, declared),
-            Formula::CtxAdj(_, left, right) => set_formulas(left, right, declared),
-            Formula::Not(inner) => inner.set_sorts(declared),
-            Formula::One(inner) => inner.set_sorts(declared),
-            Formula::Root(inner) => inner.set_sorts(declared),
-            Formula::Exists(variable, inner) => set_scope(variable, inner, declared),
-            Formula::Forall(variable, inner) => set_scope(variable, inner, declared),
-            Formula::Is(variable, inner) => set_scope(variable, inner, declared),
-            Formula::Eq(left, right) => set_terms(left, right, declared),
-            Formula::Le(left, right) => set_terms(left, right, declared),
-            Formula::Node(name, number, children, list) => {
-                let are_terms_settled = set_terms(name, number, declared);
-                let are_children_settled = children.set_sorts(declared);
-                let is_list_settled = list.set_sorts(declared);
-                are_terms_settled && are_children_settled && is_list_settled
-            }
-            Formula::Var(variable) => variable.set_sorts(declared),
-            Formula::Len(length) => length.set_sorts(declared),
+// The same, but that its parts alone are asked and counted, and not the formula itself.
+#[cycle(formula_sorting)]
+fn set_parts(formula: &mut Formula, sort: Sort, room: u32, declared: &Declared) -> ToldFormula
+    requires { Knows declared.now }
+    ensures sorted { formula_of formula.new
+        ≡ sorted_formula (declared_of declared.now) (formula_of formula.old) }
+    ensures settled { result.is_settled ≡ list_all (is_settled (scope_in declared.now))
+        (variables_of (formula_of formula.new)) }
+    ensures judged { 0 < result.left
+        → none_fails (drop 1 (flags (formula_of formula.new) (sort_of sort))) ≡ true }
+    ensures small { 0 < result.left → parts (formula_of formula.new) + result.left ≡ room + 1 }
+{
+    match formula {
+        Formula::True | Formula::False | Formula::Hole(_) => told_of(true, room),
+        Formula::EmptyForest | Formula::EmptyGrove => told_of(true, room),
+        Formula::Var(variable) => told_of(variable.set_sorts(declared), room),
+        Formula::Len(length) => told_of(length.set_sorts(declared), room),
+        Formula::Eq(left, right) => told_of(set_terms(left, right, declared), room),
+        Formula::Le(left, right) => told_of(set_terms(left, right, declared), room),
+        Formula::Not(p) => set_formula(p, sort, room, declared),
+        Formula::One(p) => set_formula(p, giving(DataSort::Tree, sort), room, declared),
+        Formula::Root(p) => set_formula(p, giving(DataSort::Tree, sort), room, declared),
+        Formula::Node(name, number, p, list) => {
+            let are_terms_settled = set_terms(name, number, declared);
+            let told = set_formula(p, giving(DataSort::Forest, sort), room, declared);
+            let is_list_settled = list.set_sorts(declared);
+            let is_settled = are_terms_settled && told.is_settled && is_list_settled;
+            told_of(is_settled, told.left)
         }
+        Formula::Exists(x, p) => set_scope(x, p, sort, room, declared),
+        Formula::Forall(x, p) => set_scope(x, p, sort, room, declared),
+        Formula::Is(x, p) => {
+            let is_variable_settled = x.set_sorts(declared);
+            let told = set_formula(p, x.sort, room, declared);
+            told_of(is_variable_settled && told.is_settled, told.left)
+        }
+        Formula::And(p, q) => set_two(p, q, (sort, sort), room, declared),
+        Formula::Or(p, q) => set_two(p, q, (sort, sort), room, declared),
+        Formula::Imp(p, q) => set_two(p, q, (sort, sort), room, declared),
+        Formula::Plus(p, q) => set_two(p, q, (sort, sort), room, declared),
+        Formula::PlusHole(p, q) => {
+            set_two(p, q, (sort, Sort::Shape(DataSort::Grove)), room, declared)
+        }
+        Formula::Join(side, p, q) => set_two(p, q, joined(*side, sort), room, declared),
+        Formula::App(hole, p, q) => set_two(p, q, applied(*hole, sort), room, declared),
+        Formula::HoleAdj(p, q) => set_two(p, q, filled(sort), room, declared),
+        Formula::CtxAdj(whole, p, q) => set_two(p, q, surrounded(*whole, sort), room, declared),
     }
 }
 
-// Gives each variable of two formulas the sort of its declaration, and tells whether each of them
-// is declared, first with the sort that it then has.
+// The same of two formulas, one behind the other, which are asked and counted too.
 #[cycle(formula_sorting)]
-fn set_formulas(left: &mut Formula, right: &mut Formula, declared: &Declared) -> bool
+#[tactic(auto, using(crate::proofs::JudgedLaws::judged_rules))]
+fn set_two(
+    left: &mut Formula,
+    right: &mut Formula,
+    sorts: (Sort, Sort),
+    room: u32,
+    declared: &Declared,
+) -> ToldFormula
     requires { Knows declared.now }
     ensures left { formula_of left.new
         ≡ sorted_formula (declared_of declared.now) (formula_of left.old) }
     ensures right { formula_of right.new
         ≡ sorted_formula (declared_of declared.now) (formula_of right.old) }
-    ensures settled { result ≡ list_all (is_settled (scope_in declared.now))
+    ensures settled { result.is_settled ≡ list_all (is_settled (scope_in declared.now))
         (variables_of (formula_of left.new) ++ variables_of (formula_of right.new)) }
+    ensures judged { 0 < result.left → none_fails (flags (formula_of left.new) (sort_of sorts.0)
+        ++ flags (formula_of right.new) (sort_of sorts.1)) ≡ true }
+    ensures small { 0 < result.left → parts (formula_of left.new)
+        + (parts (formula_of right.new) + result.left) ≡ room }
 {
-    let is_left_settled = left.set_sorts(declared);
-    let is_right_settled = right.set_sorts(declared);
-    is_left_settled && is_right_settled
+    let first = set_formula(left, sorts.0, room, declared);
+    let second = set_formula(right, sorts.1, first.left, declared);
+    told_of(first.is_settled && second.is_settled, second.left)
 }
 
 // The same of a variable and the formula behind it.
 #[cycle(formula_sorting)]
-fn set_scope(variable: &mut LogicVar, inner: &mut Formula, declared: &Declared) -> bool
+fn set_scope(
+    variable: &mut LogicVar,
+    inner: &mut Formula,
+    sort: Sort,
+    room: u32,
+    declared: &Declared,
+) -> ToldFormula
     requires { Knows declared.now }
     ensures variable { logic_var_of variable.new
         ≡ sorted_var (declared_of declared.now) (logic_var_of variable.old) }
     ensures inner { formula_of inner.new
         ≡ sorted_formula (declared_of declared.now) (formula_of inner.old) }
-    ensures settled { result ≡ list_all (is_settled (scope_in declared.now))
+    ensures settled { result.is_settled ≡ list_all (is_settled (scope_in declared.now))
         (logic_var_of variable.new ∷ variables_of (formula_of inner.new)) }
+    ensures judged { 0 < result.left
+        → none_fails (flags (formula_of inner.new) (sort_of sort)) ≡ true }
+    ensures small { 0 < result.left → parts (formula_of inner.new) + result.left ≡ room }
 {
     let is_variable_settled = variable.set_sorts(declared);
-    let is_inner_settled = inner.set_sorts(declared);
-    is_variable_settled && is_inner_settled
+    let told = set_formula(inner, sort, room, declared);
+    told_of(is_variable_settled && told.is_settled, told.left)
 }

@@ -13,3 +13,4 @@ pub mod LimitLaws
 pub mod ToldLaws
 pub mod FaultLaws
 pub mod ModifiedLaws
+pub mod AloneLaws

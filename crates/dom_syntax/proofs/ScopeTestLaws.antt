@@ -88,7 +88,7 @@ pub absent-passes : (b : Bool) → passes b false true ≡ b
 absent-passes true = refl
 absent-passes false = refl
 
-all-weaker : (p q : Var → Bool) → ((x : Var) → p x ≡ true → q x ≡ true) → (xs : List Var)
+pub all-weaker : (p q : Var → Bool) → ((x : Var) → p x ≡ true → q x ≡ true) → (xs : List Var)
     → list_all p xs ≡ true → list_all q xs ≡ true
 all-weaker p q f [] all = refl
 all-weaker p q f (x ∷ xs) all =

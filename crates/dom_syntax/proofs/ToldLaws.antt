@@ -6,9 +6,11 @@ use Rattle.std.specs.List.{list_all}
 use Rattle.std.proofs.lemmas.Bool.{and_parts}
 use Rattle.theory_syntax.specs.declared.theories.Procedure.{Procedure}
 use Rattle.theory_syntax.specs.Theories.{procedure_of}
+use Rattle.declared_sorts.specs.Judged.{head_judged, steps_judged}
 use Rattle.declared_sorts.specs.Settled.{head_settled, procedure_settled, step_settled}
 use Rattle.dom_syntax.specs.declared.scopes.Names.{Names}
 use Rattle.dom_syntax.specs.declared.scopes.Scope.{Scope}
+use Rattle.dom_syntax.specs.Judged.{HeadJudged, StepsJudged, ProcedureJudged}
 use Rattle.dom_syntax.specs.Scopes.{names_in, procedure_in, theory_in}
 use Rattle.dom_syntax.specs.ScopeTests.{HeadSettled}
 
@@ -38,7 +40,7 @@ told-in see p told whole xs e all i x lt is =
     told-at see p told xs i x lt is
     (subst (λ zs. OnTrue told (list_all p (map see zs) ≡ true)) (sym e) all)
 
--- of the header of a procedure in its scope, and of its steps
+-- that they are settled, of the header of a procedure in its scope, and of its steps
 pub told-inside : (scope : Scope) (names : Names) (f : Procedure) → scope.names.now ≡ names
     → scope.procedure.now ≡ f → (told : Bool)
     → OnTrue told (procedure_settled (theory_in names).logic (procedure_of f) ≡ true)
@@ -49,3 +51,11 @@ told-inside scope names f e h told settled =
     (list_all (step_settled (names_in scope)) (procedure_in scope).proof)
     (subst (λ (b : Bool). OnTrue told (b ≡ true))
     (λ j. procedure_settled (theory_in (sym e j)).logic (procedure_of (sym h j))) settled)
+
+-- that they are judged, of the same
+pub judged-inside : (scope : Scope) (f : Procedure) → scope.procedure.now ≡ f → (told : Bool)
+    → ProcedureJudged told (procedure_of f)
+    → HeadJudged told (procedure_in scope) × StepsJudged told (procedure_in scope)
+judged-inside scope f h told judged =
+    told-both told (head_judged (procedure_in scope)) (steps_judged (procedure_in scope).proof)
+    (subst (λ g. ProcedureJudged told (procedure_of g)) (sym h) judged)

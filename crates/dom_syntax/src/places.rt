@@ -1,20 +1,24 @@
 // The places of a theory, and the first kind of fault at one.
-ghost use Rattle.std.specs.Prelude.{◌≡◌, ◌&&◌, ◌++◌, Bool, map, true, IfOk};
+ghost use Rattle.std.specs.Prelude.{◌≡◌, ◌&&◌, ◌++◌, [], Bool, map, true, IfOk};
 ghost use Rattle.std.specs.Bool.{OnTrue};
 ghost use Rattle.std.specs.Option.{option_map};
 ghost use Rattle.std.specs.List.{list_all};
 ghost use Rattle.model_shapes.specs.Sorts.{shape};
-ghost use Rattle.model_commands.specs.CommandParts.{arguments_of, variables_of};
+ghost use Rattle.model_commands.specs.CommandParts.{arguments_of, locals_of, variables_of};
 ghost use Rattle.model_files.specs.FileFaults as model;
+ghost use Rattle.model_files.specs.FileFaults.{declared_by};
 ghost use Rattle.dom_terms.specs.Sorts.{sort_of};
 ghost use Rattle.dom_terms.specs.Terms.{logic_var_of, term_of};
 ghost use Rattle.formula_syntax.specs.Formulas.{formula_of};
+ghost use Rattle.theory_syntax.specs.Commands.{command_of};
 ghost use Rattle.theory_syntax.specs.Judgements.{judgement_of, reason_of, step_of};
+ghost use Rattle.theory_syntax.specs.Theories.{procedure_of};
 ghost use Rattle.dom_syntax.specs.Contents.{commands_there, variables_in};
 ghost use Rattle.dom_syntax.specs.Faults.{kind_of};
 ghost use Rattle.dom_syntax.specs.Heads.{earlier_for};
 ghost use Rattle.dom_syntax.specs.Scopes.{HasNames, IsScope, names_in, procedure_in, theory_in};
 ghost use Rattle.dom_syntax.specs.ScopeTests.{HeadSettled, StepSettled};
+ghost use Rattle.dom_syntax.specs.Judged.{HeadJudged};
 ghost use Rattle.declared_sorts.specs.Settled.{is_settled};
 ghost use Rattle.model_files.specs.Sizes.{IsSmall, JudgementIsSmall};
 
@@ -29,7 +33,7 @@ use crate::variable_tests::all_in_formula;
 use dom_terms::{LogicVar, OutOfMemory, Sort, Term};
 use formula_syntax::{Formula, sorted_as};
 use std::alloc::Global;
-use theory_syntax::{Judgement, Reason, Step};
+use theory_syntax::{Command, Judgement, Procedure, Reason, Step};
 
 // The kinds in the order in which they count at one place.
 const KINDS: [FileKind; 9] = [
@@ -176,6 +180,8 @@ pub(crate) struct Header<'a> {
     pub(crate) is_new: bool,
     /// Its variables are declared, with their sorts; where not, that isn't known.
     pub(crate) are_settled: bool,
+    /// Both formulas may be judged at its sort; where not, that isn't known.
+    pub(crate) is_judged: bool,
 }
 
 // Whether both formulas of the header may be judged at its sort.
@@ -191,7 +197,41 @@ fn is_head_judged(scope: &Scope) -> bool
     is_judged_at(&scope.procedure.pre, sort) && is_judged_at(&scope.procedure.post, sort)
 }
 
-// Whether the program variables of both formulas are such as they may have.
+// Whether the command can be seen at once to have no local variables.
+fn has_no_locals(command: &Command) -> bool
+    ensures { OnTrue result (locals_of (command_of command.now) ≡ []) }
+{
+    match command {
+        Command::Skip | Command::Assign(_, _) | Command::Call(_, _, _) => true,
+        _ => false,
+    }
+}
+
+// Whether the procedure can be seen at once to declare nothing but its parameters.
+fn has_params_alone(procedure: &Procedure) -> bool
+    ensures { OnTrue result
+        (declared_by (procedure_of procedure.now) ≡ (procedure_of procedure.now).params) }
+{
+    procedure.results.is_empty() && has_no_locals(&procedure.body)
+}
+
+// Whether the program variables of both formulas are such as they may have. Settled ones are where
+// nothing but parameters is declared.
+fn is_settled_head_in_scope(scope: &Scope, are_settled: bool) -> bool
+    requires scope { IsScope scope.now }
+    requires settled { HeadSettled are_settled scope.now }
+    ensures { result ≡ (model.only_among (procedure_in scope.now).params
+        (variables_of (procedure_in scope.now).pre)
+        && model.only_among ((procedure_in scope.now).params ++ (procedure_in scope.now).results)
+        (variables_of (procedure_in scope.now).post)) }
+{
+    if are_settled && has_params_alone(scope.procedure) {
+        return true;
+    }
+    is_head_in_scope(scope)
+}
+
+// The same, asked of each variable.
 #[tactic(auto, using(crate::proofs::PlaceLaws::scope_rules))]
 fn is_head_in_scope(scope: &Scope) -> bool
     requires { IsScope scope.now }
@@ -215,7 +255,8 @@ impl<'a> Place for Header<'a> {
     ghost ready = { λ head. IsScope head.scope.now
         × IsSmall (procedure_in head.scope.now).pre
         × IsSmall (procedure_in head.scope.now).post
-        × HeadSettled head.are_settled head.scope.now };
+        × HeadSettled head.are_settled head.scope.now
+        × HeadJudged head.is_judged (procedure_in head.scope.now) };
 
     ghost tests = { λ head kind. model.header (theory_in head.scope.now.names.now)
         (earlier_for head.is_new (procedure_in head.scope.now)) (procedure_in head.scope.now)
@@ -225,8 +266,10 @@ impl<'a> Place for Header<'a> {
     fn passes(&self, kind: FileKind) -> Result<bool, OutOfMemory> {
         match kind {
             FileKind::Twice => Ok(self.is_new && !self.scope.variables.repeats),
-            FileKind::Sort => Ok(is_head_judged(self.scope) && self.passes_inside(kind)?),
-            FileKind::Scope => Ok(is_head_in_scope(self.scope)),
+            FileKind::Sort => Ok(
+                (self.is_judged || is_head_judged(self.scope)) && self.passes_inside(kind)?,
+            ),
+            FileKind::Scope => Ok(is_settled_head_in_scope(self.scope, self.are_settled)),
             _ => self.passes_inside(kind),
         }
     }

@@ -11,6 +11,7 @@ ghost use Rattle.theory_syntax.specs.Theories.{procedure_of, theory_of};
 ghost use Rattle.dom_syntax.specs.Faults.{Reports, step_fault, kind_of};
 ghost use Rattle.dom_syntax.specs.Scopes.{HasNames, IsScope, names_in, procedure_in, theory_in};
 ghost use Rattle.dom_syntax.specs.ScopeTests.{HeadSettled, StepSettled};
+ghost use Rattle.dom_syntax.specs.Judged.{HeadJudged, ProcedureJudged};
 ghost use Rattle.dom_syntax.specs.Judged.{StepJudged, StepsJudged, TheoryJudged};
 ghost use Rattle.declared_sorts.specs.Settled.{procedure_settled, step_settled, theory_settled};
 ghost use Rattle.model_files.specs.Sizes.{StepsAreSmall, IsSmall, JudgementIsSmall};
@@ -54,7 +55,7 @@ impl From<OutOfMemory> for ProgramFault {
 pub struct Told {
     /// Each of its variables is declared, first with the sort that it has.
     pub are_settled: bool,
-    /// The formulas of each step may be judged at its sort.
+    /// The formulas of each header and of each step may be judged at their sorts.
     pub are_judged: bool,
 }
 
@@ -129,8 +130,8 @@ fn check_steps(alloc: Global, scope: &Scope, procedure: u32, told: Told) -> Resu
     Ok(())
 }
 
-// Whether the header of the procedure, whose name is new or not, is well formed. That its variables
-// are settled may be told.
+// Whether the header of the procedure, whose name is new or not, is well formed. What is known of
+// it may be told.
 fn check_header(
     alloc: Global,
     scope: &Scope,
@@ -142,6 +143,7 @@ fn check_header(
     requires pre { IsSmall (procedure_in scope.now).pre }
     requires post { IsSmall (procedure_in scope.now).post }
     requires settled { HeadSettled told.are_settled scope.now }
+    requires judged { HeadJudged told.are_judged (procedure_in scope.now) }
     ensures { (earlier : List (ProcedureOf Named))
         → not (list_any (λ g. bytes_eq (procedure_in scope.now).name g.name) earlier) ≡ is_new
         → Reports result (step_fault procedure 0
@@ -153,6 +155,7 @@ fn check_header(
         scope,
         is_new,
         are_settled,
+        is_judged: told.are_judged,
     };
     verdict(procedure, 0, first_kind(&head)?)
 }
@@ -172,7 +175,7 @@ fn check_procedure(
     requires few { length (procedure_of procedure.now).proof < 4294967295 }
     requires settled { OnTrue told.are_settled (procedure_settled (theory_in names.now).logic
         (procedure_of procedure.now) ≡ true) }
-    requires judged { StepsJudged told.are_judged (procedure_of procedure.now) }
+    requires judged { ProcedureJudged told.are_judged (procedure_of procedure.now) }
     ensures { (earlier : List (ProcedureOf Named))
         → not (list_any (λ g. bytes_eq (procedure_of procedure.now).name g.name) earlier) ≡ is_new
         → Reports result (model.first_fault_at (record {

@@ -17,8 +17,8 @@ ghost use Rattle.logic_text.specs.DeclaredFormulas.{declared_vars, SpellsFormula
 
 use crate::formula_reading::formula;
 use crate::grove_reading::MOST_DEPTH;
-use declared_sorts::{Declared, Names, Sorted, names_of};
-use dom_terms::{Copied, LogicVar, LogicVars, OutOfMemory, ProgVar, Sort, Vars};
+use declared_sorts::{Declared, Names, names_of, set_formula};
+use dom_terms::{Copied, LogicVar, LogicVars, OutOfMemory, ProgVar, Sort, ValueSort, Vars};
 use formula_syntax::{AnyVar, Formula};
 use std::alloc::Global;
 use text_tokens::{Front, Tokens};
@@ -68,8 +68,8 @@ fn set_with(
 {
     let variable_names = names_of(alloc, variables)?;
     let declared = Declared::new(variables, &variable_names, logics, logic_names);
-    // what is told of its variables is not asked here
-    let _ = formula.set_sorts(&declared);
+    // nothing is asked of it here, so there is no room
+    let _ = set_formula(formula, Sort::Value(ValueSort::Node), 0, &declared);
     Ok(())
 }
 

@@ -1,4 +1,4 @@
--- A loop over items of which a test is told where it passes; where not, it isn't known.
+-- Tests that are told where they pass; where not, it isn't known: two of them, and those of items.
 use Rattle.std.proofs.Common.{◌≡◌, ◌∙◌, sym, refl, ap, List, [], ◌∷◌, ◌++◌, Bool, true, false, ◌&&◌}
 use Rattle.std.proofs.lemmas.Bool.{OnTrue_at, OnTrue_from}
 use Rattle.std.proofs.lemmas.List.Folds.{list_all-append}
@@ -16,4 +16,15 @@ one_judged p items item true true both all e same before now =
 one_judged p items item true false both all e same before now =
     OnTrue_from both _ (λ h. let no : false ≡ true = sym e ∙ h in absurd cc)
 one_judged p items item false more both all e same before now =
+    OnTrue_from both _ (λ h. let no : false ≡ true = sym e ∙ h in absurd cc)
+
+-- two tests of which it is told
+pub both_judged : (first second told more both : Bool) → both ≡ (told && more)
+    → OnTrue told (first ≡ true) → OnTrue more (second ≡ true)
+    → OnTrue both ((first && second) ≡ true)
+both_judged first second true true both e before now =
+    OnTrue_from both _ (λ h. (λ j. OnTrue_at refl before j && OnTrue_at refl now j))
+both_judged first second true false both e before now =
+    OnTrue_from both _ (λ h. let no : false ≡ true = sym e ∙ h in absurd cc)
+both_judged first second false more both e before now =
     OnTrue_from both _ (λ h. let no : false ≡ true = sym e ∙ h in absurd cc)

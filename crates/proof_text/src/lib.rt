@@ -11,7 +11,6 @@ mod bracketed;
 mod commands;
 mod conditions;
 mod declarations;
-mod judged;
 mod judgements;
 mod judging;
 mod lines;

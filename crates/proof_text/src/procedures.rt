@@ -1,32 +1,33 @@
 // Procedures.
-ghost use Rattle.std.specs.Prelude.{◌≡◌, [], ◌∷◌, ◌++◌, IfOk, map, true};
+ghost use Rattle.std.specs.Prelude.{◌≡◌, ◌&&◌, [], ◌∷◌, ◌++◌, IfOk, map, true};
 ghost use Rattle.std.specs.Bool.{OnTrue};
 ghost use Rattle.std.specs.List.{list_all};
 ghost use Rattle.model_commands.specs.CommandParts.{variables_of, variables_of_command};
 ghost use Rattle.model_commands.specs.Theories.{nameless_procedure};
+ghost use Rattle.model_files.specs.FileFaults.{is_judged_at};
 ghost use Rattle.model_grammar.specs.Sorts.{sorted_command, sorted_formula};
-ghost use Rattle.dom_terms.specs.Sorts.{data_sort_of};
+ghost use Rattle.dom_terms.specs.Sorts.{data_sort_of, sort_of};
 ghost use Rattle.dom_terms.specs.Terms.{logic_var_of, prog_var_of};
 ghost use Rattle.formula_syntax.specs.Formulas.{formula_of};
 ghost use Rattle.theory_syntax.specs.Commands.{command_of};
 ghost use Rattle.theory_syntax.specs.Theories.{procedure_of};
 ghost use Rattle.cited_steps.specs.Held.{AllHold, EachHolds};
 ghost use Rattle.declared_sorts.specs.Declarations.{declared_of, scope_in};
+ghost use Rattle.declared_sorts.specs.Judged.{procedure_judged};
 ghost use Rattle.declared_sorts.specs.Known.{Knows};
 ghost use Rattle.declared_sorts.specs.Names.{of_logic, Tells};
 ghost use Rattle.declared_sorts.specs.Settled.{is_settled, procedure_settled};
 ghost use Rattle.token_readers.specs.Giving.{Gives};
 ghost use Rattle.token_readers.specs.Leaves.{lexemes_in};
 ghost use Rattle.token_readers.specs.Reading.{with_front};
-ghost use Rattle.proof_text.specs.Judged.{steps_judged};
 ghost use Rattle.proof_text.specs.SortedTheories.{sorted_contents_at, sorted_procedure_tail, more_sorted_procedures_at, sorted_procedures_at};
 
 use crate::commands::command;
 use crate::declarations::declarations;
 use crate::judging::StepJudge;
 use crate::sorts::data_sort;
-use crate::steps::steps;
-use declared_sorts::{Declared, Names, Sorted, declared_in, names_of};
+use crate::steps::{ReadSteps, steps};
+use declared_sorts::{Declared, Names, Sorted, Told, declared_in, names_of, set_formulas};
 use dom_terms::{DataSort, LogicVar, Sort, Text, Vars};
 use formula_syntax::Formula;
 use logic_text::formula;
@@ -51,7 +52,8 @@ struct ReadProcedure {
     procedure: Procedure,
     // each of them is declared, first with the sort that it has
     is_settled: bool,
-    // the formulas of each step may be judged at its sort; where false, that isn't known
+    // the formulas of its header and of each step may be judged at their sorts; where false, that
+    // isn't known
     is_judged: bool,
     // each entailment in it is an instance of the rule that its step names; where false, that isn't
     // known
@@ -90,8 +92,16 @@ fn unproved(alloc: Global, header: Header, pre: Formula, post: Formula, body: Co
 }
 
 // Gives each variable of the requires, the ensures and the body of a procedure the sort of its
-// declaration, and tells whether each of them is declared, first with the sort that it then has.
-fn set_head(pre: &mut Formula, post: &mut Formula, body: &mut Command, declared: &Declared) -> bool
+// declaration, and tells whether each of them is declared, first with the sort that it then has,
+// and whether the requires and the ensures may be judged at the sort.
+#[tactic(auto, using(declared_sorts::proofs::Loops::last_behind))]
+fn set_head(
+    pre: &mut Formula,
+    post: &mut Formula,
+    body: &mut Command,
+    sort: Sort,
+    declared: &Declared,
+) -> Told
     requires { Knows declared.now }
     ensures pre { formula_of pre.new
         ≡ sorted_formula (declared_of declared.now) (formula_of pre.old) }
@@ -99,14 +109,29 @@ fn set_head(pre: &mut Formula, post: &mut Formula, body: &mut Command, declared:
         ≡ sorted_formula (declared_of declared.now) (formula_of post.old) }
     ensures body { command_of body.new
         ≡ sorted_command (declared_of declared.now) (command_of body.old) }
-    ensures settled { result ≡ list_all (is_settled (scope_in declared.now))
+    ensures settled { result.is_settled ≡ list_all (is_settled (scope_in declared.now))
         (variables_of (formula_of pre.new) ++ (variables_of (formula_of post.new)
         ++ variables_of_command (command_of body.new))) }
+    ensures judged { OnTrue result.is_judged ((is_judged_at (sort_of sort) (formula_of pre.new)
+        && is_judged_at (sort_of sort) (formula_of post.new)) ≡ true) }
 {
-    let is_pre_settled = pre.set_sorts(declared);
-    let is_post_settled = post.set_sorts(declared);
+    let formulas = set_formulas(pre, post, sort, declared);
     let is_body_settled = body.set_sorts(declared);
-    is_pre_settled && is_post_settled && is_body_settled
+    Told {
+        is_settled: formulas.is_settled && is_body_settled,
+        is_judged: formulas.is_judged,
+    }
+}
+
+// What is told of the header and of the steps behind it together.
+fn told_of(head: Told, proof: &ReadSteps) -> Told
+    ensures settled { result.is_settled ≡ (head.is_settled && proof.now.are_settled) }
+    ensures judged { result.is_judged ≡ (head.is_judged && proof.now.are_judged) }
+{
+    Told {
+        is_settled: head.is_settled && proof.are_settled,
+        is_judged: head.is_judged && proof.are_judged,
+    }
 }
 
 // What stands behind the header. The variables of the requires, the ensures and the body get their
@@ -128,7 +153,7 @@ fn contents<J: StepJudge>(
     ensures settled { IfOk result (λ found. found.is_settled
         ≡ procedure_settled (map logic_var_of logics.now) (procedure_of found.procedure)) }
     ensures judged { IfOk result (λ found.
-        OnTrue found.is_judged (steps_judged (procedure_of found.procedure).proof ≡ true)) }
+        OnTrue found.is_judged (procedure_judged (procedure_of found.procedure) ≡ true)) }
     ensures instances { IfOk result (λ found. OnTrue found.are_instances
         (AllHold [] (nameless_procedure (procedure_of found.procedure)).proof)) }
 {
@@ -144,15 +169,22 @@ fn contents<J: StepJudge>(
     let variables = listed.as_slice();
     let variable_names = names_of(alloc, variables)?;
     let declared = Declared::new(variables, &variable_names, logics, logic_names);
-    let is_head_settled = set_head(&mut found.pre, &mut found.post, &mut found.body, &declared);
+    let sort = Sort::Shape(found.sort);
+    let head = set_head(
+        &mut found.pre,
+        &mut found.post,
+        &mut found.body,
+        sort,
+        &declared,
+    );
     let proof = steps::<J>(alloc, depth, &declared, tokens)?;
     expect(tokens, "end")?;
+    let told = told_of(head, &proof);
     found.proof = proof.steps;
-    let is_settled = is_head_settled && proof.are_settled;
     Ok(ReadProcedure {
         procedure: found,
-        is_settled,
-        is_judged: proof.are_judged,
+        is_settled: told.is_settled,
+        is_judged: told.is_judged,
         are_instances: proof.are_instances,
     })
 }
@@ -173,7 +205,7 @@ fn procedure<J: StepJudge>(
     ensures settled { IfOk result (λ found. found.is_settled
         ≡ procedure_settled (map logic_var_of logics.now) (procedure_of found.procedure)) }
     ensures judged { IfOk result (λ found.
-        OnTrue found.is_judged (steps_judged (procedure_of found.procedure).proof ≡ true)) }
+        OnTrue found.is_judged (procedure_judged (procedure_of found.procedure) ≡ true)) }
     ensures instances { IfOk result (λ found. OnTrue found.are_instances
         (AllHold [] (nameless_procedure (procedure_of found.procedure)).proof)) }
 {
@@ -199,7 +231,8 @@ pub struct ReadProcedures {
     pub procedures: Procedures,
     /// Each variable in them is declared, first with the sort that it has.
     pub are_settled: bool,
-    /// The formulas of each step may be judged at its sort; where false, that isn't known.
+    /// The formulas of each header and of each step may be judged at their sorts; where false, that
+    /// isn't known.
     pub are_judged: bool,
     /// Each entailment in them is an instance of the rule that its step names; where false, that
     /// isn't known.
@@ -219,7 +252,7 @@ fn more_procedures<J: StepJudge>(
     requires first { first.is_settled
         ≡ procedure_settled (map logic_var_of logics.now) (procedure_of first.procedure) }
     requires judged { OnTrue first.is_judged
-        (steps_judged (procedure_of first.procedure).proof ≡ true) }
+        (procedure_judged (procedure_of first.procedure) ≡ true) }
     requires instances { OnTrue first.are_instances
         (AllHold [] (nameless_procedure (procedure_of first.procedure)).proof) }
     ensures read { Gives (λ found. (map procedure_of found.procedures, lexemes_in tokens.new))
@@ -229,7 +262,7 @@ fn more_procedures<J: StepJudge>(
     ensures settled { IfOk result (λ found. found.are_settled ≡ list_all
         (procedure_settled (map logic_var_of logics.now)) (map procedure_of found.procedures)) }
     ensures judged { IfOk result (λ found. OnTrue found.are_judged
-        (list_all (λ f. steps_judged f.proof) (map procedure_of found.procedures) ≡ true)) }
+        (list_all procedure_judged (map procedure_of found.procedures) ≡ true)) }
     ensures instances { IfOk result (λ found. OnTrue found.are_instances
         (EachHolds (map nameless_procedure (map procedure_of found.procedures)))) }
 {
@@ -272,7 +305,7 @@ pub fn procedures<J: StepJudge>(
     ensures settled { IfOk result (λ found. found.are_settled ≡ list_all
         (procedure_settled (map logic_var_of logics.now)) (map procedure_of found.procedures)) }
     ensures judged { IfOk result (λ found. OnTrue found.are_judged
-        (list_all (λ f. steps_judged f.proof) (map procedure_of found.procedures) ≡ true)) }
+        (list_all procedure_judged (map procedure_of found.procedures) ≡ true)) }
     ensures instances { IfOk result (λ found. OnTrue found.are_instances
         (EachHolds (map nameless_procedure (map procedure_of found.procedures)))) }
 {

@@ -9,21 +9,21 @@ ghost use Rattle.theory_syntax.specs.Judgements.{reason_of, step_of};
 ghost use Rattle.cited_steps.specs.Earlier.{steps_in};
 ghost use Rattle.cited_steps.specs.Held.{AllHold};
 ghost use Rattle.declared_sorts.specs.Declarations.{declared_of, scope_in};
+ghost use Rattle.declared_sorts.specs.Judged.{steps_judged};
 ghost use Rattle.declared_sorts.specs.Known.{Knows};
 ghost use Rattle.declared_sorts.specs.Settled.{step_settled};
 ghost use Rattle.token_readers.specs.Reading.{leaf};
 ghost use Rattle.token_readers.specs.Giving.{Gives};
 ghost use Rattle.token_readers.specs.Leaves.{lexemes_in, leaf_number};
-ghost use Rattle.proof_text.specs.Judged.{steps_judged, AreInstances};
+ghost use Rattle.proof_text.specs.Judged.{AreInstances};
 ghost use Rattle.proof_text.specs.Lists.{bracketed_at};
 ghost use Rattle.proof_text.specs.Theories.{arguments_at, reason_at, step_tail};
 ghost use Rattle.proof_text.specs.SortedTheories.{sorted_step_tail, sorted_steps_at};
 
 use crate::bracketed::{bracketed, listed_terms};
-use crate::judged::is_judgement_judged;
 use crate::judgements::judgement;
 use crate::judging::StepJudge;
-use declared_sorts::{Declared, Sorted};
+use declared_sorts::{Declared, set_step};
 use dom_terms::{Numbers, Terms};
 use logic_text::Place;
 use std::alloc::Global;
@@ -150,12 +150,11 @@ fn sorted_step(
         OnTrue found.is_judged (JudgementIsSmall (step_of found.step).judgement)) }
 {
     let mut step = step(alloc, depth, line, tokens)?;
-    let is_settled = step.set_sorts(declared);
-    let is_judged = is_judgement_judged(&step.judgement);
+    let told = set_step(&mut step, declared);
     Ok(ReadStep {
         step,
-        is_settled,
-        is_judged,
+        is_settled: told.is_settled,
+        is_judged: told.is_judged,
     })
 }
 

@@ -7,12 +7,12 @@ ghost use Rattle.model_text.specs.FaultTokens.{AreOfTokens, IsFaultToken};
 ghost use Rattle.model_grammar.specs.Theories.{SpellsTheory};
 ghost use Rattle.theory_syntax.specs.Theories.{theory_of};
 ghost use Rattle.cited_steps.specs.Held.{EachHolds};
+ghost use Rattle.declared_sorts.specs.Judged.{theory_judged};
 ghost use Rattle.declared_sorts.specs.Settled.{theory_settled};
 ghost use Rattle.token_readers.specs.Faults.{IfBadText};
 ghost use Rattle.token_readers.specs.Giving.{Gives};
 ghost use Rattle.token_readers.specs.Leaves.{listed, lexemes_in};
 ghost use Rattle.token_readers.specs.Spelling.{whole};
-ghost use Rattle.proof_text.specs.Judged.{theory_judged};
 ghost use Rattle.proof_text.specs.SortedTheories.{sorted_theory_at};
 
 use crate::judging::{NoJudge, StepJudge};
@@ -35,7 +35,8 @@ pub struct ReadTheory {
     pub theory: Theory,
     /// Each variable in it is declared, first with the sort that it has.
     pub are_settled: bool,
-    /// The formulas of each step may be judged at its sort; where false, that isn't known.
+    /// The formulas of each header and of each step may be judged at their sorts; where false, that
+    /// isn't known.
     pub are_judged: bool,
     /// Each entailment in it is an instance of the rule that its step names; where false, that
     /// isn't known.

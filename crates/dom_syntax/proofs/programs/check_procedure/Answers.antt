@@ -1,5 +1,5 @@
 -- A header at fault, and one that is none; what is told of it and of the steps.
-use Rattle.std.proofs.Common.{Option, None, ◌≡◌, ◌∙◌, not, subst, sym, bytes_eq}
+use Rattle.std.proofs.Common.{Option, None, ◌≡◌, ◌∙◌, not, subst, bytes_eq}
 use Rattle.std.specs.List.{list_any}
 use Rattle.std.proofs.lemmas.Result.{err_from_is_err_and}
 use Rattle.model_files.specs.FileFaults.{FileFault, first_fault_at, head_kind, steps_from}
@@ -7,14 +7,18 @@ use Rattle.theory_syntax.specs.Theories.{procedure_of}
 use Rattle.dom_syntax.specs.Faults.{Reports, FaultReports, step_fault}
 use Rattle.dom_syntax.specs.Scopes.{theory_in}
 use Rattle.dom_syntax.proofs.FaultLaws.{places_of, refused, head-bad, head-fine}
-use Rattle.dom_syntax.specs.Judged.{StepsJudged}
-use Rattle.dom_syntax.proofs.ToldLaws.{told-inside}
+use Rattle.dom_syntax.proofs.ToldLaws.{judged-inside, told-inside}
 use Rattle.dom_syntax.proofs.programs.check_procedure.Goals as goal
 
 pub check_header-requires-clause-settled : goal.check_header-requires-clause-settled
 check_header-requires-clause-settled c =
     (told-inside c.in_ok-scope.scope c.args.names.now c.args.procedure.now c.in_ok-scope.ensures.1
     c.in_ok-scope.ensures.2 c.args.told.are_settled c.requires.settled).0
+
+pub check_header-requires-clause-judged : goal.check_header-requires-clause-judged
+check_header-requires-clause-judged c =
+    (judged-inside c.in_ok-scope.scope c.args.procedure.now c.in_ok-scope.ensures.2
+    c.args.told.are_judged c.requires.judged).0
 
 pub check_steps-requires-clause-settled : goal.check_steps-requires-clause-settled
 check_steps-requires-clause-settled c =
@@ -23,8 +27,8 @@ check_steps-requires-clause-settled c =
 
 pub check_steps-requires-clause-judged : goal.check_steps-requires-clause-judged
 check_steps-requires-clause-judged c =
-    subst (λ f. StepsJudged c.args.told.are_judged (procedure_of f)) (sym c.in_ok-scope.ensures.2)
-    c.requires.judged
+    (judged-inside c.in_ok-scope.scope c.args.procedure.now c.in_ok-scope.ensures.2
+    c.args.told.are_judged c.requires.judged).1
 
 pub returns-in_err-check_header : goal.returns-in_err-check_header
 returns-in_err-check_header c = λ earlier new.

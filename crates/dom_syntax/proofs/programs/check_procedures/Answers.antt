@@ -3,8 +3,8 @@ use Rattle.std.proofs.Common.{◌∙◌, sym, ap, ◌+◌, [], ◌∷◌, is_non
 use Rattle.std.proofs.lemmas.Result.{err_from_is_err_and}
 use Rattle.model_files.specs.FileFaults.{first_fault_at, procedures_from}
 use Rattle.theory_syntax.specs.Theories.{procedure_of}
+use Rattle.declared_sorts.specs.Judged.{procedure_judged}
 use Rattle.declared_sorts.specs.Settled.{procedure_settled}
-use Rattle.dom_syntax.specs.Judged.{steps_judged}
 use Rattle.dom_syntax.specs.Scopes.{theory_in}
 use Rattle.dom_syntax.specs.Tables.{found}
 use Rattle.dom_syntax.proofs.FaultLaws.{nothing-found, refused, new-name, one-earlier, procedure-bad, procedure-fine, small-procedures, count-procedures}
@@ -21,7 +21,7 @@ check_procedure-requires-clause-settled c =
 
 pub check_procedure-requires-clause-judged : goal.check_procedure-requires-clause-judged
 check_procedure-requires-clause-judged c =
-    told-in procedure_of steps_judged c.args.told.are_judged
+    told-in procedure_of procedure_judged c.args.told.are_judged
     c.args.names.now.theory.now.procedures c.as_slice-procedure-items.result.now
     c.as_slice-procedure-items.ensures c.requires.judged c.loop-procedure.procedure-index
     c.procedure-item.result c.loop-procedure-test.true c.procedure-item.is

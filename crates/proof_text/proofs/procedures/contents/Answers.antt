@@ -13,10 +13,9 @@ use Rattle.theory_syntax.specs.Judgements.{step_of}
 use Rattle.theory_syntax.specs.Theories.{procedure_of}
 use Rattle.declared_sorts.specs.Declarations.{declared_of, scope_in}
 use Rattle.declared_sorts.specs.Settled.{head_settled, step_settled, procedure_settled}
-use Rattle.declared_sorts.proofs.Loops.{then_both, else_both}
 use Rattle.declared_sorts.proofs.TheoryLaws.{still_declared, with_parts}
+use Rattle.proof_text.proofs.JudgedLoops.{both_judged}
 use Rattle.proof_text.proofs.procedures.contents.Goals as goal
-use Rattle.proof_text.proofs.procedures.contents.Goals.{then-is_head_settled, else-is_head_settled}
 
 -- what a procedure declares
 abbrev declared_by : ProcedureOf Named → List ProgVar
@@ -34,25 +33,24 @@ told_in_scope logics f scope same told head proof both h k =
 pub returns-clause-settled : goal.returns-clause-settled
 unfolding scope_in
 returns-clause-settled g c =
-    let both : c.if-is_head_settled.is_settled
-    ≡ (c.set_head-is_head_settled.result && c.in_ok-proof.proof.are_settled) =
-    elim c.if-is_head_settled.branch [
-      | then-is_head_settled w ↦ then_both _ _ _ w.if-is_head_settled.true w.is_settled-is
-      | else-is_head_settled w ↦ else_both _ _ _ w.if-is_head_settled.false w.is_settled-is
-    ] in
     let declared = c.new-declared.result in
     let logics = map logic_var_of c.args.logics.now in
     let sorted = with_parts (procedure_of c.unproved-found.result)
-    (formula_of c.set_head-is_head_settled.new.pre)
-    (formula_of c.set_head-is_head_settled.new.post)
-    (command_of c.set_head-is_head_settled.new.body) (map step_of c.in_ok-proof.proof.steps) in
+    (formula_of c.set_head-head.new.pre)
+    (formula_of c.set_head-head.new.post)
+    (command_of c.set_head-head.new.body) (map step_of c.in_ok-proof.proof.steps) in
     let known : map prog_var_of c.as_slice-variables.result.now ≡ declared_by sorted =
     still_declared (declared_of declared) _ _ _ _ _
     (ap (map prog_var_of) c.as_slice-variables.ensures ∙ c.in_ok-listed.ensures)
-    c.set_head-is_head_settled.ensures.body in
+    c.set_head-head.ensures.body in
     let same : scope_in declared ≡ map as_var (declared_by sorted) ++ logics =
     (λ j. map as_var (map prog_var_of (c.new-declared.ensures.variables j))
     ++ map logic_var_of (c.new-declared.ensures.logics j))
     ∙ ap (λ z. map as_var z ++ logics) known in
-    told_in_scope logics sorted (scope_in declared) same _ _ _ both
-    c.set_head-is_head_settled.ensures.settled c.in_ok-proof.ensures.settled
+    told_in_scope logics sorted (scope_in declared) same _ _ _ c.told_of-told.ensures.settled
+    c.set_head-head.ensures.settled c.in_ok-proof.ensures.settled
+
+pub returns-clause-judged : goal.returns-clause-judged
+returns-clause-judged g c =
+    both_judged _ _ c.set_head-head.result.is_judged c.in_ok-proof.proof.are_judged _
+    c.told_of-told.ensures.judged c.set_head-head.ensures.judged c.in_ok-proof.ensures.judged

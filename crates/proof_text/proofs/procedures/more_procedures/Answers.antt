@@ -9,6 +9,7 @@ use Rattle.std.proofs.lemmas.List.Folds.{list_all-append}
 use Rattle.std.specs.List.{list_all}
 use Rattle.dom_terms.specs.Terms.{logic_var_of}
 use Rattle.theory_syntax.specs.Theories.{procedure_of}
+use Rattle.declared_sorts.specs.Judged.{procedure_judged}
 use Rattle.declared_sorts.specs.Settled.{procedure_settled}
 use Rattle.declared_sorts.proofs.Loops.{then_both, else_both}
 use Rattle.token_readers.specs.Reading.{the_terminal}
@@ -16,7 +17,6 @@ use Rattle.token_readers.specs.Leaves.{lexemes_in}
 use Rattle.token_readers.proofs.Lists.{many_goes_on, many_breaks, many_done, first_after}
 use Rattle.proof_text.proofs.HeldLoops.{one_held}
 use Rattle.proof_text.proofs.JudgedLoops.{one_judged}
-use Rattle.proof_text.specs.Judged.{steps_judged}
 use Rattle.proof_text.specs.SortedTheories.{sorted_procedure_tail, more_sorted_procedures_at}
 use Rattle.proof_text.proofs.procedures.more_procedures.Goals as goal
 use Rattle.proof_text.proofs.procedures.more_procedures.Goals.{then-are_settled, else-are_settled, then-are_judged, else-are_judged, then-are_instances, else-are_instances}
@@ -31,7 +31,7 @@ loop-init g c =
       read = rw e refl;
       told = c.requires.first ∙ sym (and-true (p (procedure_of c.args.first.procedure)))
           ∙ ap (λ z. list_all p (map procedure_of z)) (sym e);
-      judged = one_judged (λ f. steps_judged f.proof) [] (procedure_of c.args.first.procedure)
+      judged = one_judged procedure_judged [] (procedure_of c.args.first.procedure)
           true c.args.first.is_judged c.args.first.is_judged (map procedure_of c.push.new.self)
           refl (ap (map procedure_of) e) refl c.requires.judged;
       instances = one_held [] (procedure_of c.args.first.procedure) true
@@ -100,7 +100,7 @@ loop-preserved g c =
           ∙ sym (list_all-append p (map procedure_of c.loop.procedures)
           (procedure_of c.in_ok-item.item.procedure ∷ []))
           ∙ ap (list_all p) (sym e);
-      judged = one_judged (λ f. steps_judged f.proof) (map procedure_of c.loop.procedures)
+      judged = one_judged procedure_judged (map procedure_of c.loop.procedures)
           (procedure_of c.in_ok-item.item.procedure) c.loop.are_judged
           c.in_ok-item.item.is_judged c.if-are_judged.are_judged
           (map procedure_of c.push-in-loop.new.self) judged e c.loop.invariant.judged

@@ -6,10 +6,10 @@ use Rattle.model_commands.specs.Theories.{nameless_procedure}
 use Rattle.dom_terms.specs.Terms.{logic_var_of}
 use Rattle.theory_syntax.specs.Theories.{procedure_of}
 use Rattle.cited_steps.specs.Held.{EachHolds}
+use Rattle.declared_sorts.specs.Judged.{procedure_judged}
 use Rattle.declared_sorts.specs.Settled.{procedure_settled}
 use Rattle.token_readers.specs.Reading.{many, the_terminal, with_front}
 use Rattle.token_readers.specs.Leaves.{lexemes_in}
-use Rattle.proof_text.specs.Judged.{steps_judged}
 use Rattle.proof_text.specs.SortedTheories.{sorted_procedure_tail, more_sorted_procedures_at}
 use Rattle.proof_text.proofs.procedures.more_procedures.Given as goal
 
@@ -24,7 +24,7 @@ invariant-loop g l = record {
   told : l.are_settled ≡ list_all (procedure_settled (map logic_var_of l.logics))
       (map procedure_of l.procedures);
   judged : OnTrue l.are_judged
-      (list_all (λ f. steps_judged f.proof) (map procedure_of l.procedures) ≡ true);
+      (list_all procedure_judged (map procedure_of l.procedures) ≡ true);
   instances : OnTrue l.are_instances
       (EachHolds (map nameless_procedure (map procedure_of l.procedures)));
 }

@@ -4,10 +4,11 @@ use Rattle.std.specs.Bool.{OnTrue}
 use Rattle.std.specs.List.{list_all}
 use Rattle.theory_syntax.specs.Judgements.{step_of}
 use Rattle.declared_sorts.specs.Declarations.{declared_of, scope_in}
+use Rattle.declared_sorts.specs.Judged.{steps_judged}
 use Rattle.declared_sorts.specs.Settled.{step_settled}
 use Rattle.token_readers.specs.Reading.{many, with_front}
 use Rattle.token_readers.specs.Leaves.{lexemes_in, leaf_step}
-use Rattle.proof_text.specs.Judged.{steps_judged, AreInstances}
+use Rattle.proof_text.specs.Judged.{AreInstances}
 use Rattle.proof_text.specs.SortedTheories.{sorted_step_tail}
 use Rattle.proof_text.proofs.steps.steps.Given as goal
 
