@@ -1,8 +1,9 @@
 -- Refusals, handed on and read.
 use Rattle.std.proofs.Common.{◌≡◌, ℕ, List, Option, Some, None, option_map, refl, sym, subst, Result, Ok, Err, IfErr, IfOk}
+use Rattle.std.specs.Prelude.{slice_get}
 use Rattle.model_limits.specs.Limits.{LimitKind, standard_limits}
 use Rattle.model_commands.specs.Theories.{Theory}
-use Rattle.model_text.specs.Lexemes.{Lexeme}
+use Rattle.model_text.specs.Lexemes.{Lexeme, bad_lexeme}
 use Rattle.model_text.specs.Nesting.{lexemes_of}
 use Rattle.model_text.specs.FaultTokens.{AreOfTokens, IsFaultToken}
 use Rattle.model_text.proofs.OfTokens.{text_seen}
@@ -61,6 +62,25 @@ module _ {A : Type 0} (Spells : A → List Lexeme → Type 0) (most : ℕ) (bad_
       (λ a spelled. none a (subst (Spells a) (sym same) spelled))
       (subst (λ (z : List Lexeme). IsFaultToken Spells z token) same
       (fault (subst AreOfTokens (sym same) (text_seen bytes))))
+
+-- what is read of a source to its end is spelled by the text, which passes no limit
+pub record IsRead {A : Type 0} (Spells : A → List Lexeme → Type 0) (most : ℕ) (bytes : List ℕ)
+    (a : A) : Type 0 where
+  pub passes : text_limit most bytes ≡ None
+  pub spelled : Spells a (lexemes_of bytes)
+
+pub read_whole : {A : Type 0} (Spells : A → List Lexeme → Type 0)
+    → ((a : A) (s : List Lexeme) → Spells a s → (place : ℕ)
+    → slice_get s place ≡ Some bad_lexeme → ⊥)
+    → (most : ℕ) (bytes : List ℕ) (source seen : List Lexeme) → seen ≡ source
+    → (((place : ℕ) → slice_get source place ≡ Some bad_lexeme → ⊥)
+    → text_limit most bytes ≡ None)
+    → (text_limit most bytes ≡ None → source ≡ lexemes_of bytes)
+    → (a : A) → Spells a seen → IsRead Spells most bytes a
+read_whole Spells no_bad most bytes source seen same passes whole a spelled =
+    let here : Spells a source = subst (Spells a) same spelled in
+    let none : text_limit most bytes ≡ None = passes (no_bad a source here) in
+    record { passes = none; spelled = subst (Spells a) (whole none) here }
 
 -- FILES
 -- a text that isn't read is no file

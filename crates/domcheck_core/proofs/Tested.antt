@@ -19,6 +19,13 @@ pub large_text : (most : ℕ) (bytes : List ℕ) → standard_limits.file_bytes 
 large_text most bytes long = ap (λ (b : Bool). or_else (unless b file_limit)
     (token_limit most 0 (lexemes_of bytes))) (lt-leb _ _ long)
 
+-- one with no more passes the limit that its tokens do
+pub few_text : (most : ℕ) (bytes : List ℕ) → length bytes ≤ standard_limits.file_bytes
+    → text_limit most bytes ≡ token_limit most 0 (lexemes_of bytes)
+few_text most bytes small =
+    ap (λ (b : Bool). or_else (unless b file_limit) (token_limit most 0 (lexemes_of bytes)))
+    (le-leb _ _ small)
+
 module _ (most : ℕ) (bytes : List ℕ) (seen : List Lexeme) (named : Option own.LimitKind)
     (small : length bytes ≤ standard_limits.file_bytes)
     (names : NamesLimit named (token_limit most 0 seen))
@@ -27,9 +34,7 @@ module _ (most : ℕ) (bytes : List ℕ) (seen : List Lexeme) (named : Option ow
   pub limit_of_tokens : NamesLimit named (text_limit most bytes)
   limit_of_tokens =
       let few : text_limit most bytes ≡ token_limit most 0 seen =
-      ap (λ (b : Bool). or_else (unless b file_limit) (token_limit most 0 (lexemes_of bytes)))
-      (le-leb _ _ small)
-      ∙ ap (λ (z : List Lexeme). token_limit most 0 z) (sym read) in
+      few_text most bytes small ∙ ap (λ (z : List Lexeme). token_limit most 0 z) (sym read) in
       subst (NamesLimit named) (sym few) names
 
 -- the name of a limit names it again

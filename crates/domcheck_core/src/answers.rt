@@ -16,6 +16,7 @@ use fault_report::Report;
 use outside_io::Library;
 use request_words::{Request, WordFault, read_words};
 use std::alloc::Global;
+use std::mem;
 
 // The answer of `run` with these words.
 fn run<L: Library>(
@@ -39,7 +40,12 @@ fn run<L: Library>(
     ensures later { (name : List ℕ) → L.faults library.old name ≤ L.faults library.new name }
 {
     match open_book(alloc, library, file, procedure, arguments)? {
-        Opened::Called(theory, call) => run_book(alloc, library, &theory, call, document, fuel),
+        Opened::Called(theory, call) => {
+            let reply = run_book(alloc, library, &theory, call, document, fuel);
+            // as in a check, its memory is left to the system
+            mem::forget(theory);
+            reply
+        }
         Opened::Answered(reply) => Ok(reply),
     }
 }

@@ -7,7 +7,7 @@ ghost use Rattle.domcheck_core.specs.Books.{ReadFrom};
 ghost use Rattle.domcheck_core.specs.Calls.{FitsCall, IsOpened, CallAnswer};
 
 use crate::calls::Call;
-use crate::checks::check_bytes;
+use crate::checks::{Ending, check_until};
 use crate::replies::{Refusal, Reply, answered};
 use crate::runs::{Opened, open_file, run_document};
 use crate::texts::past;
@@ -45,7 +45,7 @@ fn too_large(alloc: Global) -> Result<Reply, OutOfMemory>
     answered(alloc, past(LimitKind::File))
 }
 
-/// The answer of `check` on the file of this name.
+/// The answer of `check` on the file of this name. The theory's memory is left to the system.
 pub fn check_book<L: Library>(alloc: Global, library: &mut L, file: &Text) -> Result<Reply, Refusal>
     ensures answer { IfOk result (λ r. ReadFrom (L.book library.old file.now)
         (λ bytes. CheckAnswer bytes r.status r.output)) }
@@ -56,7 +56,7 @@ pub fn check_book<L: Library>(alloc: Global, library: &mut L, file: &Text) -> Re
     ensures later { (other : List ℕ) → L.faults library.old other ≤ L.faults library.new other }
 {
     match read_book(alloc, library, file.as_str())? {
-        Some(bytes) => Ok(check_bytes(alloc, &bytes)?),
+        Some(bytes) => Ok(check_until(alloc, &bytes, Ending::Leave)?),
         None => Ok(too_large(alloc)?),
     }
 }

@@ -22,6 +22,7 @@ use fault_report::Report;
 use hoare_kernel::{Refusal, check_told_theory};
 use proof_text::ReadTheory;
 use std::alloc::Global;
+use std::mem;
 use theory_syntax::{Procedure, Reason, Step, Theory};
 
 // The procedure of the number, counted from 1.
@@ -128,6 +129,39 @@ fn verdict(alloc: Global, read: &ReadTheory) -> Result<Reply, OutOfMemory>
     }
 }
 
+/// What is done with the memory of a theory when it was checked.
+#[derive(Clone, Copy)]
+pub enum Ending {
+    /// It is given back.
+    GiveBack,
+    /// It is left to the system, which takes all at once when the program ends: to give back a
+    /// large theory takes a tenth of the time of its check.
+    Leave,
+}
+
+// Gives the memory of a theory back, or leaves it.
+fn let_go(read: ReadTheory, ending: Ending) {
+    match ending {
+        Ending::GiveBack => drop(read),
+        Ending::Leave => mem::forget(read),
+    }
+}
+
+/// The answer of `check` on the bytes of a file, however many they are. The theory's memory is
+/// given back or left, as it is asked for.
+pub fn check_until(alloc: Global, bytes: &[u8], ending: Ending) -> Result<Reply, OutOfMemory>
+    ensures { IfOk result (λ r. CheckAnswer bytes.now r.status r.output) }
+{
+    match read_file::<Kernel>(alloc, bytes) {
+        Ok(read) => {
+            let reply = verdict(alloc, &read);
+            let_go(read, ending);
+            reply
+        }
+        Err(why) => answered(alloc, why),
+    }
+}
+
 /// The answer of `check` on the bytes of a file, however many they are: that of the definition, and
 /// no other.
 pub fn check_bytes(alloc: Global, bytes: &[u8]) -> Result<Reply, OutOfMemory>
@@ -138,8 +172,5 @@ pub fn check_bytes(alloc: Global, bytes: &[u8]) -> Result<Reply, OutOfMemory>
     // A yes is a proof.
     ensures soundness_of_yes { IfOk result (λ r. r.status ≡ Status.Done → IsProved bytes.now) }
 {
-    match read_file::<Kernel>(alloc, bytes) {
-        Ok(read) => verdict(alloc, &read),
-        Err(why) => answered(alloc, why),
-    }
+    check_until(alloc, bytes, Ending::GiveBack)
 }

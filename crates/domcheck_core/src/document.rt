@@ -11,7 +11,7 @@ ghost use Rattle.domcheck_core.specs.Refusals.{IfAnswer};
 
 use crate::replies::Refused;
 use crate::status::Status;
-use crate::texts::tokens_within;
+use crate::texts::{pass_no_limit, source_of};
 use dom_terms::limits;
 use fault_report::Report;
 use logic_text::{RawGrove, grove_from};
@@ -26,13 +26,18 @@ pub fn read_document(alloc: Global, bytes: &[u8]) -> Result<RawGrove, Refused>
     ensures told { IfErr result (λ e. IfAnswer e
         (Unread SpellsGrove standard_limits.document_nesting bad_document_text_line bytes.now)) }
 {
-    let source = tokens_within(alloc, bytes, limits::DOCUMENT_NESTING)?;
+    let source = source_of(alloc, bytes, limits::DOCUMENT_NESTING)?;
     match grove_from(alloc, source.front()) {
         Ok(grove) => Ok(grove),
-        Err(TextFault::BadText { token }) => {
-            let report = Report::BadDocumentText { token };
-            Err(Refused::Answer(Status::BadText, report))
+        Err(fault) => {
+            pass_no_limit(alloc, bytes, limits::DOCUMENT_NESTING)?;
+            match fault {
+                TextFault::BadText { token } => {
+                    let report = Report::BadDocumentText { token };
+                    Err(Refused::Answer(Status::BadText, report))
+                }
+                TextFault::OutOfMemory => Err(Refused::OutOfMemory),
+            }
         }
-        Err(TextFault::OutOfMemory) => Err(Refused::OutOfMemory),
     }
 }

@@ -11,14 +11,14 @@ ghost use Rattle.model_commands.specs.Theories.{procedures_of};
 ghost use Rattle.theory_syntax.specs.Theories.{theory_of};
 ghost use Rattle.declared_sorts.specs.Settled.{theory_settled};
 ghost use Rattle.cited_steps.specs.Held.{EachHolds};
-ghost use Rattle.proof_text.specs.Judged.{theory_judged};
+ghost use Rattle.declared_sorts.specs.Judged.{theory_judged};
 ghost use Rattle.domcheck_core.specs.Answers.{Unread, NoFile, theory_refusal};
 ghost use Rattle.domcheck_core.specs.Refusals.{IfAnswer, IsRefusal};
 
 use crate::limits::theory_limit;
 use crate::replies::Refused;
 use crate::status::Status;
-use crate::texts::{past, tokens_within};
+use crate::texts::{pass_no_limit, past, source_of};
 use dom_syntax::{ProgramFault, Told, check_told_program};
 use dom_terms::limits;
 use fault_report::Report;
@@ -39,13 +39,18 @@ fn spelled_theory<J: StepJudge>(alloc: Global, bytes: &[u8]) -> Result<ReadTheor
     ensures told { IfErr result (λ e. IfAnswer e
         (Unread SpellsTheory standard_limits.file_nesting bad_text_line bytes.now)) }
 {
-    let source = tokens_within(alloc, bytes, limits::FILE_NESTING)?;
+    let source = source_of(alloc, bytes, limits::FILE_NESTING)?;
     match theory_from::<J>(alloc, source.front()) {
         Ok(read) => Ok(read),
-        Err(TextFault::BadText { token }) => {
-            Err(Refused::Answer(Status::BadText, Report::BadText { token }))
+        Err(fault) => {
+            pass_no_limit(alloc, bytes, limits::FILE_NESTING)?;
+            match fault {
+                TextFault::BadText { token } => {
+                    Err(Refused::Answer(Status::BadText, Report::BadText { token }))
+                }
+                TextFault::OutOfMemory => Err(Refused::OutOfMemory),
+            }
         }
-        Err(TextFault::OutOfMemory) => Err(Refused::OutOfMemory),
     }
 }
 

@@ -1,12 +1,20 @@
-use Rattle.std.proofs.Common.{◌∙◌}
+use Rattle.std.proofs.Common.{◌≡◌, ℕ, List, Some, ◌∙◌, slice_get}
 use Rattle.std.proofs.lemmas.Result.{err_from_is_err_and}
 use Rattle.model_limits.specs.Limits.{standard_limits}
+use Rattle.model_shapes.specs.Trees.{Trees}
+use Rattle.model_text.specs.Lexemes.{Lexeme, bad_lexeme}
 use Rattle.model_documents.specs.Grammar.{SpellsGrove}
 use Rattle.model_answers.specs.Output.{bad_document_text_line}
 use Rattle.domcheck_core.specs.Answers.{Unread}
 use Rattle.domcheck_core.specs.Refusals.{IfAnswer}
-use Rattle.domcheck_core.proofs.Refusing.{handed_on, over, nothing}
+use Rattle.logic_text.specs.RawGroves.{raw_forest_of}
+use Rattle.model_round_trip.proofs.NoBadToken.{none_at, grove_good}
+use Rattle.domcheck_core.proofs.Refusing.{handed_on, over, nothing, read_whole}
 use Rattle.domcheck_core.proofs.document.read_document.Goals as goal
+
+spelled_good : (g : Trees) (s : List Lexeme) → SpellsGrove g s → (place : ℕ)
+    → slice_get s place ≡ Some bad_lexeme → ⊥
+spelled_good g s l = none_at s (grove_good l)
 
 pub returns-in_err-source-clause-told : goal.returns-in_err-source-clause-told
 returns-in_err-source-clause-told c =
@@ -17,10 +25,34 @@ returns-in_err-source-clause-told c =
     (over SpellsGrove standard_limits.document_nesting bad_document_text_line c.args.bytes.now
     c.in_err-source.field-0.0 c.in_err-source.ensures.told)
 
-pub returns-in-Err-BadText-clause-told : goal.returns-in-Err-BadText-clause-told
-returns-in-Err-BadText-clause-told c =
+pub returns-in-Ok-clause-reads : goal.returns-in-Ok-clause-reads
+returns-in-Ok-clause-reads c =
+    (read_whole SpellsGrove spelled_good standard_limits.document_nesting c.args.bytes.now _ _
+    c.front.ensures c.in_ok-source.ensures.passes c.in_ok-source.ensures.whole
+    (raw_forest_of c.in-Ok.grove) c.in-Ok.ensures.found).passes
+
+pub returns-in-Ok-clause-spelled : goal.returns-in-Ok-clause-spelled
+returns-in-Ok-clause-spelled c =
+    (read_whole SpellsGrove spelled_good standard_limits.document_nesting c.args.bytes.now _ _
+    c.front.ensures c.in_ok-source.ensures.passes c.in_ok-source.ensures.whole
+    (raw_forest_of c.in-Ok.grove) c.in-Ok.ensures.found).spelled
+
+pub returns-in_err-pass_no_limit-in-Err-clause-told :
+    goal.returns-in_err-pass_no_limit-in-Err-clause-told
+returns-in_err-pass_no_limit-in-Err-clause-told c =
+    let p = err_from_is_err_and c.from_residual-in_err-pass_no_limit-in-Err.result
+    c.from_residual-in_err-pass_no_limit-in-Err.ensures.1 in
+    handed_on (λ e. IfAnswer e (Unread SpellsGrove standard_limits.document_nesting
+    bad_document_text_line c.args.bytes.now)) c.from_residual-in_err-pass_no_limit-in-Err.result p.0
+    c.in_err-pass_no_limit-in-Err.field-0.0 p.1 p.2
+    (over SpellsGrove standard_limits.document_nesting bad_document_text_line c.args.bytes.now
+    c.in_err-pass_no_limit-in-Err.field-0.0 c.in_err-pass_no_limit-in-Err.ensures.told)
+
+pub returns-in-BadText-clause-told : goal.returns-in-BadText-clause-told
+returns-in-BadText-clause-told c =
     nothing SpellsGrove standard_limits.document_nesting bad_document_text_line c.args.bytes.now _
-    c.in-Err-BadText.token (c.front.ensures ∙ c.in_ok-source.ensures.same)
-    c.in_ok-source.ensures.passes
-    (rw c.in-Err-BadText.field-0-is at c.in-Err-BadText.ensures.bad_text)
-    (rw c.in-Err-BadText.field-0-is at c.in-Err-BadText.ensures.fault_token)
+    c.in-BadText.token
+    (c.front.ensures ∙ c.in_ok-source.ensures.whole c.in_ok-pass_no_limit-in-Err.ensures.passes)
+    c.in_ok-pass_no_limit-in-Err.ensures.passes
+    (rw c.in-BadText.is at c.in-Err.ensures.bad_text)
+    (rw c.in-BadText.is at c.in-Err.ensures.fault_token)
