@@ -1,7 +1,7 @@
 //! Tests of calls that no row of words shows: the happy path of each call that takes memory and
-//! that the program doesn't make, each generic call at one type through its bound, and libraries
-//! and sinks that fail in mid-stream. What the words of the program show stands in `tests/` at the
-//! top of the repository. No other crate has tests, so none is proved twice.
+//! that the program doesn't make, and each generic call at one type through its bound. What the
+//! words of the program show stands in `tests/` at the top of the repository, and the tests of the
+//! top call in `request_tests`. No other crate has tests, so none is proved twice.
 //! Stands on each crate whose calls it runs.
 #![tactic(auto)]
 
@@ -19,10 +19,6 @@ mod formulas;
 mod groves;
 #[cfg(test)]
 mod heaps;
-#[cfg(test)]
-mod outside;
-#[cfg(test)]
-mod requests;
 #[cfg(test)]
 mod terms;
 #[cfg(test)]
