@@ -1,5 +1,4 @@
 pub mod SameTruth
-mod Padding
 mod PlainTerms
 mod SortedParts
 mod StoreLaws

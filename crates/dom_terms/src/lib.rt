@@ -32,7 +32,7 @@ pub use list::List;
 pub use made::MadeOf;
 pub use memory::OutOfMemory;
 pub use same::{
-    same_data_sort, same_logic_var, same_prog_var, same_sort, same_text, same_value,
+    same_bytes, same_data_sort, same_logic_var, same_prog_var, same_sort, same_text, same_value,
     same_value_sort,
 };
 pub use sorts::{DataSort, Sort, ValueSort};

@@ -11,6 +11,17 @@ use crate::terms::{LogicVar, ProgVar};
 use crate::text::Text;
 use crate::values::Value;
 
+/// Whether the bytes are the same. It walks them one by one: names have few.
+pub fn same_bytes(left: &[u8], right: &[u8]) -> bool
+    ensures { result ≡ bytes_eq left.now right.now }
+{
+    match (left, right) {
+        ([], []) => true,
+        ([first, rest @ ..], [other, others @ ..]) => *first == *other && same_bytes(rest, others),
+        _ => false,
+    }
+}
+
 /// Whether the texts have the same bytes.
 #[inline(always)]
 pub fn same_text(left: &Text, right: &Text) -> bool

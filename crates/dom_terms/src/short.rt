@@ -2,14 +2,14 @@
 ghost use Rattle.std.specs.Prelude.{◌≡◌, [], ◌++◌, IfSome, MatchBool, bytes_eq};
 ghost use Rattle.std.specs.Char.{encode_utf8};
 
+use crate::same::same_bytes;
 use std::marker::Model;
 use std::str;
 
 /// The most bytes of a short text: what fits beside its length and the tag of a text in two words.
 const MOST_SHORT: usize = 14;
 
-/// A text of few bytes, seen as the list of its UTF-8 bytes. Those behind its length are 0, so that
-/// two texts are compared without a loop.
+/// A text of few bytes, seen as the list of its UTF-8 bytes.
 #[derive(Drop)]
 pub(crate) struct ShortText {
     bytes: [u8; MOST_SHORT],
@@ -17,14 +17,13 @@ pub(crate) struct ShortText {
 }
 
 impl Model for ShortText {
-    ghost use Rattle.std.specs.Prelude.{◌≡◌, ◌≤◌, ◌-◌, List, ℕ, take, drop, replicate, IsUtf8};
+    ghost use Rattle.std.specs.Prelude.{◌≤◌, List, ℕ, take, IsUtf8};
 
     ghost Value = { List ℕ };
 
     ghost view = { λ short. take short.len short.bytes };
 
-    ghost invariant = { λ short. (short.len ≤ 14) × ∥ IsUtf8 (take short.len short.bytes) ∥₁
-        × (drop short.len short.bytes ≡ replicate (14 - short.len) 0) };
+    ghost invariant = { λ short. (short.len ≤ 14) × ∥ IsUtf8 (take short.len short.bytes) ∥₁ };
 }
 
 impl ShortText {
@@ -74,7 +73,7 @@ impl ShortText {
     pub(crate) fn is_same(&self, other: &ShortText) -> bool
         ensures { result ≡ bytes_eq self.now other.now }
     {
-        self.len == other.len && self.bytes == other.bytes
+        self.len == other.len && same_bytes(self.as_str().as_bytes(), other.as_str().as_bytes())
     }
 
     /// The characters.

@@ -3,16 +3,7 @@ ghost use Rattle.std.specs.Prelude.{◌≡◌, ℕ, List, ◌∷◌, bytes_eq};
 ghost use Rattle.std.specs.List.{list_any};
 ghost use Rattle.model_text.specs.Lexemes.{is_reserved};
 
-// Whether the bytes are the same.
-fn same_bytes(own: &[u8], wanted: &[u8]) -> bool
-    ensures { result ≡ bytes_eq own.now wanted.now }
-{
-    match (own, wanted) {
-        ([], []) => true,
-        ([first, rest @ ..], [other, others @ ..]) => *first == *other && same_bytes(rest, others),
-        _ => false,
-    }
-}
+use dom_terms::same_bytes;
 
 /// Whether the texts are the same. Most that are compared differ in length or in their first byte.
 #[inline(always)]

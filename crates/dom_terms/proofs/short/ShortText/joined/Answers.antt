@@ -1,7 +1,6 @@
 use Rattle.std.proofs.Common.{rules, ◌≡◌, ◌+◌, ◌-◌, length, arith, ap, ◌∙◌}
-use Rattle.std.proofs.lemmas.Slice.{take-put_mid, drop-put_mid}
+use Rattle.std.proofs.lemmas.Slice.{take-put_mid}
 use Rattle.std.proofs.lemmas.Str.{IsUtf8-had, IsUtf8-append}
-use Rattle.dom_terms.proofs.Padding.{padded_behind}
 use Rattle.dom_terms.proofs.short.ShortText.joined.Goals as goal
 
 pub invariant_of-result : goal.invariant_of-result
@@ -20,9 +19,4 @@ invariant_of-result c =
             new,
           ) (IsUtf8-append _ _ (IsUtf8-had _ c.self.invariant.1) c.utf8.more)
           ∣₁,
-      drop-put_mid len (whole - len) c.self.inside.bytes c.copy_from_slice.new.self whole
-          (omega (arith, c.if-more-len.false))
-          (omega (arith, c.self.told, c.self.invariant.0))
-          (omega (arith, longer))
-          ∙ padded_behind len (length c.args.more.now) c.self.inside.bytes c.self.invariant.2,
     )

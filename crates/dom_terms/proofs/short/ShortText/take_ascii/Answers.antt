@@ -1,10 +1,9 @@
-use Rattle.std.proofs.Common.{◌≡◌, ◌+◌, ◌<◌, true, rules, arith, ◌∙◌, sym, subst}
+use Rattle.std.proofs.Common.{◌≡◌, ◌<◌, true, rules, arith, ◌∙◌, sym, subst}
 use Rattle.std.proofs.lemmas.Bool.{ltb-true}
-use Rattle.std.proofs.lemmas.List.{take_more_set, drop-set-lt}
+use Rattle.std.proofs.lemmas.List.{take_more_set}
 use Rattle.std.proofs.lemmas.Str.{IsUtf8-had, IsUtf8-append, IsUtf8-encode, encode_ascii}
 use Rattle.std.specs.Char.{is_ascii}
 use Rattle.std.specs.Str.{IsUtf8}
-use Rattle.dom_terms.proofs.Padding.{padded_behind}
 use Rattle.dom_terms.proofs.short.ShortText.take_ascii.Goals as goal
 
 pub invariant_of-self : goal.invariant_of-self
@@ -21,6 +20,4 @@ invariant_of-self c =
           (omega (arith, c.self.told, room)))
           (IsUtf8-append _ _ (IsUtf8-had _ c.self.invariant.1) own)
           ∣₁,
-      drop-set-lt (len + 1) c.self.inside.bytes len c.args.character (omega arith)
-          ∙ padded_behind len 1 c.self.inside.bytes c.self.invariant.2,
     )

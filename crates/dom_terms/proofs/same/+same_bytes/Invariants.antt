@@ -1,6 +1,6 @@
 -- The bytes get fewer.
 use Rattle.std.proofs.Common.{length}
-use Rattle.text_tokens.proofs.reserved.+same_bytes.Given as goal
+use Rattle.dom_terms.proofs.same.+same_bytes.Given as goal
 
 abbrev pub decreases-same_bytes : goal.decreases-same_bytes
-decreases-same_bytes l = length l.own.now
+decreases-same_bytes l = length l.left.now
