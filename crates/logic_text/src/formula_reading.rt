@@ -17,6 +17,7 @@ use crate::term_reading::{Place, is_word_or_symbol, leaf_term, term, term_from};
 use dom_terms::{Copied, LogicVar, Sort, Term, Text, ValueSort};
 use formula_syntax::Formula;
 use std::alloc::Global;
+use std::mem;
 use text_tokens::{Front, Lexeme};
 use token_readers::{ReadFault, expect, is_this, skip};
 
@@ -39,6 +40,15 @@ fn bound(quantifier: Quantifier, name: Text, inner: Box<Formula>) -> Formula
     }
 }
 
+// Puts what was read in place of that with which the target was made. That owns nothing, so it
+// isn't let go.
+#[inline(always)]
+fn put(target: &mut Formula, found: Formula)
+    ensures { target.new ≡ found }
+{
+    mem::forget(mem::replace(target, found));
+}
+
 // A term of a formula that is a logic variable, as a formula.
 fn lone(alloc: Global, left: Term, tokens: &Front, target: &mut Formula) -> Result<(), ReadFault>
     ensures { Gives (λ _. (formula_of target.new, lexemes_in tokens.now)) result
@@ -46,7 +56,7 @@ fn lone(alloc: Global, left: Term, tokens: &Front, target: &mut Formula) -> Resu
 {
     match left {
         Term::Logic(variable) => {
-            *target = Formula::Var(variable);
+            put(target, Formula::Var(variable));
             Ok(())
         }
         _ => Err(ReadFault::Text(tokens.count())),
@@ -70,7 +80,7 @@ fn quantified(
     expect(tokens, ".")?;
     let inner = part(alloc, depth, tokens)?;
     expect(tokens, ")")?;
-    *target = bound(quantifier, name, inner);
+    put(target, bound(quantifier, name, inner));
     Ok(())
 }
 
@@ -90,7 +100,7 @@ fn connected(
     let connective = joint(tokens)?;
     let right = part(alloc, depth, tokens)?;
     expect(tokens, ")")?;
-    *target = joined(connective, left, right);
+    put(target, joined(connective, left, right));
     Ok(())
 }
 
@@ -112,7 +122,7 @@ fn connected_or_is(
             let sort = variable.sort;
             let inner = part(alloc, depth, tokens)?;
             expect(tokens, ")")?;
-            *target = Formula::Is(LogicVar { name, sort }, inner);
+            put(target, Formula::Is(LogicVar { name, sort }, inner));
             return Ok(());
         }
     }
@@ -133,13 +143,14 @@ fn negation(
 {
     let inner = part(alloc, depth, tokens)?;
     expect(tokens, ")")?;
-    *target = Formula::Not(inner);
+    put(target, Formula::Not(inner));
     Ok(())
 }
 
 // What stands behind an open bracket.
 #[cycle(part)]
 #[tactic(auto, unfolding(crate::specs::FormulaReaders::bracket_at))]
+#[inline(always)]
 fn bracket(
     alloc: Global,
     depth: u32,
@@ -182,7 +193,7 @@ fn node(
     expect(tokens, "]")?;
     expect(tokens, "%")?;
     let list = term(alloc, Place::Formula, depth, tokens)?;
-    *target = Formula::Node(name, number, inner, list);
+    put(target, Formula::Node(name, number, inner, list));
     Ok(())
 }
 
@@ -203,12 +214,12 @@ fn compared(
 {
     if skip(tokens, "=") {
         let right = term(alloc, Place::Formula, depth, tokens)?;
-        *target = Formula::Eq(left, right);
+        put(target, Formula::Eq(left, right));
         return Ok(());
     }
     if skip(tokens, "<=") {
         let right = term(alloc, Place::Formula, depth, tokens)?;
-        *target = Formula::Le(left, right);
+        put(target, Formula::Le(left, right));
         return Ok(());
     }
     if skip(tokens, "#") {
@@ -219,6 +230,7 @@ fn compared(
 
 // A formula that begins with a term of one token that is no reserved word and no symbol.
 #[cycle(part)]
+#[inline(always)]
 fn leaf_formula<'a>(
     alloc: Global,
     depth: u32,
@@ -249,7 +261,7 @@ fn tree(
 {
     let inner = part(alloc, depth, tokens)?;
     expect(tokens, ">")?;
-    *target = Formula::One(inner);
+    put(target, Formula::One(inner));
     Ok(())
 }
 
@@ -267,7 +279,7 @@ fn root(
 {
     let inner = part(alloc, depth, tokens)?;
     expect(tokens, "]")?;
-    *target = Formula::Root(inner);
+    put(target, Formula::Root(inner));
     Ok(())
 }
 
@@ -282,7 +294,7 @@ fn length(
         (then (term_at in_formula depth) (λ a. ret (length_is a)) (lexemes_in tokens.old)) }
 {
     let number = term(alloc, Place::Formula, depth, tokens)?;
-    *target = Formula::Len(number);
+    put(target, Formula::Len(number));
     Ok(())
 }
 
@@ -322,7 +334,7 @@ fn word_or_comparison<'a>(
     match word_of(first) {
         Some(found) => {
             tokens.advance();
-            *target = found;
+            put(target, found);
             Ok(())
         }
         None => comparison(alloc, depth, first, tokens, target),
@@ -332,6 +344,7 @@ fn word_or_comparison<'a>(
 // A formula, below which is nested at most so deep. The first token is handed over too.
 #[cycle(part)]
 #[tactic(auto, unfolding(crate::specs::FormulaReaders::formula_at))]
+#[inline(always)]
 fn part_from<'a>(
     alloc: Global,
     depth: u32,
@@ -388,6 +401,7 @@ fn fill(
 // A formula in a box of its own, nested at most so deep. Its box is taken before those of its parts
 // are, so that a walk, which comes to a formula before its parts, goes through memory in order.
 #[cycle(part)]
+#[inline(always)]
 fn part(alloc: Global, depth: u32, tokens: &mut Front) -> Result<Box<Formula>, ReadFault>
     ensures { Gives (λ found. (formula_of found.value, lexemes_in tokens.new)) result
         (formula_at depth (lexemes_in tokens.old)) }

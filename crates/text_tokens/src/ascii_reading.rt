@@ -1,5 +1,5 @@
 // The tokens of ASCII bytes, each read where it is asked for.
-ghost use Rattle.std.specs.Prelude.{◌≡◌, [], ◌∷◌, ◌<◌, drop, length, ◌≢◌, Some, None, IfSome, MatchOption};
+ghost use Rattle.std.specs.Prelude.{◌≡◌, [], ◌∷◌, ◌<◌, ◌-◌, take, drop, length, ◌≢◌, Some, None, IfSome, MatchOption};
 ghost use Rattle.std.specs.Str.{IsNotAscii};
 ghost use Rattle.model_text.specs.Nesting.{lexemes_of};
 ghost use Rattle.text_tokens.specs.Ascii.{left_at};
@@ -12,6 +12,15 @@ use crate::ascii_watching::{near_token, settled};
 use crate::lexemes::Lexeme;
 use crate::tokens::TokenKind;
 use crate::written::between_quotes;
+
+// What stands between the quotes of a literal. It isn't inlined, so that none counts off the quotes
+// of a token of another kind.
+#[inline(never)]
+fn inside_of(own: &[u8]) -> &[u8]
+    ensures { result.now ≡ take (length own.now - 2) (drop 1 own.now) }
+{
+    between_quotes(own)
+}
 
 impl<'a> AsciiFront<'a> {
     /// The tokens of the bytes, up to the first that passes a limit, where so many brackets may be
@@ -38,7 +47,7 @@ impl<'a> AsciiFront<'a> {
         match kind {
             TokenKind::Literal => Lexeme {
                 kind,
-                text: text_of(between_quotes(own)),
+                text: text_of(inside_of(own)),
                 line: self.line,
                 is_written: true,
             },
@@ -127,6 +136,7 @@ impl<'a> AsciiFront<'a> {
     }
 
     /// Moves on to the tokens behind the first.
+    #[inline(always)]
     pub fn advance(&mut self)
         ensures { left_at self.new ≡ drop 1 (left_at self.old) }
     {

@@ -27,25 +27,21 @@ pub struct Lexeme<'a> {
 
 impl<'a> Lexeme<'a> {
     /// Whether the token is the symbol or the reserved word of this text. It never is for `step`,
-    /// which `is_step` asks for.
+    /// which `is_step` asks for. Most that are asked have another length, and whether a word is
+    /// reserved is asked of the text that is wanted: that is mostly a constant, so the compiler
+    /// answers.
     #[inline(always)]
     pub fn is_terminal(self, text: &str) -> bool
         ensures { IsTrue result ↔ (lexeme_seen self.entry ≡ terminal text.now) }
     {
-        is_same(self.text, text) && self.is_of_terminal_kind(text)
-    }
-
-    // Whether a token of its kind and of this text is the symbol or the reserved word of the text.
-    // It is asked behind the comparison of the texts, which mostly differ, and of the text that is
-    // wanted: that is mostly a constant, so the compiler answers whether it is a reserved word.
-    #[inline(always)]
-    fn is_of_terminal_kind(self, text: &str) -> bool
-        requires { self.text.now ≡ text.now }
-        ensures { IsTrue result ↔ (lexeme_seen self.entry ≡ terminal text.now) }
-    {
+        if self.text.len() != text.len() {
+            return false;
+        }
         match self.kind {
-            TokenKind::Symbol => true,
-            TokenKind::Word => !is_same(text, "step") && is_word_reserved(text),
+            TokenKind::Symbol => is_same(self.text, text),
+            TokenKind::Word => {
+                is_same(self.text, text) && !is_same(text, "step") && is_word_reserved(text)
+            }
             _ => false,
         }
     }

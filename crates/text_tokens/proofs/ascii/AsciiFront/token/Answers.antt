@@ -22,7 +22,7 @@ pub text_of-requires : goal.text_of-requires
 text_of-requires c =
     let self = c.args.self in
     let own = take self.length (drop self.from self.bytes.now) in
-    subst IsAscii (sym (c.between_quotes.ensures
+    subst IsAscii (sym (c.inside_of.ensures
     ∙ ap (λ own. take (length own - 2) (drop 1 own)) c.part-own.ensures))
     (IsAscii-take (drop 1 own) (length own - 2)
     (IsAscii-drop own 1 (own_ascii _ self.from self.length self.settled.ascii)))
@@ -31,7 +31,7 @@ pub returns-in-Literal : goal.returns-in-Literal
 returns-in-Literal c =
     let self = c.args.self in
     let is = of_kind _ _ _ _ _ _ self.settled (c.requires ∙ ap Some c.in-Literal.is) in
-    let text = c.text_of.ensures ∙ c.between_quotes.ensures
+    let text = c.text_of.ensures ∙ c.inside_of.ensures
     ∙ ap (λ own. take (length own - 2) (drop 1 own)) c.part-own.ensures in
     first_same self.most self.open _ _ (literal_first _ _ _ _ is
     ∙ ap (λ t. lexeme_at (kind_of Literal) (meant Literal true t) self.line
