@@ -3,6 +3,7 @@ pub mod Gathered
 pub mod VariableSetLaws
 pub mod ScopeLaws
 pub mod ScopeTestLaws
+pub mod AptLaws
 pub mod SortTestLaws
 pub mod FreshLaws
 pub mod PartTestLaws

@@ -88,8 +88,8 @@ pub absent-passes : (b : Bool) → passes b false true ≡ b
 absent-passes true = refl
 absent-passes false = refl
 
-pub all-weaker : (p q : Var → Bool) → ((x : Var) → p x ≡ true → q x ≡ true) → (xs : List Var)
-    → list_all p xs ≡ true → list_all q xs ≡ true
+pub all-weaker : {A : Type 0} (p q : A → Bool) → ((x : A) → p x ≡ true → q x ≡ true)
+    → (xs : List A) → list_all p xs ≡ true → list_all q xs ≡ true
 all-weaker p q f [] all = refl
 all-weaker p q f (x ∷ xs) all =
     and_from _ _ (f x (and_parts _ _ all).0) (all-weaker p q f xs (and_parts _ _ all).1)
@@ -123,5 +123,3 @@ pub ruleset callee_rules = (called)
 pub ruleset known_rules = (prog-known, logic-known)
 
 pub ruleset declared_rules = (prog-declared, logic-declared)
-
-pub ruleset settled_rules = (settled-known, settled-declared)

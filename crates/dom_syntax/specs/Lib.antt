@@ -4,6 +4,7 @@ pub mod VariableSets
 pub mod Callees
 pub mod Scopes
 pub mod ScopeTests
+pub mod Apt
 pub mod Fresh
 pub mod Contents
 pub mod Heads

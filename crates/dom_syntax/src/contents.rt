@@ -131,4 +131,21 @@ impl<'a> Contents<'a> {
             None => Ok(true),
         }
     }
+
+    /// The same where it may be sure that each passes: then none is asked.
+    pub(crate) fn all_fit<T: CommandTest>(
+        &self,
+        test: &T,
+        is_sure: bool,
+    ) -> Result<bool, OutOfMemory>
+        requires ready { T.ready test.now }
+        requires sure { OnTrue is_sure
+            (list_all (T.test test.now) (commands_there self.now) ≡ true) }
+        ensures { IfOk result (λ b. b ≡ list_all (T.test test.now) (commands_there self.now)) }
+    {
+        if is_sure {
+            return Ok(true);
+        }
+        self.all_commands(test)
+    }
 }

@@ -13,6 +13,7 @@ ghost use Rattle.model_files.specs.FileFaults as files;
 ghost use Rattle.dom_terms.specs.Sorts.{value_sort_of};
 ghost use Rattle.dom_terms.specs.Terms.{prog_var_of, term_of};
 ghost use Rattle.theory_syntax.specs.Commands.{command_of};
+ghost use Rattle.dom_syntax.specs.Apt.{is_apt};
 ghost use Rattle.dom_syntax.specs.Callees.{callee_of};
 ghost use Rattle.dom_syntax.specs.Scopes.{HasNames, IsScope, callees_in, procedure_in};
 ghost use Rattle.dom_syntax.specs.VariableSets.{Holds};
@@ -239,5 +240,28 @@ impl CommandTest for ResultsApart {
             }
             _ => Ok(true),
         }
+    }
+}
+
+/// Whether a command passes each of these tests.
+#[derive(Drop)]
+pub(crate) struct Apt<'a> {
+    pub(crate) alloc: Global,
+    pub(crate) scope: &'a Scope<'a>,
+}
+
+impl<'a> CommandTest for Apt<'a> {
+    ghost ready = { λ apt. IsScope apt.scope.now };
+
+    ghost test = { λ apt command. is_apt apt.scope.now command };
+
+    fn takes(&self, command: &Command) -> Result<bool, OutOfMemory> {
+        let names = self.scope.names;
+        Ok(
+            CalleeKnown(names).takes(command)?
+                && PartsFit(names).takes(command)?
+                && Spares(self.scope).takes(command)?
+                && ResultsApart { alloc: self.alloc }.takes(command)?,
+        )
     }
 }

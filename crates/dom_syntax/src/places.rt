@@ -13,6 +13,7 @@ ghost use Rattle.formula_syntax.specs.Formulas.{formula_of};
 ghost use Rattle.theory_syntax.specs.Commands.{command_of};
 ghost use Rattle.theory_syntax.specs.Judgements.{judgement_of, reason_of, step_of};
 ghost use Rattle.theory_syntax.specs.Theories.{procedure_of};
+ghost use Rattle.dom_syntax.specs.Apt.{HeadApt, StepApt, is_apt};
 ghost use Rattle.dom_syntax.specs.Contents.{commands_there, variables_in};
 ghost use Rattle.dom_syntax.specs.Faults.{kind_of};
 ghost use Rattle.dom_syntax.specs.Heads.{earlier_for};
@@ -24,7 +25,7 @@ ghost use Rattle.model_files.specs.Sizes.{IsSmall, JudgementIsSmall};
 
 use crate::contents::Contents;
 use crate::kinds::FileKind;
-use crate::part_tests::{CalleeKnown, PartsFit, ResultsApart, Spares};
+use crate::part_tests::{Apt, CalleeKnown, PartsFit, ResultsApart, Spares};
 use crate::rule_names::is_rule_name;
 use crate::scope_tests::{AsDeclared, Known, OnlyAmong};
 use crate::scopes::{Names, Scope};
@@ -76,13 +77,9 @@ pub(crate) fn first_kind<P: Place>(place: &P) -> Result<Option<FileKind>, OutOfM
     Ok(None)
 }
 
-/// Whether each variable that stands there is declared, first with its sort. Where that is told, it
-/// holds at once.
-pub(crate) fn are_settled(
-    scope: &Scope,
-    contents: &Contents,
-    told: bool,
-) -> Result<bool, OutOfMemory>
+// Whether each variable that stands there is declared, first with its sort. Where that is told, it
+// holds at once.
+fn are_settled(scope: &Scope, contents: &Contents, told: bool) -> Result<bool, OutOfMemory>
     requires scope { IsScope scope.now }
     requires settled { OnTrue told
         (list_all (is_settled (names_in scope.now)) (variables_in contents.now) ≡ true) }
@@ -96,19 +93,51 @@ pub(crate) fn are_settled(
     contents.all_pass(&declared, told)
 }
 
+/// What is known of what stands at a place. Where a field is false, nothing is known.
+#[derive(Clone, Copy)]
+pub(crate) struct Sure {
+    /// Its variables are declared, first with the sorts that they have.
+    pub(crate) are_settled: bool,
+    /// Its commands pass each test that is asked of a command by itself.
+    pub(crate) are_apt: bool,
+}
+
+/// What is asked once of all that stands there, so that mostly it isn't asked for each kind of
+/// fault. Where it is told that the variables are settled, they aren't asked.
+pub(crate) fn sure_of(
+    alloc: Global,
+    scope: &Scope,
+    contents: &Contents,
+    told: bool,
+) -> Result<Sure, OutOfMemory>
+    requires scope { IsScope scope.now }
+    requires settled { OnTrue told
+        (list_all (is_settled (names_in scope.now)) (variables_in contents.now) ≡ true) }
+    ensures { IfOk result (λ sure. (sure.are_settled
+        ≡ list_all (is_settled (names_in scope.now)) (variables_in contents.now))
+        × (sure.are_apt ≡ list_all (is_apt scope.now) (commands_there contents.now))) }
+{
+    Ok(Sure {
+        are_settled: are_settled(scope, contents, told)?,
+        are_apt: contents.all_commands(&Apt { alloc, scope })?,
+    })
+}
+
 // Whether there is no fault of the kind among the variables and commands that stand in a procedure,
-// whose variables may be settled.
-#[tactic(auto, using(crate::proofs::ScopeTestLaws::settled_rules))]
+// of which something may be sure.
+#[tactic(auto, using(crate::proofs::AptLaws::sure_rules))]
 fn passes_inside(
     alloc: Global,
     scope: &Scope,
     contents: &Contents,
-    are_settled: bool,
+    sure: Sure,
     kind: FileKind,
 ) -> Result<bool, OutOfMemory>
     requires scope { IsScope scope.now }
-    requires settled { OnTrue are_settled
+    requires settled { OnTrue sure.are_settled
         (list_all (is_settled (names_in scope.now)) (variables_in contents.now) ≡ true) }
+    requires apt { OnTrue sure.are_apt
+        (list_all (is_apt scope.now) (commands_there contents.now) ≡ true) }
     ensures { IfOk result (λ b. b ≡ model.inside (theory_in scope.now.names.now)
         (procedure_in scope.now) (variables_in contents.now) (commands_there contents.now)
         (kind_of kind)) }
@@ -119,15 +148,15 @@ fn passes_inside(
     };
     match kind {
         FileKind::Unknown => Ok(
-            contents.all_pass(&Known(scope), are_settled)?
-                && contents.all_commands(&CalleeKnown(scope.names))?,
+            contents.all_pass(&Known(scope), sure.are_settled)?
+                && contents.all_fit(&CalleeKnown(scope.names), sure.are_apt)?,
         ),
         FileKind::Sort => Ok(
-            contents.all_pass(&declared, are_settled)?
-                && contents.all_commands(&PartsFit(scope.names))?,
+            contents.all_pass(&declared, sure.are_settled)?
+                && contents.all_fit(&PartsFit(scope.names), sure.are_apt)?,
         ),
-        FileKind::Constant => contents.all_commands(&Spares(scope)),
-        FileKind::Results => contents.all_commands(&ResultsApart { alloc }),
+        FileKind::Constant => contents.all_fit(&Spares(scope), sure.are_apt),
+        FileKind::Results => contents.all_fit(&ResultsApart { alloc }, sure.are_apt),
         _ => Ok(true),
     }
 }
@@ -178,8 +207,7 @@ pub(crate) struct Header<'a> {
     pub(crate) alloc: Global,
     pub(crate) scope: &'a Scope<'a>,
     pub(crate) is_new: bool,
-    /// Its variables are declared, with their sorts; where not, that isn't known.
-    pub(crate) are_settled: bool,
+    pub(crate) sure: Sure,
     /// Both formulas may be judged at its sort; where not, that isn't known.
     pub(crate) is_judged: bool,
 }
@@ -255,7 +283,8 @@ impl<'a> Place for Header<'a> {
     ghost ready = { λ head. IsScope head.scope.now
         × IsSmall (procedure_in head.scope.now).pre
         × IsSmall (procedure_in head.scope.now).post
-        × HeadSettled head.are_settled head.scope.now
+        × HeadSettled head.sure.are_settled head.scope.now
+        × HeadApt head.sure.are_apt head.scope.now
         × HeadJudged head.is_judged (procedure_in head.scope.now) };
 
     ghost tests = { λ head kind. model.header (theory_in head.scope.now.names.now)
@@ -269,7 +298,7 @@ impl<'a> Place for Header<'a> {
             FileKind::Sort => Ok(
                 (self.is_judged || is_head_judged(self.scope)) && self.passes_inside(kind)?,
             ),
-            FileKind::Scope => Ok(is_settled_head_in_scope(self.scope, self.are_settled)),
+            FileKind::Scope => Ok(is_settled_head_in_scope(self.scope, self.sure.are_settled)),
             _ => self.passes_inside(kind),
         }
     }
@@ -279,12 +308,13 @@ impl<'a> Header<'a> {
     // Whether there is no fault of the kind among its variables and commands.
     fn passes_inside(&self, kind: FileKind) -> Result<bool, OutOfMemory>
         requires scope { IsScope self.now.scope.now }
-        requires settled { HeadSettled self.now.are_settled self.now.scope.now }
+        requires settled { HeadSettled self.now.sure.are_settled self.now.scope.now }
+        requires apt { HeadApt self.now.sure.are_apt self.now.scope.now }
         ensures { IfOk result (λ b. b ≡ model.inside_head (theory_in self.now.scope.now.names.now)
             (procedure_in self.now.scope.now) (kind_of kind)) }
     {
         let contents = Contents::of_head(self.scope.procedure);
-        passes_inside(self.alloc, self.scope, &contents, self.are_settled, kind)
+        passes_inside(self.alloc, self.scope, &contents, self.sure, kind)
     }
 }
 
@@ -344,8 +374,7 @@ pub(crate) struct ProofStep<'a> {
     pub(crate) scope: &'a Scope<'a>,
     pub(crate) place: u32,
     pub(crate) step: &'a Step,
-    /// Its variables are declared, with their sorts; where not, that isn't known.
-    pub(crate) are_settled: bool,
+    pub(crate) sure: Sure,
     /// The formulas of its judgement may be judged at its sort; where not, that isn't known.
     pub(crate) is_judged: bool,
 }
@@ -354,20 +383,23 @@ impl<'a> ProofStep<'a> {
     // Whether there is no fault of the kind among its variables and commands.
     fn passes_inside(&self, kind: FileKind) -> Result<bool, OutOfMemory>
         requires scope { IsScope self.now.scope.now }
-        requires settled { StepSettled self.now.are_settled self.now.scope.now
+        requires settled { StepSettled self.now.sure.are_settled self.now.scope.now
+            (step_of self.now.step.now) }
+        requires apt { StepApt self.now.sure.are_apt self.now.scope.now
             (step_of self.now.step.now) }
         ensures { IfOk result (λ b. b ≡ model.inside_step (theory_in self.now.scope.now.names.now)
             (procedure_in self.now.scope.now) (step_of self.now.step.now) (kind_of kind)) }
     {
         let contents = Contents::of_step(self.step);
-        passes_inside(self.alloc, self.scope, &contents, self.are_settled, kind)
+        passes_inside(self.alloc, self.scope, &contents, self.sure, kind)
     }
 }
 
 impl<'a> Place for ProofStep<'a> {
     ghost ready = { λ at. IsScope at.scope.now
         × JudgementIsSmall (judgement_of at.step.now.judgement)
-        × StepSettled at.are_settled at.scope.now (step_of at.step.now)
+        × StepSettled at.sure.are_settled at.scope.now (step_of at.step.now)
+        × StepApt at.sure.are_apt at.scope.now (step_of at.step.now)
         × OnTrue at.is_judged
         (model.judgement_sorted (judgement_of at.step.now.judgement) ≡ true) };
 

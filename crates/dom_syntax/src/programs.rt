@@ -21,7 +21,7 @@ ghost use Rattle.dom_syntax.specs.declared.programs.ProgramFault.TheVariants as 
 
 use crate::contents::Contents;
 use crate::kinds::FileKind;
-use crate::places::{Declarations, Header, ProofStep, are_settled, first_kind};
+use crate::places::{Declarations, Header, ProofStep, first_kind, sure_of};
 use crate::scopes::{Names, Scope};
 use crate::tables::Table;
 use dom_terms::OutOfMemory;
@@ -98,13 +98,13 @@ fn check_step_at(
         (model.step_kind (theory_in scope.now.names.now) (procedure_in scope.now) place
         (step_of step.now))) }
 {
-    let are_settled = are_settled(scope, &Contents::of_step(step), told.are_settled)?;
+    let sure = sure_of(alloc, scope, &Contents::of_step(step), told.are_settled)?;
     let at = ProofStep {
         alloc,
         scope,
         place,
         step,
-        are_settled,
+        sure,
         is_judged: told.are_judged,
     };
     verdict(procedure, place, first_kind(&at)?)
@@ -149,12 +149,17 @@ fn check_header(
         → Reports result (step_fault procedure 0
         (model.head_kind (theory_in scope.now.names.now) earlier (procedure_in scope.now))) }
 {
-    let are_settled = are_settled(scope, &Contents::of_head(scope.procedure), told.are_settled)?;
+    let sure = sure_of(
+        alloc,
+        scope,
+        &Contents::of_head(scope.procedure),
+        told.are_settled,
+    )?;
     let head = Header {
         alloc,
         scope,
         is_new,
-        are_settled,
+        sure,
         is_judged: told.are_judged,
     };
     verdict(procedure, 0, first_kind(&head)?)
