@@ -38,7 +38,9 @@ use std::alloc::Global;
 
 /// Does what the words after the program's name ask for, and answers how it ended. The forms today
 /// are `check FILE`, `run FILE PROC DOC FUEL ARG*`, `make N` and `trial N`. The output is built
-/// whole and then written.
+/// whole and then written. It is made for a program that ends behind it: the memory of the theory
+/// of a file that was read is mostly left to the system. `check_bytes` and `run_bytes` give all
+/// back.
 pub fn domcheck<L: Library, S: Sink>(
     alloc: Global,
     words: &[String],
