@@ -1,16 +1,18 @@
 #!/usr/bin/env python3
-"""Measures `check` on large files, against gzip on the same file in the same minute.
+"""Measures reading and `check` of large files, against gzip on the same file in the same minute.
 
     bench/large_files.py [PROGRAM] [SHAPE..]
     bench/large_files.py --write FOLDER [SHAPE..]
 
-PROGRAM is the built program, crates/domcheck_cli/out/domcheck_cli where none is given. Each shape is
-measured at 0.25, 0.5, 1, 2 and 4 MB. For each file it prints the mean user time of `check` in some
-runs, how many times that of `gzip < FILE > /dev/null` in as many runs it is, and the greatest
-resident memory, also in bytes for a byte of the file. The system tells a run's time in the program
-from its time in the system by samples, so the least of short runs says too little. What this script
-holds itself, some 10 MB, is the least that it can see. With --write the files are written, and
-nothing is measured.
+PROGRAM is the built program, crates/domcheck_cli/out/domcheck_cli where none is given. Each shape
+is measured at 0.25, 0.5, 1, 2 and 4 MB. For each file it prints the mean user times of reading it
+and of `check` in some runs, how many times that of `gzip < FILE > /dev/null` in as many runs each
+is, and the greatest resident memory, also in bytes for a byte of the file. Reading is measured by a
+`run` of the first procedure with fuel for one step: it reads the whole file and judges whether it is
+well formed, takes the step, and asks no rule. The system tells a run's time in the program from its
+time in the system by samples, so the least of short runs says too little. What this script holds
+itself, some 10 MB, is the least that it can see. With --write the files are written, and nothing is
+measured.
 
     assignments  procedures, 923 in 4 MB, each a block of assignments with its proof
     citations    a proof of skips, of which two fifths cite a step that stands as far back
@@ -32,6 +34,7 @@ Each file is accepted.
 """
 import os
 import pathlib
+import re
 import subprocess
 import sys
 import tempfile
@@ -46,6 +49,10 @@ MOST_BYTES = 4_194_304
 MOST_STEPS = 65_535
 PROCEDURES = 923
 RUNS = 9
+
+# An argument of each sort, and a document, of a run.
+ARGUMENTS = {"node": "null", "list": "nolist", "int": "1", "str": "a", "bool": "yes"}
+DOCUMENT = '["a"#1[0f]%1]\n'
 
 HEAD = "domlogic 1\n"
 NAMES = "logic str $s;\nlogic node $i, $n;\nlogic list $l, $m, $w;\nlogic f $q;\n"
@@ -460,19 +467,36 @@ def run(words, file, statuses):
     return used.ru_utime, used.ru_maxrss * 1024
 
 
-def means(words, file):
-    """The mean user times of the words and of gzip, run in turn, and the words' greatest memory."""
-    pairs = [(run(words, file, (0,)), run(["gzip"], file, (0,))) for _ in range(RUNS)]
-    check, gzip = (sum(used for used, _ in runs) / RUNS for runs in zip(*pairs))
-    return check, gzip, max(memory for (_, memory), _ in pairs)
+def reading(program, file, document):
+    """The words of a run of the file's first procedure, which reads and judges the file."""
+    with open(file, encoding="utf-8") as it:
+        name, params = re.search(r"proc\s+(\w+)\s*\(([^)]*)\)", it.read()).groups()
+    arguments = [ARGUMENTS[sort] for sort in re.findall(r":\s*(\w+)", params)]
+    return [program, "run", file, name, document, "1", *arguments]
 
 
-def measure(program, name, file):
+def means(requests, file):
+    """The mean user times of each of the requests and of gzip, run in turn, and the greatest memory.
+
+    A request is its words; it ends with status 0, or with 7 where its fuel is spent.
+    """
+    times = {tuple(words): [] for words in [*requests, ["gzip"]]}
+    greatest = 0
+    for _ in range(RUNS):
+        for words, used in times.items():
+            time, memory = run(words, file, (0, 7))
+            used.append(time)
+            greatest = max(greatest, memory)
+    return [*(sum(used) / RUNS for used in times.values()), greatest]
+
+
+def measure(program, name, file, document):
     """Prints what the program takes on the file, beside gzip."""
     size = os.path.getsize(file)
-    check, gzip, memory = means([program, "check", file], file)
-    ratio = f"{check / gzip:.1f}" if gzip else "no"
-    times = f"check {check:.2f} s, gzip {gzip:.2f} s, ratio {ratio}"
+    requests = [reading(program, file, document), [program, "check", file]]
+    read, check, gzip, memory = means(requests, file)
+    ratios = f"{read / gzip:.1f} and {check / gzip:.1f}" if gzip else "no"
+    times = f"read {read:.2f} s, check {check:.2f} s, gzip {gzip:.2f} s, ratios {ratios}"
     space = f"{memory / 1e6:.0f} MB, {memory / size:.1f} for a byte"
     print(f"{name}: {size:,} bytes, {times}, {space}", flush=True)
 
@@ -496,11 +520,13 @@ def main(words):
         sys.exit(f"{program} isn't built: `./domcheck check examples/first.dom` builds it")
     with tempfile.TemporaryDirectory() as room:
         folder = (others or ["."])[0] if writes else room
+        document = os.path.join(room, "document")
+        pathlib.Path(document).write_text(DOCUMENT, encoding="utf-8")
         for shape in shapes:
             for halvings in range(4, -1, -1):
                 file = write(shape, MOST_BYTES >> halvings, folder)
                 if not writes:
-                    measure(program, shape, file)
+                    measure(program, shape, file, document)
 
 
 if __name__ == "__main__":

@@ -79,7 +79,7 @@ def measure(program, shape, folder, recorder, least, whole):
         places(record).tofile(it)
     words = [least, file, f"{folder}/calls", str(LOOKS)]
     least, tokens, memory, looks, found, parts, _ = told(words)
-    check, gzip, _ = bench.means([program, "check", file], file)
+    check, gzip, _ = bench.means([[program, "check", file]], file)
     print(f"{shape}: least {least:.3f} s (tokens {tokens:.3f}, memory {memory:.3f},"
           f" looks {looks:.3f}), check {check:.2f} s, gzip {gzip:.3f} s;"
           f" least {least / gzip:.1f} times gzip, check {check / gzip:.1f};"
