@@ -11,8 +11,8 @@ is, and the greatest resident memory, also in bytes for a byte of the file. Read
 `run` of the first procedure with fuel for one step: it reads the whole file and judges whether it is
 well formed, takes the step, and asks no rule. The system tells a run's time in the program from its
 time in the system by samples, so the least of short runs says too little. What this script holds
-itself, some 10 MB, is the least that it can see. With --write the files are written, and nothing is
-measured.
+itself, 10 to 35 MB by the shapes before, is the least that it can see. With --write the files are
+written, and nothing is measured.
 
     assignments  procedures, 923 in 4 MB, each a block of assignments with its proof
     citations    a proof of skips, of which two fifths cite a step that stands as far back
@@ -470,7 +470,8 @@ def run(words, file, statuses):
 def reading(program, file, document):
     """The words of a run of the file's first procedure, which reads and judges the file."""
     with open(file, encoding="utf-8") as it:
-        name, params = re.search(r"proc\s+(\w+)\s*\(([^)]*)\)", it.read()).groups()
+        heads = (re.match(r"proc\s+(\w+)\s*\(([^)]*)\)", line) for line in it)
+        name, params = next(head for head in heads if head).groups()
     arguments = [ARGUMENTS[sort] for sort in re.findall(r":\s*(\w+)", params)]
     return [program, "run", file, name, document, "1", *arguments]
 
