@@ -6,6 +6,7 @@ ghost use Rattle.logic_text.specs.RawGroves.{raw_tree_of, raw_forest_of};
 ghost use Rattle.logic_text.specs.Ranges.{numbered, Tells};
 
 use crate::raw_groves::{RawForest, RawGrove, RawTree};
+use dom_terms::limits::IDENTIFIER;
 use dom_terms::{Copied, OutOfMemory};
 use grove_data::{Forest, Grove, IdKind, Tree};
 use std::alloc::Global;
@@ -42,7 +43,7 @@ fn ranged(kind: IdKind, number: u64) -> Result<u32, RangeFault>
     ensures out { IfErr result (λ e. (e ≡ RangeFault.OutOfRange kind number)
         × (is_in_range (numbered kind number) ≡ false)) }
 {
-    if number == 0 || number > 4_294_967_295 {
+    if number == 0 || number > u64::from(IDENTIFIER) {
         return Err(RangeFault::OutOfRange { kind, number });
     }
     Ok(number as u32)

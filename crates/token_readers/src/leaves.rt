@@ -30,10 +30,7 @@ fn word_of(token: Lexeme) -> Option<&str>
 fn number_of(token: Lexeme) -> Option<u32>
     ensures { result ≡ leaf_number (lexeme_seen token.entry) }
 {
-    match token.number() {
-        Some(number) if number <= 4_294_967_295 => Some(number as u32),
-        _ => None,
-    }
+    u32::try_from(token.number()?).ok()
 }
 
 fn line_of(token: Lexeme) -> Option<u32>
