@@ -3,11 +3,13 @@ use crate::formulas::{logic, program};
 use crate::groves::{document, leaf};
 use crate::terms::integer;
 use context_apply::{Piece, cut_at};
-use dom_meaning::{Config, Pending, Pieces};
-use dom_terms::{Cond, Copied, DataSort, List, Sort, Store, Text, Value};
+use dom_meaning::{Config, FaultKind, Outcome, Pending, Pieces};
+use dom_terms::{Cond, Copied, DataSort, List, Sort, Store, Text, Value, Values};
 use formula_syntax::{AnyVar, Entailment, Formula, Pair};
+use heap_runner::HeapOutcome;
 use logic_text::read_grove;
 use proof_text::read_theory;
+use request_words::Request;
 use std::alloc::Global;
 use std::fmt::Debug;
 use std::process::Abort;
@@ -92,4 +94,65 @@ fn configurations_are_copied(rt: HostRuntime) -> Result<(), Fail> {
         results,
     };
     check_copy(&rt, alloc, &config)
+}
+
+// a text and an integer
+fn values(alloc: Global) -> Result<Values, Fail> {
+    let mut values = List::new(alloc);
+    values.push(Value::Str(Text::from_str(alloc, "é")?))?;
+    values.push(Value::Int(7))?;
+    Ok(values)
+}
+
+// a command with a variable and a term
+fn assigning(alloc: Global) -> Result<Command, Fail> {
+    Ok(Command::Assign(integer(alloc, "x")?, program(alloc, "y")?))
+}
+
+#[test]
+fn outcomes_are_copied(rt: HostRuntime) -> Result<(), Fail> {
+    let alloc = rt.alloc();
+    let ended = Outcome::Ended {
+        steps: 3,
+        values: values(alloc)?,
+        grove: leaf(alloc, "a", 1)?,
+    };
+    check_copy(&rt, alloc, &ended)?;
+    let fault = Outcome::Fault {
+        kind: FaultKind::NoList,
+        steps: 2,
+        command: assigning(alloc)?,
+    };
+    check_copy(&rt, alloc, &fault)
+}
+
+#[test]
+fn outcomes_on_heaps_are_copied(rt: HostRuntime) -> Result<(), Fail> {
+    let alloc = rt.alloc();
+    let ended = HeapOutcome::Ended {
+        steps: 3,
+        values: values(alloc)?,
+    };
+    check_copy(&rt, alloc, &ended)?;
+    let fault = HeapOutcome::Fault {
+        kind: FaultKind::Cycle,
+        steps: 2,
+        command: assigning(alloc)?,
+    };
+    check_copy(&rt, alloc, &fault)
+}
+
+#[test]
+fn requests_are_copied(rt: HostRuntime) -> Result<(), Fail> {
+    let alloc = rt.alloc();
+    let mut arguments = List::new(alloc);
+    arguments.push(Text::from_str(alloc, "#1")?)?;
+    let run = Request::Run {
+        file: Text::from_str(alloc, "a.dl")?,
+        procedure: Text::from_str(alloc, "main")?,
+        document: Text::from_str(alloc, "z")?,
+        fuel: 9,
+        arguments,
+    };
+    check_copy(&rt, alloc, &run)
 }

@@ -1,5 +1,5 @@
 -- How a run comes out, as an outcome of the definitions. Want of memory is free.
-use Rattle.std.specs.Prelude.{◌≡◌, ℕ, ◌+◌, List, map, nat_le, ◌&&◌, cond}
+use Rattle.std.specs.Prelude.{◌≡◌, ℕ, ◌+◌, List, [], map, nat_le, ◌&&◌, cond, Option, Some, None}
 use Rattle.model_shapes.specs.Trees.{Trees}
 use Rattle.model_terms.specs.Stores.{ProgVar}
 use Rattle.model_groves.specs.Picks.{Pick, next_pick}
@@ -26,6 +26,21 @@ IsOutcome results fuel (o.Spent config) came_out =
     (came_out ≡ model.spends fuel (config_of config)) × (map prog_var_of config.results ≡ results)
 IsOutcome results fuel (o.Limit kind) came_out = came_out ≡ model.passes_limit (limit_kind_of kind)
 IsOutcome results fuel o.OutOfMemory came_out = Unit
+
+-- What an outcome says by itself of a run with this fuel; want of memory says nothing.
+abbrev pub outcome_with : Outcome → ℕ → Option model.Outcome
+outcome_with (o.Ended steps values grove) fuel =
+    Some (model.ends steps (map value_seen values) (forest_of grove))
+outcome_with (o.Fault kind steps command) fuel =
+    Some (model.has_fault (fault_kind_of kind) steps (command_of command))
+outcome_with (o.Spent config) fuel = Some (model.spends fuel (config_of config))
+outcome_with (o.Limit kind) fuel = Some (model.passes_limit (limit_kind_of kind))
+outcome_with o.OutOfMemory fuel = None
+
+-- the result variables of the configuration that is handed back
+abbrev pub results_left : Outcome → List ProgVar
+results_left (o.Spent config) = map prog_var_of config.results
+results_left came_out = []
 
 -- what holds of the configuration that is handed back
 abbrev pub IfSpent : Outcome → (machine.Config → Type 0) → Type 0

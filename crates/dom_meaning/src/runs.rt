@@ -20,7 +20,7 @@ use crate::configurations::{Config, Pending};
 use crate::faults::{FaultKind, StepFault};
 use crate::results::values_of;
 use crate::steps::{StepOut, step};
-use dom_terms::{LimitKind, Values};
+use dom_terms::{Copied, LimitKind, OutOfMemory, Values};
 use grove_data::{Grove, greatest_ids};
 use std::alloc::Global;
 use theory_syntax::{Command, Theory};
@@ -48,6 +48,54 @@ pub enum Outcome {
     Limit(LimitKind),
     /// Memory was refused.
     OutOfMemory,
+}
+
+impl Copied for Outcome {
+    ghost use Rattle.std.specs.Prelude.{List, Option};
+    ghost use Rattle.model_machine.specs.Outcomes as model;
+    ghost use Rattle.dom_meaning.specs.Runs.{outcome_with, results_left};
+
+    ghost Seen = { (ℕ → Option model.Outcome) × List stores.ProgVar };
+
+    ghost seen = { λ outcome. (outcome_with outcome, results_left outcome) };
+
+    fn copy(&self, alloc: Global) -> Result<Outcome, OutOfMemory>
+        ensures says { IfOk result (λ copied. outcome_with copied ≡ outcome_with self.now) }
+        ensures left { IfOk result (λ copied. results_left copied ≡ results_left self.now) }
+    {
+        match self {
+            Self::Ended {
+                steps,
+                values,
+                grove,
+            } => {
+                let values = values.copy(alloc)?;
+                Ok(Self::Ended {
+                    steps: *steps,
+                    values,
+                    grove: grove.copy(alloc)?,
+                })
+            }
+            Self::Fault {
+                kind,
+                steps,
+                command,
+            } => {
+                Ok(Self::Fault {
+                    kind: *kind,
+                    steps: *steps,
+                    command: command.copy(alloc)?,
+                })
+            }
+            Self::Spent { config } => {
+                Ok(Self::Spent {
+                    config: config.copy(alloc)?,
+                })
+            }
+            Self::Limit(kind) => Ok(Self::Limit(*kind)),
+            Self::OutOfMemory => Ok(Self::OutOfMemory),
+        }
+    }
 }
 
 /// Runs the configuration for at most `fuel` steps. A new node takes one more than the greatest

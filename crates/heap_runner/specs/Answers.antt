@@ -1,6 +1,6 @@
 -- How a run on a heap comes out, as an outcome of the definitions, and which grove the heap then
 -- stands for. The order of the roots is free, and so is want of memory.
-use Rattle.std.specs.Prelude.{◌≡◌, ℕ, suc, ◌<◌, ◌≤◌, map}
+use Rattle.std.specs.Prelude.{◌≡◌, ℕ, suc, ◌<◌, ◌≤◌, map, Option, Some, None}
 use Rattle.model_shapes.specs.Sorts.{grove}
 use Rattle.model_shapes.specs.Trees.{Trees}
 use Rattle.model_shapes.specs.Shapes.{SameAt}
@@ -12,6 +12,17 @@ use Rattle.theory_syntax.specs.Commands.{command_of}
 use Rattle.dom_meaning.specs.Faults.{fault_kind_of}
 use Rattle.heap_runner.specs.declared.outcomes.HeapOutcome.{HeapOutcome}
 use Rattle.heap_runner.specs.declared.outcomes.HeapOutcome.TheVariants as o
+
+-- What a heap's outcome says by itself of a run that leaves this configuration; want of memory says
+-- nothing.
+abbrev pub outcome_leaving : HeapOutcome → Config → Option model.Outcome
+outcome_leaving (o.Ended steps values) left =
+    Some (model.ends steps (map value_seen values) left.grove)
+outcome_leaving (o.Fault kind steps command) left =
+    Some (model.has_fault (fault_kind_of kind) steps (command_of command))
+outcome_leaving (o.Spent steps) left = Some (model.spends steps left)
+outcome_leaving (o.Limit kind) left = Some (model.passes_limit (limit_kind_of kind))
+outcome_leaving o.OutOfMemory left = None
 
 -- the grove is that which a run leaves that ends or whose fuel is spent
 abbrev pub Leaves : model.Outcome → Trees → Type 0

@@ -9,7 +9,7 @@ ghost use Rattle.request_words.specs.declared.requests.WordFault.TheVariants.{Ou
 
 use crate::decimals::decimal;
 use dom_terms::limits::FUEL;
-use dom_terms::{OutOfMemory, Text, Texts};
+use dom_terms::{Copied, OutOfMemory, Text, Texts};
 use std::alloc::Global;
 
 /// The most procedures of a generated theory that may be asked for.
@@ -46,6 +46,46 @@ pub enum Request {
         /// The number of procedures, from 1 to `MOST_PROCEDURES`.
         count: u32,
     },
+}
+
+impl Copied for Request {
+    ghost use Rattle.request_words.specs.Requests.{request_of};
+
+    ghost Seen = { model.Request };
+
+    ghost seen = { request_of };
+
+    fn copy(&self, alloc: Global) -> Result<Request, OutOfMemory>
+        ensures { IfOk result (λ copied. request_of copied ≡ request_of self.now) }
+    {
+        match self {
+            Self::Check { file } => {
+                Ok(Self::Check {
+                    file: file.copy(alloc)?,
+                })
+            }
+            Self::Run {
+                file,
+                procedure,
+                document,
+                fuel,
+                arguments,
+            } => {
+                let file = file.copy(alloc)?;
+                let procedure = procedure.copy(alloc)?;
+                let document = document.copy(alloc)?;
+                Ok(Self::Run {
+                    file,
+                    procedure,
+                    document,
+                    fuel: *fuel,
+                    arguments: arguments.copy(alloc)?,
+                })
+            }
+            Self::Make { count } => Ok(Self::Make { count: *count }),
+            Self::Trial { count } => Ok(Self::Trial { count: *count }),
+        }
+    }
 }
 
 /// Why words have no reading.
