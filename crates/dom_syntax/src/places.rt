@@ -171,7 +171,7 @@ fn is_judged_at(formula: &Formula, sort: Sort) -> bool
 
 // Whether the declared sort of each logic variable is a sort.
 fn are_logic_sorts(variables: &[LogicVar]) -> bool
-    ensures { result ≡ list_all model.is_logic_sort (map logic_var_of variables.now) }
+    ensures { result ≡ list_all model.may_bind (map logic_var_of variables.now) }
 {
     for variable in variables {
         if !is_sort(variable.sort) {

@@ -12,7 +12,7 @@ use Rattle.model_terms.specs.Terms.{Term, literal, variable, sum, difference, ap
 use Rattle.model_formulas.specs.Formulas.{Named, truth, falsity, conjunction, disjunction, implication, negation, existential, universal, equality, at_most, empty, bare_hole, node_formula, one_tree, one_root, concatenation, grove_sum, grove_sum_hole, application, hole_adjoint, context_adjoint, same_as, length_is, value_meets}
 use Rattle.model_formulas.specs.Substitution.{FreeIn}
 use Rattle.model_formulas.specs.Nameless.{names, naming, walked, nameless}
-use Rattle.formula_syntax.specs.FreeVariables.{is_among, without, each_once, term_variables, occurrences, free_in_order}
+use Rattle.formula_syntax.specs.FreeVariables.{is_among, without, each_once, variables_of_term, occurrences, free_in_order}
 use Rattle.formula_syntax.specs.Gathering.{outside}
 use Rattle.formula_syntax.proofs.BoundNames.{names-here, names-there}
 use Rattle.formula_syntax.proofs.Gathering.{outside-append, outside-none}
@@ -91,26 +91,26 @@ two-free xs y us vs f g =
     ∙ list_any-append (same_var y) (outside xs us) (outside xs vs)) f g
 
 term-free : (a : Term) (xs : List Var) (y : Var)
-    → IsTrue (is_among y (outside xs (term_variables a)))
+    → IsTrue (is_among y (outside xs (variables_of_term a)))
     ↔ InTerm (deep xs y) (term_with (naming xs) a)
 term-free (literal v) xs y = nothing-free xs y (λ f. f)
 term-free (variable z) xs y = variable-free xs y z
 term-free (sum a b) xs y =
-    two-free xs y (term_variables a) (term_variables b) (term-free a xs y) (term-free b xs y)
+    two-free xs y (variables_of_term a) (variables_of_term b) (term-free a xs y) (term-free b xs y)
 term-free (difference a b) xs y =
-    two-free xs y (term_variables a) (term_variables b) (term-free a xs y) (term-free b xs y)
+    two-free xs y (variables_of_term a) (variables_of_term b) (term-free a xs y) (term-free b xs y)
 term-free (appended a b) xs y =
-    two-free xs y (term_variables a) (term_variables b) (term-free a xs y) (term-free b xs y)
+    two-free xs y (variables_of_term a) (variables_of_term b) (term-free a xs y) (term-free b xs y)
 
 abbrev Found : Named → List Var → Var → Type 0
 Found p xs y =
     IsTrue (is_among y (outside xs (occurrences p))) ↔ FreeIn (deep xs y) (walked xs p)
 
 terms-free : (a b : Term) (xs : List Var) (y : Var)
-    → IsTrue (is_among y (outside xs (term_variables a ++ term_variables b)))
+    → IsTrue (is_among y (outside xs (variables_of_term a ++ variables_of_term b)))
     ↔ (InTerm (deep xs y) (term_with (naming xs) a) ⊎ InTerm (deep xs y) (term_with (naming xs) b))
 terms-free a b xs y =
-    two-free xs y (term_variables a) (term_variables b) (term-free a xs y) (term-free b xs y)
+    two-free xs y (variables_of_term a) (variables_of_term b) (term-free a xs y) (term-free b xs y)
 
 both-free : (p q : Named) (xs : List Var) (y : Var) → Found p xs y → Found q xs y
     → IsTrue (is_among y (outside xs (occurrences p ++ occurrences q)))
@@ -134,10 +134,10 @@ free-walked (at_most a b) xs y = terms-free a b xs y
 free-walked (empty k) xs y = nothing-free xs y (λ f. f)
 free-walked (bare_hole h) xs y = nothing-free xs y (λ f. f)
 free-walked (node_formula a b p c) xs y =
-    two-free xs y (term_variables a)
-    (term_variables b ++ (occurrences p ++ term_variables c)) (term-free a xs y)
-    (two-free xs y (term_variables b) (occurrences p ++ term_variables c) (term-free b xs y)
-    (two-free xs y (occurrences p) (term_variables c) (free-walked p xs y) (term-free c xs y)))
+    two-free xs y (variables_of_term a)
+    (variables_of_term b ++ (occurrences p ++ variables_of_term c)) (term-free a xs y)
+    (two-free xs y (variables_of_term b) (occurrences p ++ variables_of_term c) (term-free b xs y)
+    (two-free xs y (occurrences p) (variables_of_term c) (free-walked p xs y) (term-free c xs y)))
 free-walked (one_tree p) xs y = free-walked p xs y
 free-walked (one_root p) xs y = free-walked p xs y
 free-walked (concatenation side p q) xs y =
@@ -155,7 +155,7 @@ free-walked (context_adjoint k p q) xs y =
 free-walked (same_as a) xs y = term-free a xs y
 free-walked (length_is a) xs y = term-free a xs y
 free-walked (value_meets s a p) xs y =
-    two-free xs y (term_variables a) (occurrences p) (term-free a xs y) (free-walked p xs y)
+    two-free xs y (variables_of_term a) (occurrences p) (term-free a xs y) (free-walked p xs y)
 
 -- each once has what the list has
 among-once : (xs : List Var) (y : Var) → is_among y (each_once xs) ≡ is_among y xs

@@ -19,7 +19,7 @@ use Rattle.formula_syntax.specs.declared.replaced.Name.{Name}
 use Rattle.formula_syntax.specs.declared.replaced.Name.TheVariants as n
 use Rattle.formula_syntax.specs.declared.renaming.Scopes.{Scopes}
 use Rattle.formula_syntax.specs.declared.renaming.Scopes.TheVariants as s
-use Rattle.formula_syntax.specs.FreeVariables.{is_among, term_variables}
+use Rattle.formula_syntax.specs.FreeVariables.{is_among, variables_of_term}
 use Rattle.formula_syntax.specs.Substitution.{below, replacing_each, var_named}
 use Rattle.formula_syntax.specs.Renaming.{name_length, longest_in, longest_put, is_put, before, after, became, limit, reach, Apart}
 use Rattle.formula_syntax.proofs.Gathering.{any-seen}
@@ -211,8 +211,8 @@ not-became pairs (s.Renamed' x y p outer) a z r h e =
 
 -- the test of the pairs of the program
 pub put-seen : (x : Var) (pairs : List Pair) → is_put x (map pair_of pairs)
-    ≡ list_any (λ pair. is_among x (term_variables (term_of pair.term))) pairs
-put-seen x pairs = any-seen pair_of (λ pair. is_among x (term_variables pair.1)) pairs
+    ≡ list_any (λ pair. is_among x (variables_of_term (term_of pair.term))) pairs
+put-seen x pairs = any-seen pair_of (λ pair. is_among x (variables_of_term pair.1)) pairs
 
 or-either : (b c : Bool) → (b || c) ≡ true → (b ≡ true) ⊎ (c ≡ true)
 or-either true c e = inl refl
@@ -226,16 +226,16 @@ or-right true c e = refl
 or-right false c e = e
 
 two-short : (x : Var) (a b : Term)
-    → (is_among x (term_variables a) ≡ true → name_length x ≤ longest_in a)
-    → (is_among x (term_variables b) ≡ true → name_length x ≤ longest_in b)
-    → is_among x (term_variables a ++ term_variables b) ≡ true
+    → (is_among x (variables_of_term a) ≡ true → name_length x ≤ longest_in a)
+    → (is_among x (variables_of_term b) ≡ true → name_length x ≤ longest_in b)
+    → is_among x (variables_of_term a ++ variables_of_term b) ≡ true
     → name_length x ≤ max (longest_in a) (longest_in b)
 two-short x a b f g e = ⊎_elim (λ h. omega (arith, f h)) (λ h. omega (arith, g h))
-    (or-either (is_among x (term_variables a)) (is_among x (term_variables b))
-    (sym (list_any-append (same_var x) (term_variables a) (term_variables b)) ∙ e))
+    (or-either (is_among x (variables_of_term a)) (is_among x (variables_of_term b))
+    (sym (list_any-append (same_var x) (variables_of_term a) (variables_of_term b)) ∙ e))
 
 -- the names of a term to be put in are among those that were there
-among-short : (x : Var) (t : Term) → is_among x (term_variables t) ≡ true
+among-short : (x : Var) (t : Term) → is_among x (variables_of_term t) ≡ true
     → name_length x ≤ longest_in t
 among-short x (literal v) e = false≢true e
 among-short x (variable y) e = by_test (same_var x y) refl e
@@ -253,7 +253,7 @@ put-short : (pairs : List (Var × Term)) (x : Var) → is_put x pairs ≡ true
 put-short [] x e = false≢true e
 put-short (pair ∷ pairs) x e = ⊎_elim (λ h. omega (arith, among-short x pair.1 h))
     (λ h. omega (arith, put-short pairs x h))
-    (or-either (is_among x (term_variables pair.1)) (is_put x pairs) e)
+    (or-either (is_among x (variables_of_term pair.1)) (is_put x pairs) e)
 
 put-limit : (pairs : List (Var × Term)) (s : Scopes) → Apart pairs s → longest_put pairs ≤ limit s
 put-limit pairs (s.Outermost longest) a = a
@@ -279,23 +279,25 @@ put-named pairs (s.Renamed' x y p outer) a u r e =
 -- each variable of the term is named as it is
 abbrev AllPlain : List Var → Term → Type 0
 AllPlain ys t =
-    (u : Var) → raised_var u ≡ u → is_among u (term_variables t) ≡ true → names ys u ≡ u
+    (u : Var) → raised_var u ≡ u → is_among u (variables_of_term t) ≡ true → names ys u ≡ u
 
 left-plain : (ys : List Var) (a b : program.Term)
     → ((u : Var) → raised_var u ≡ u
-    → is_among u (term_variables (term_of a) ++ term_variables (term_of b)) ≡ true
+    → is_among u (variables_of_term (term_of a) ++ variables_of_term (term_of b)) ≡ true
     → names ys u ≡ u) → AllPlain ys (term_of a)
 left-plain ys a b h u r e = h u r
-    (list_any-append (same_var u) (term_variables (term_of a)) (term_variables (term_of b))
-    ∙ or-left (is_among u (term_variables (term_of a))) (is_among u (term_variables (term_of b))) e)
+    (list_any-append (same_var u) (variables_of_term (term_of a)) (variables_of_term (term_of b))
+    ∙ or-left (is_among u (variables_of_term (term_of a)))
+    (is_among u (variables_of_term (term_of b))) e)
 
 right-plain : (ys : List Var) (a b : program.Term)
     → ((u : Var) → raised_var u ≡ u
-    → is_among u (term_variables (term_of a) ++ term_variables (term_of b)) ≡ true
+    → is_among u (variables_of_term (term_of a) ++ variables_of_term (term_of b)) ≡ true
     → names ys u ≡ u) → AllPlain ys (term_of b)
 right-plain ys a b h u r e = h u r
-    (list_any-append (same_var u) (term_variables (term_of a)) (term_variables (term_of b))
-    ∙ or-right (is_among u (term_variables (term_of a))) (is_among u (term_variables (term_of b)))
+    (list_any-append (same_var u) (variables_of_term (term_of a)) (variables_of_term (term_of b))
+    ∙ or-right (is_among u (variables_of_term (term_of a)))
+    (is_among u (variables_of_term (term_of b)))
     e)
 
 -- a term of the program none of whose variables these binders bind is as it is written
@@ -329,7 +331,7 @@ put-plain ys [] h v e = ap variable e
 put-plain ys (pair ∷ pairs) h v e =
     by_test (same_var v (pair_of pair).0) refl
     (put-plain ys pairs
-    (λ u r d. h u r (or-right (is_among u (term_variables (term_of pair.term)))
+    (λ u r d. h u r (or-right (is_among u (variables_of_term (term_of pair.term)))
     (is_put u (map pair_of pairs)) d)) v e)
   where
     whole : Substitution
@@ -346,7 +348,7 @@ put-plain ys (pair ∷ pairs) h v e =
         replaced-here (pair_of pair).0 v (term_of pair.term) (after_it v) d in
         ap (term_with (naming ys)) q
         ∙ plain-term ys pair.term (λ u r k. h u r
-        (or-left (is_among u (term_variables (term_of pair.term)))
+        (or-left (is_among u (variables_of_term (term_of pair.term)))
         (is_put u (map pair_of pairs)) k)) ∙ sym q
     by_test false d f =
         let q : whole v ≡ after_it v =

@@ -4,12 +4,13 @@ use Rattle.std.specs.Prelude.{◌≡◌, ℕ, ◌<◌, ◌≤◌, max, length, B
 use Rattle.std.specs.List.{list_any}
 use Rattle.model_terms.specs.VariableTests.{same_var}
 use Rattle.model_terms.specs.Variables.{Var, prog, logic, bound, var_sort}
-use Rattle.model_terms.specs.Terms.{Term, literal, variable, sum, difference, appended}
-use Rattle.model_formulas.specs.Formulas.{Named, truth, falsity, conjunction, disjunction, implication, negation, existential, universal, equality, at_most, empty, bare_hole, node_formula, one_tree, one_root, concatenation, grove_sum, grove_sum_hole, application, hole_adjoint, context_adjoint, same_as, length_is, value_meets}
+use Rattle.model_terms.specs.Terms.{Term, gathered_in}
+use Rattle.model_formulas.specs.Formulas.{Named}
+use Rattle.model_formulas.specs.Substitution.{gathered}
 use Rattle.dom_terms.specs.Terms.{logic_var_of}
 use Rattle.formula_syntax.specs.declared.renaming.Scopes.{Scopes}
 use Rattle.formula_syntax.specs.declared.renaming.Scopes.TheVariants as s
-use Rattle.formula_syntax.specs.FreeVariables.{is_among, term_variables}
+use Rattle.formula_syntax.specs.FreeVariables.{is_among, variables_of_term}
 
 -- how long a variable's name is
 abbrev pub name_length : Var → ℕ
@@ -19,11 +20,7 @@ name_length (bound i s) = 0
 
 -- the length of the longest name in a term
 abbrev pub longest_in : Term → ℕ
-longest_in (literal v) = 0
-longest_in (variable x) = name_length x
-longest_in (sum a b) = max (longest_in a) (longest_in b)
-longest_in (difference a b) = max (longest_in a) (longest_in b)
-longest_in (appended a b) = max (longest_in a) (longest_in b)
+longest_in = gathered_in 0 max name_length
 
 -- of the longest one in the terms to be put in
 abbrev pub longest_put : List (Var × Term) → ℕ
@@ -32,35 +29,11 @@ longest_put (pair ∷ pairs) = max (longest_in pair.1) (longest_put pairs)
 
 -- of the longest one in a formula, those of its binders included
 abbrev pub longest_name : Named → ℕ
-longest_name truth = 0
-longest_name falsity = 0
-longest_name (conjunction p q) = max (longest_name p) (longest_name q)
-longest_name (disjunction p q) = max (longest_name p) (longest_name q)
-longest_name (implication p q) = max (longest_name p) (longest_name q)
-longest_name (negation p) = longest_name p
-longest_name (existential x p) = max (name_length x) (longest_name p)
-longest_name (universal x p) = max (name_length x) (longest_name p)
-longest_name (equality a b) = max (longest_in a) (longest_in b)
-longest_name (at_most a b) = max (longest_in a) (longest_in b)
-longest_name (empty k) = 0
-longest_name (bare_hole h) = 0
-longest_name (node_formula name number p list) =
-    max (max (longest_in name) (longest_in number)) (max (longest_name p) (longest_in list))
-longest_name (one_tree p) = longest_name p
-longest_name (one_root p) = longest_name p
-longest_name (concatenation side p q) = max (longest_name p) (longest_name q)
-longest_name (grove_sum p q) = max (longest_name p) (longest_name q)
-longest_name (grove_sum_hole p q) = max (longest_name p) (longest_name q)
-longest_name (application h p q) = max (longest_name p) (longest_name q)
-longest_name (hole_adjoint p q) = max (longest_name p) (longest_name q)
-longest_name (context_adjoint k p q) = max (longest_name p) (longest_name q)
-longest_name (same_as a) = longest_in a
-longest_name (length_is a) = longest_in a
-longest_name (value_meets s a p) = max (longest_in a) (longest_name p)
+longest_name = gathered 0 max longest_in (λ x. max (name_length x))
 
 -- the variable stands in a term to be put in
 abbrev pub is_put : Var → List (Var × Term) → Bool
-is_put x pairs = list_any (λ pair. is_among x (term_variables pair.1)) pairs
+is_put x pairs = list_any (λ pair. is_among x (variables_of_term pair.1)) pairs
 
 -- the variables that the binders had
 abbrev pub before : Scopes → List Var

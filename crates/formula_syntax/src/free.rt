@@ -11,7 +11,7 @@ ghost use Rattle.formula_syntax.specs.Formulas.{any_var_of, formula_of};
 ghost use Rattle.formula_syntax.specs.Binders.{bound_by};
 ghost use Rattle.formula_syntax.specs.Substitution.{var_named};
 ghost use Rattle.formula_syntax.specs.FreeVariables.{free_in_order, is_among, occurrences};
-ghost use Rattle.formula_syntax.specs.FreeVariables.{term_variables};
+ghost use Rattle.formula_syntax.specs.FreeVariables.{variables_of_term};
 ghost use Rattle.formula_syntax.specs.Gathering.{outside, with_each};
 
 use crate::binders::Binders;
@@ -119,7 +119,7 @@ fn add_term<'a>(
 ) -> Result<(), OutOfMemory>
     ensures { IfOk result (λ _. found.new
         ≡ with_each found.old
-        (outside (bound_by over.now) (term_variables (term_of term.now)))) }
+        (outside (bound_by over.now) (variables_of_term (term_of term.now)))) }
 {
     match term {
         Term::NullNode | Term::NullList | Term::Int(_) | Term::Str(_) | Term::Bool(_) => Ok(()),

@@ -3,7 +3,7 @@ ghost use Rattle.std.specs.Prelude.{◌≡◌, ◌<◌, IfOk, MatchOption, Some,
 ghost use Rattle.std.specs.List.{list_any};
 ghost use Rattle.dom_terms.specs.Terms.{logic_var_of, term_of};
 ghost use Rattle.formula_syntax.specs.Formulas.{formula_of, pair_of};
-ghost use Rattle.formula_syntax.specs.FreeVariables.{is_among, term_variables};
+ghost use Rattle.formula_syntax.specs.FreeVariables.{is_among, variables_of_term};
 ghost use Rattle.formula_syntax.specs.Renaming as own;
 
 use crate::formulas::Formula;
@@ -79,14 +79,14 @@ fn reach(scopes: &Scopes) -> usize
 // whether the variable stands in a term to be put in
 pub(crate) fn is_put(variable: &LogicVar, pairs: &[Pair]) -> bool
     ensures { result ≡ list_any (λ pair.
-        is_among (logic_var_of variable.now) (term_variables (term_of pair.term))) pairs.now }
+        is_among (logic_var_of variable.now) (variables_of_term (term_of pair.term))) pairs.now }
 {
     pairs.iter().any(|pair| stands_in(variable, &pair.term))
 }
 
 // whether the variable stands in the term
 fn stands_in(variable: &LogicVar, term: &Term) -> bool
-    ensures { result ≡ is_among (logic_var_of variable.now) (term_variables (term_of term.now)) }
+    ensures { result ≡ is_among (logic_var_of variable.now) (variables_of_term (term_of term.now)) }
 {
     match term {
         Term::NullNode | Term::NullList | Term::Int(_) | Term::Str(_) | Term::Bool(_) => false,
@@ -120,8 +120,8 @@ pub(crate) fn longest_name(formula: &Formula) -> usize
         }
         Formula::Eq(a, b) | Formula::Le(a, b) => longest_in(a).max(longest_in(b)),
         Formula::Node(name, number, p, list) => {
-            let terms = longest_in(name).max(longest_in(number));
-            terms.max(longest_name(p).max(longest_in(list)))
+            let parts = longest_name(p).max(longest_in(list));
+            longest_in(name).max(longest_in(number).max(parts))
         }
         Formula::Var(x) => x.name.len(),
         Formula::Len(length) => longest_in(length),

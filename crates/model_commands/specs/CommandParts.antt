@@ -8,7 +8,8 @@ use Rattle.model_terms.specs.Terms.{Term}
 pub use Rattle.model_terms.specs.TermSorts.{variables_of_term}
 use Rattle.model_terms.specs.Stores.{ProgVar, as_var}
 pub use Rattle.model_terms.specs.Conditions.{terms_of_cond}
-use Rattle.model_formulas.specs.Formulas.{Named, conjunction, disjunction, implication, negation, existential, universal, equality, at_most, node_formula, one_tree, one_root, concatenation, grove_sum, grove_sum_hole, application, hole_adjoint, context_adjoint, same_as, length_is, value_meets}
+use Rattle.model_formulas.specs.Formulas.{Named}
+use Rattle.model_formulas.specs.Substitution.{gathered}
 use Rattle.model_commands.specs.Theories.{JudgementOf, entails, triple, Reason, auto, by_rule}
 use Rattle.model_commands.specs.Commands.{Command, block, assign, create_node, node_name, child_nodes, parent_node, list_item, append_child, remove_child, if_else, while_do, local, call, Block, stop, ◌then◌}
 
@@ -72,29 +73,7 @@ locals_of command = flat_map locals (commands_in command)
 
 -- FORMULAS AND STEPS: the variables of a formula, those of its quantifiers included
 abbrev pub variables_of : Named → List Var
-variables_of (conjunction p q) = variables_of p ++ variables_of q
-variables_of (disjunction p q) = variables_of p ++ variables_of q
-variables_of (implication p q) = variables_of p ++ variables_of q
-variables_of (negation p) = variables_of p
-variables_of (existential x p) = x ∷ variables_of p
-variables_of (universal x p) = x ∷ variables_of p
-variables_of (equality a b) = variables_of_term a ++ variables_of_term b
-variables_of (at_most a b) = variables_of_term a ++ variables_of_term b
-variables_of (node_formula name number p list) =
-    variables_of_term name
-    ++ (variables_of_term number ++ (variables_of p ++ variables_of_term list))
-variables_of (one_tree p) = variables_of p
-variables_of (one_root p) = variables_of p
-variables_of (concatenation side p q) = variables_of p ++ variables_of q
-variables_of (grove_sum p q) = variables_of p ++ variables_of q
-variables_of (grove_sum_hole p q) = variables_of p ++ variables_of q
-variables_of (application h p q) = variables_of p ++ variables_of q
-variables_of (hole_adjoint p q) = variables_of p ++ variables_of q
-variables_of (context_adjoint k p q) = variables_of p ++ variables_of q
-variables_of (same_as a) = variables_of_term a
-variables_of (length_is a) = variables_of_term a
-variables_of (value_meets s a p) = variables_of_term a ++ variables_of p
-variables_of formula = []
+variables_of = gathered [] ◌++◌ variables_of_term ◌∷◌
 
 -- the variables of a judgement
 abbrev pub variables_of_judgement : JudgementOf Named → List Var

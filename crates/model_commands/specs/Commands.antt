@@ -34,7 +34,6 @@ Among (y ∷ ys) x = (x ≡ y) ⊎ Among ys x
 -- block isn't changed by it.
 abbrev mutual
   pub Modifies : Command → ProgVar → Type 0
-  Modifies skip x = ⊥
   Modifies (block b) x = BlockModifies b x
   Modifies (assign y e) x = x ≡ y
   Modifies (create_node y e) x = x ≡ y
@@ -42,12 +41,11 @@ abbrev mutual
   Modifies (child_nodes y e) x = x ≡ y
   Modifies (parent_node y e) x = x ≡ y
   Modifies (list_item y e f) x = x ≡ y
-  Modifies (append_child e f) x = ⊥
-  Modifies (remove_child e f) x = ⊥
   Modifies (if_else c a b) x = BlockModifies a x ⊎ BlockModifies b x
   Modifies (while_do c b) x = BlockModifies b x
   Modifies (local y b) x = (x ≢ y) × BlockModifies b x
   Modifies (call results name arguments) x = Among results x
+  Modifies command x = ⊥
 
   pub BlockModifies : Block → ProgVar → Type 0
   BlockModifies stop x = ⊥

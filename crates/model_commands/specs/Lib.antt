@@ -5,3 +5,4 @@ pub mod Theories
 pub mod SortTests
 pub mod Sorting
 pub mod Scopes
+pub mod Each

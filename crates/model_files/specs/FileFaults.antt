@@ -3,11 +3,12 @@
 use Rattle.std.specs.Prelude.{◌≡◌, ℕ, ◌+◌, List, [], ◌∷◌, ◌++◌, map, Bool, true, false, cond, not, ◌&&◌, ◌==◌, Option, Some, None, is_none, bytes_eq}
 use Rattle.std.specs.List.{list_all, list_any, find, flat_map}
 use Rattle.model_shapes.specs.Tests.{same_sort}
-use Rattle.model_shapes.specs.Sorts.{Sort, shape, is_sort}
+use Rattle.model_shapes.specs.Sorts.{Sort, shape}
 use Rattle.model_terms.specs.Variables.{Var, prog, logic, var_sort}
 use Rattle.model_terms.specs.Terms.{Term}
 use Rattle.model_terms.specs.Stores.{ProgVar, named, as_var}
 use Rattle.model_formulas.specs.Formulas.{Named}
+pub use Rattle.model_formulas.specs.WellSorted.{may_bind}
 use Rattle.model_formulas.specs.WellSorted.{one_sort, first_fault}
 use Rattle.model_commands.specs.Commands.{Command}
 use Rattle.model_commands.specs.CommandParts.{commands_in, targets, variables_of_term, variables_of_command, variables_of, variables_of_judgement, commands_of_judgement, arguments_of, locals_of}
@@ -58,11 +59,6 @@ only_among allowed [] = true
 only_among allowed (prog name s ∷ rest) = is_among allowed (named name s) && only_among allowed rest
 only_among allowed (x ∷ rest) = only_among allowed rest
 
--- the declared sort of a logic variable is a sort
-abbrev pub is_logic_sort : Var → Bool
-is_logic_sort (logic name s) = is_sort s
-is_logic_sort x = false
-
 -- what a procedure declares: its parameters, its results and the local variables of its body
 abbrev pub declared_by : ProcedureOf Named → List ProgVar
 declared_by procedure = procedure.params ++ (procedure.results ++ locals_of procedure.body)
@@ -97,7 +93,7 @@ rule_known (by_rule name premises arguments) = is_rule_name name
 abbrev pub declarations : Theory → FileKind → Bool
 declarations theory version_kind = theory.version == 1
 declarations theory twice_kind = distinct_by share_name theory.logic
-declarations theory sort_kind = list_all is_logic_sort theory.logic
+declarations theory sort_kind = list_all may_bind theory.logic
 declarations theory kind = true
 
 -- variables and commands that stand in a procedure

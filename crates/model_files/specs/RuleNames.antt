@@ -1,5 +1,5 @@
--- The names of the rules that a step of a proof may cite, as the language spells them. The rules
--- follow POPL 2005, the axioms and the frame rule PODS 2008.
+-- Needn't be believed: the names of the rules that a step of a proof may cite. They are those of
+-- the table of rules, in its order (law `the_table_has_the_names` of rule_table).
 use Rattle.std.specs.Prelude.{ℕ, List, [], ◌∷◌, ◌++◌, Bool, bytes_eq, codes}
 use Rattle.std.specs.List.{list_any}
 

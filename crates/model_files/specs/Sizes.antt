@@ -1,9 +1,10 @@
 -- The sizes that every call may count on: no formula of a theory has as many parts as a number of
 -- 32 bits can count, and no theory as many procedures and proof steps.
-use Rattle.std.specs.Prelude.{◌<◌, ◌+◌, length, List, [], ◌∷◌}
+use Rattle.std.specs.Prelude.{◌<◌, ◌+◌, length, List}
 use Rattle.model_formulas.specs.Formulas.{Named}
 use Rattle.model_formulas.specs.Parts.{parts}
 use Rattle.model_commands.specs.Theories.{JudgementOf, entails, triple, StepOf, ProcedureOf, Theory}
+use Rattle.model_commands.specs.Each.{Each}
 use Rattle.model_files.specs.FileLimits.{step_count}
 
 -- a formula has fewer than 4,294,967,295 parts
@@ -16,15 +17,13 @@ JudgementIsSmall (entails p q s) = IsSmall p × IsSmall q
 JudgementIsSmall (triple p c q d) = IsSmall p × IsSmall q
 
 abbrev pub StepsAreSmall : List (StepOf Named) → Type 0
-StepsAreSmall [] = Unit
-StepsAreSmall (step ∷ steps) = JudgementIsSmall step.judgement × StepsAreSmall steps
+StepsAreSmall = Each (λ (step : StepOf Named). JudgementIsSmall step.judgement)
 
 abbrev pub ProcedureIsSmall : ProcedureOf Named → Type 0
 ProcedureIsSmall f = IsSmall f.pre × IsSmall f.post × StepsAreSmall f.proof
 
 abbrev pub ProceduresAreSmall : List (ProcedureOf Named) → Type 0
-ProceduresAreSmall [] = Unit
-ProceduresAreSmall (f ∷ fs) = ProcedureIsSmall f × ProceduresAreSmall fs
+ProceduresAreSmall = Each ProcedureIsSmall
 
 -- and so have those of a theory, whose procedures and proof steps together are fewer too
 abbrev pub TheoryIsSmall : Theory → Type 0

@@ -1,4 +1,5 @@
 pub mod Formulas
+pub mod Deciding
 pub mod Substitution
 pub mod Nameless
 pub mod WellSorted

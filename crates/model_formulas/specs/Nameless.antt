@@ -2,21 +2,19 @@
 -- first. Two formulas are the same where their nameless forms are equal: that is, where they are
 -- equal up to the names of bound variables.
 use Rattle.std.specs.Prelude.{◌≡◌, zero, List, [], ◌∷◌}
+use Rattle.model_shapes.specs.Trees.{decided}
 use Rattle.model_terms.specs.Variables.{Var, bound, var_sort}
 use Rattle.model_terms.specs.VariableTests.{var_eq}
 use Rattle.model_terms.specs.Terms.{variable, raised_var, Substitution, term_with}
+pub use Rattle.model_formulas.specs.Deciding.{name_or}
 use Rattle.model_formulas.specs.Formulas.{Named, Formula}
 use Rattle.model_formulas.specs.Substitution.{with_terms}
 
--- a variable that the nearest binder binds, or one that is bound or free further out
-abbrev pub name_or : {x y : Var} → Var → Dec (y ≡ x) → Var
-name_or {x} {y} outside (yes e) = bound zero (var_sort x)
-name_or {x} {y} outside (no n) = raised_var outside
-
--- what a variable becomes below binders of these variables
+-- What a variable becomes below binders of these variables: bound by the nearest that has it, or
+-- the same, bound or free, further out.
 abbrev pub names : List Var → Var → Var
 names [] y = y
-names (x ∷ xs) y = name_or (names xs y) (var_eq y x)
+names (x ∷ xs) y = decided (var_eq y x) (bound zero (var_sort x)) (raised_var (names xs y))
 
 -- the same as a substitution
 abbrev pub naming : List Var → Substitution

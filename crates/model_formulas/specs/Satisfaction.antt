@@ -17,16 +17,14 @@ Environment = Var → Thing
 
 -- under one more binder, which has chosen this thing
 abbrev pub choosing : Thing → Environment → Environment
-choosing chosen e (prog name s) = e (prog name s)
-choosing chosen e (logic name s) = e (logic name s)
 choosing chosen e (bound zero s) = chosen
 choosing chosen e (bound (suc i) s) = e (bound i s)
+choosing chosen e x = e x
 
 -- the environment with the values of a store for its program variables
 abbrev pub with_store : (Name → ValueSort → Value) → Environment → Environment
 with_store store e (prog name s) = val (store name s)
-with_store store e (logic name s) = e (logic name s)
-with_store store e (bound i s) = e (bound i s)
+with_store store e x = e x
 
 -- the integer that a thing is, and 0 where it is none
 abbrev pub number_of : Thing → ℤ

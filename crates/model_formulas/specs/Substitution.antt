@@ -2,9 +2,11 @@
 -- A quantifier has no name there, so nothing can be captured.
 use Rattle.std.specs.Prelude.{◌≡◌, ◌⊎◌, zero}
 use Rattle.model_shapes.specs.Sorts.{Sort}
+use Rattle.model_shapes.specs.Trees.{decided}
 use Rattle.model_terms.specs.Variables.{Var, bound, var_sort}
 use Rattle.model_terms.specs.VariableTests.{var_eq}
 use Rattle.model_terms.specs.Terms.{Term, variable, raised, raised_var, InTerm, Substitution, under_binder, term_with}
+pub use Rattle.model_formulas.specs.Deciding.{closing_at, replacing_at}
 use Rattle.model_formulas.specs.Formulas.{FormulaOf, Formula, truth, falsity, conjunction, disjunction, implication, negation, existential, universal, equality, at_most, empty, bare_hole, node_formula, one_tree, one_root, concatenation, grove_sum, grove_sum_hole, application, hole_adjoint, context_adjoint, same_as, length_is, value_meets}
 
 -- A formula with each of its terms changed, and of each binder its sort alone. How terms are
@@ -42,39 +44,43 @@ module _ {Binder Change : Type 0} (sort : Binder → Sort) (below : Binder → C
 abbrev pub formula_with : Substitution → Formula → Formula
 formula_with = with_terms (λ s. s) (λ s. under_binder) term_with
 
--- the variable stands free in the formula
+-- What is gathered from the terms of a formula, from left to right, and from its binders.
+module _ {ℓ} {Binder : Type 0} {Result : Type ℓ} (nothing : Result)
+    (both : Result → Result → Result) (from : Term → Result)
+    (bound_by : Binder → Result → Result) where
+  abbrev pub gathered : FormulaOf Binder → Result
+  gathered (conjunction p q) = both (gathered p) (gathered q)
+  gathered (disjunction p q) = both (gathered p) (gathered q)
+  gathered (implication p q) = both (gathered p) (gathered q)
+  gathered (negation p) = gathered p
+  gathered (existential b p) = bound_by b (gathered p)
+  gathered (universal b p) = bound_by b (gathered p)
+  gathered (equality a b) = both (from a) (from b)
+  gathered (at_most a b) = both (from a) (from b)
+  gathered (node_formula name number p list) =
+      both (from name) (both (from number) (both (gathered p) (from list)))
+  gathered (one_tree p) = gathered p
+  gathered (one_root p) = gathered p
+  gathered (concatenation side p q) = both (gathered p) (gathered q)
+  gathered (grove_sum p q) = both (gathered p) (gathered q)
+  gathered (grove_sum_hole p q) = both (gathered p) (gathered q)
+  gathered (application h p q) = both (gathered p) (gathered q)
+  gathered (hole_adjoint p q) = both (gathered p) (gathered q)
+  gathered (context_adjoint k p q) = both (gathered p) (gathered q)
+  gathered (same_as a) = from a
+  gathered (length_is a) = from a
+  gathered (value_meets s a p) = both (from a) (gathered p)
+  gathered p = nothing
+
+-- the variable stands free in the formula: in a term, or as it is named under a binder
 abbrev pub FreeIn : Var → Formula → Type 0
-FreeIn x (conjunction p q) = FreeIn x p ⊎ FreeIn x q
-FreeIn x (disjunction p q) = FreeIn x p ⊎ FreeIn x q
-FreeIn x (implication p q) = FreeIn x p ⊎ FreeIn x q
-FreeIn x (negation p) = FreeIn x p
-FreeIn x (existential s p) = FreeIn (raised_var x) p
-FreeIn x (universal s p) = FreeIn (raised_var x) p
-FreeIn x (equality a b) = InTerm x a ⊎ InTerm x b
-FreeIn x (at_most a b) = InTerm x a ⊎ InTerm x b
-FreeIn x (node_formula name number p list) =
-    InTerm x name ⊎ (InTerm x number ⊎ (FreeIn x p ⊎ InTerm x list))
-FreeIn x (one_tree p) = FreeIn x p
-FreeIn x (one_root p) = FreeIn x p
-FreeIn x (concatenation side p q) = FreeIn x p ⊎ FreeIn x q
-FreeIn x (grove_sum p q) = FreeIn x p ⊎ FreeIn x q
-FreeIn x (grove_sum_hole p q) = FreeIn x p ⊎ FreeIn x q
-FreeIn x (application h p q) = FreeIn x p ⊎ FreeIn x q
-FreeIn x (hole_adjoint p q) = FreeIn x p ⊎ FreeIn x q
-FreeIn x (context_adjoint k p q) = FreeIn x p ⊎ FreeIn x q
-FreeIn x (same_as a) = InTerm x a
-FreeIn x (length_is a) = InTerm x a
-FreeIn x (value_meets s a p) = InTerm x a ⊎ FreeIn x p
-FreeIn x p = ⊥
+FreeIn x p =
+    gathered {Result = Var → Type 0} (λ y. ⊥) (λ left right y. left y ⊎ right y)
+    (λ a y. InTerm y a) (λ s inside y. inside (raised_var y)) p x
 
--- a variable bound by a new binder round the formula, and every other one
-abbrev pub closing_at : {x y : Var} → Dec (y ≡ x) → Term
-closing_at {x} {y} (yes e) = variable (bound zero (var_sort x))
-closing_at {x} {y} (no n) = raised (variable y)
-
--- the variable bound by a new binder, as a substitution
+-- the variable bound by a new binder round the formula, as a substitution
 abbrev pub closing : Var → Substitution
-closing x y = closing_at (var_eq y x)
+closing x y = decided (var_eq y x) (variable (bound zero (var_sort x))) (raised (variable y))
 
 -- (exists $x . P) and (forall $x . P), from $x and the nameless P
 abbrev pub exists : Var → Formula → Formula
@@ -84,11 +90,6 @@ exists x p = existential (var_sort x) (formula_with (closing x) p)
 abbrev pub forall : Var → Formula → Formula
 forall x p = universal (var_sort x) (formula_with (closing x) p)
 
--- a term for one variable, and every other variable for itself
-abbrev pub replacing_at : {x y : Var} → Term → Dec (y ≡ x) → Term
-replacing_at {x} {y} t (yes e) = t
-replacing_at {x} {y} t (no n) = variable y
-
--- a term for one variable, as a substitution
+-- a term for one variable, and every other variable for itself, as a substitution
 abbrev pub replacing : Var → Term → Substitution
-replacing x t y = replacing_at t (var_eq y x)
+replacing x t y = decided (var_eq y x) t (variable y)

@@ -10,6 +10,7 @@ use Rattle.model_terms.specs.Terms.{Term, literal, variable, sum, difference, ap
 use Rattle.model_terms.specs.Stores.{ProgVar, named}
 use Rattle.model_terms.specs.Conditions.{Cond, cond_true, cond_false, cond_variable, cond_equal, cond_at_most, cond_not, cond_and, cond_or}
 use Rattle.model_formulas.specs.Formulas.{Named, Side, whole, hole_left, hole_right, truth, falsity, conjunction, disjunction, implication, negation, existential, universal, equality, at_most, empty, bare_hole, node_formula, one_tree, one_root, concatenation, grove_sum, grove_sum_hole, application, hole_adjoint, context_adjoint, same_as, length_is, value_meets}
+pub use Rattle.model_commands.specs.Each.{Each}
 use Rattle.model_commands.specs.Commands.{Command, skip, block, assign, create_node, node_name, child_nodes, parent_node, list_item, append_child, remove_child, if_else, while_do, local, call, Block, stop, ◌then◌}
 use Rattle.model_commands.specs.Theories.{JudgementOf, entails, triple, Reason, auto, by_rule, StepOf, ProcedureOf, Theory}
 use Rattle.model_text.specs.Tokens.{newline}
@@ -409,11 +410,6 @@ IsWritableCondition (cond_at_most a b) = IsWritableTerm in_command a × IsWritab
 IsWritableCondition (cond_not c) = IsWritableCondition c
 IsWritableCondition (cond_and c d) = IsWritableCondition c × IsWritableCondition d
 IsWritableCondition (cond_or c d) = IsWritableCondition c × IsWritableCondition d
-
--- each of the parts can
-abbrev pub Each : {A : Type 0} → (A → Type 0) → List A → Type 0
-Each Can [] = Unit
-Each Can (x ∷ xs) = Can x × Each Can xs
 
 abbrev mutual
   -- the command can be written: each of its blocks has a command, and none has a logic variable

@@ -3,12 +3,11 @@
 use Rattle.std.specs.Prelude.{ℕ, zero, suc, pos, Bool, true, false, cond, ◌||◌}
 use Rattle.std.proofs.Math.Decide.{ℕ_discrete}
 use Rattle.model_shapes.specs.Values.{Value, null, node_number, list_number, int}
-use Rattle.model_shapes.specs.Trees.{Trees, none, node, hole, beside}
+use Rattle.model_shapes.specs.Trees.{Trees, none, node, hole, beside, decided}
 
 -- whether a decision says yes
 abbrev pub is_yes {ℓ} : {A : Type ℓ} → Dec A → Bool
-is_yes (yes a) = true
-is_yes (no n) = false
+is_yes answer = decided answer true false
 
 -- The nodes that pass a test of number, children and list number, in document order. Inside a node
 -- that passes nothing is looked for.
@@ -47,18 +46,16 @@ abbrev pub list_at : Value → Trees → Trees
 list_at (list_number n) grove = nodes_where (listed n) grove
 list_at v grove = none
 
--- the number of the first root, or null
-abbrev pub first_number : Trees → Value
-first_number (node name number kids list rest) = node_number number
-first_number none = null
-first_number (hole rest) = null
-
 -- the number of the root at the place, counted from 0, or null
 abbrev pub number_at : ℕ → Trees → Value
 number_at n none = null
 number_at zero (node name number kids list rest) = node_number number
 number_at (suc n) (node name number kids list rest) = number_at n rest
 number_at n (hole rest) = null
+
+-- the number of the first root, or null
+abbrev pub first_number : Trees → Value
+first_number = number_at 0
 
 -- the same, with the place as a value: null below 0
 abbrev pub item_of : Value → Trees → Value

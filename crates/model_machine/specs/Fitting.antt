@@ -7,6 +7,7 @@ use Rattle.model_shapes.specs.Trees.{Trees}
 use Rattle.model_shapes.specs.Shapes.{Shaped}
 use Rattle.model_shapes.specs.Values.{Value, FitsValue}
 use Rattle.model_terms.specs.Stores.{ProgVar, Store, ProperStore, sort_of}
+use Rattle.model_commands.specs.Each.{Each}
 use Rattle.model_commands.specs.Theories.{Procedures}
 use Rattle.model_commands.specs.SortTests.{is_sorted, receives}
 use Rattle.model_machine.specs.Machine.{Piece, run, restore, return, Config}
@@ -20,8 +21,7 @@ FitsPiece procedures (return store results xs) = ProperStore store × (receives 
 
 -- each of these pieces fits
 abbrev pub FitPieces : Procedures → List Piece → Type 0
-FitPieces procedures [] = Unit
-FitPieces procedures (piece ∷ rest) = FitsPiece procedures piece × FitPieces procedures rest
+FitPieces procedures = Each (FitsPiece procedures)
 
 -- values for these variables
 abbrev pub ValuesFit : List ProgVar → List Value → Type 0

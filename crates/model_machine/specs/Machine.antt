@@ -39,8 +39,7 @@ abbrev pub reading : Trees → FaultKind → (Name → ℕ → Trees → ℕ →
     → Trees → Move
 reading (node name number kids list rest) fault read x store grove =
     becomes [] (set x (read name number kids list) store) grove
-reading none fault read x store grove = faults fault
-reading (hole rest) fault read x store grove = faults fault
+reading found fault read x store grove = faults fault
 
 -- moves the second tree, wherever it is, to the end of the children of the first
 abbrev pub appending : Trees → Trees → Store → Trees → Move

@@ -17,9 +17,8 @@ use Rattle.model_machine.specs.Machine.{FaultKind, Piece, run, restore, return, 
 -- how many returns are pending
 abbrev pub returns_in : List Piece → ℕ
 returns_in [] = 0
-returns_in (run command ∷ rest) = returns_in rest
-returns_in (restore x v ∷ rest) = returns_in rest
 returns_in (return store results xs ∷ rest) = suc (returns_in rest)
+returns_in (piece ∷ rest) = returns_in rest
 
 -- the limit of nodes or of depth that a step passes
 abbrev pub growth_limit : Limits → Piece → List Piece → Trees → Option LimitKind

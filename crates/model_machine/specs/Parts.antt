@@ -1,5 +1,5 @@
--- What stands in the bodies of procedures. The law on what runs speaks of it, and later promises
--- that write or print a pending command use that law.
+-- Needn't be believed: what stands in the bodies of procedures, of which the law on what runs
+-- speaks. Proofs about a pending command that is written or printed use that law.
 use Rattle.std.specs.Prelude.{List, [], ◌∷◌, ◌++◌, Contains, flat_map, Option, Some, None}
 use Rattle.model_commands.specs.Commands.{Command, block, if_else, while_do, local}
 use Rattle.model_commands.specs.CommandParts.{commands_in}

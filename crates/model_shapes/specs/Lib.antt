@@ -2,6 +2,7 @@ pub mod Sorts
 pub mod Values
 pub mod Tests
 pub mod Trees
+pub mod RootHoles
 pub mod Shapes
 pub mod Things
 pub mod Contexts

@@ -3,12 +3,7 @@
 use Rattle.std.specs.Prelude.{◌≡◌, ℕ, ◌+◌, Bool, true, false}
 use Rattle.model_shapes.specs.Sorts.{DataSort, tree, forest, grove, Sort, value, shape, context, outer}
 use Rattle.model_shapes.specs.Trees.{Trees, none, node, hole, width, root_uses, WellFormed}
-
--- how many holes stand among the roots
-abbrev pub root_holes : Trees → ℕ
-root_holes none = 0
-root_holes (node name number kids list rest) = root_holes rest
-root_holes (hole rest) = 1 + root_holes rest
+pub use Rattle.model_shapes.specs.RootHoles.{root_holes}
 
 -- how many holes there are
 abbrev pub holes : Trees → ℕ
@@ -66,9 +61,8 @@ HolePlaced k trees = Unit
 -- The roots of a grove have no order: two groves are the same where each tree stands as often
 -- among the roots of one as among those of the other. Trees and forests are the same where equal.
 abbrev pub SameAt : DataSort → Trees → Trees → Type 0
-SameAt tree a b = a ≡ b
-SameAt forest a b = a ≡ b
 SameAt grove a b = (t : Trees) → root_uses t a ≡ root_uses t b
+SameAt k a b = a ≡ b
 
 -- two shapes or contexts of the sort are the same
 abbrev pub Same : Sort → Trees → Trees → Type 0

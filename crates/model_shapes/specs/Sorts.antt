@@ -33,9 +33,8 @@ outer (context h k) = k
 
 -- the sort of the hole of a context; of a value sort nothing is asked
 abbrev pub inner : Sort → DataSort
-inner (value v) = tree
-inner (shape k) = k
 inner (context h k) = h
+inner s = outer s
 
 -- the same sort with this for the data sort that it gives
 abbrev pub with_outer : DataSort → Sort → Sort

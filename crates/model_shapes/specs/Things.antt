@@ -13,8 +13,6 @@ pub data Thing : Type 0 where
 -- the one test: well formed and of the sort, with the hole of a grove's context in the first root
 abbrev pub Fits : Sort → Thing → Type 0
 Fits (value v) (val x) = FitsValue v x
-Fits (value v) (trees r) = ⊥
-Fits (shape k) (val x) = ⊥
 Fits (shape k) (trees r) = Shaped (shape k) r
-Fits (context h k) (val x) = ⊥
 Fits (context h k) (trees r) = Shaped (context h k) r × HolePlaced k r
+Fits s x = ⊥

@@ -37,24 +37,31 @@ width none = 0
 width (node name number kids list rest) = 1 + width rest
 width (hole rest) = 1 + width rest
 
+-- the first of two where the answer is yes, and else the second
+abbrev pub decided {ℓ} : {A : Type ℓ} {B : Type 0} → Dec A → B → B → B
+decided (yes a) first second = first
+decided (no a) first second = second
+
 -- one where the answer is yes
 abbrev pub one_if {ℓ} : {A : Type ℓ} → Dec A → ℕ
-one_if (yes a) = 1
-one_if (no a) = 0
+one_if answer = decided answer 1 0
+
+-- What all nodes come to, joined in this way, where each gives a number from its node number and
+-- its list number.
+module _ (join : ℕ → ℕ → ℕ) (from : ℕ → ℕ → ℕ) where
+  abbrev pub of_nodes : Trees → ℕ
+  of_nodes none = 0
+  of_nodes (node name number kids list rest) =
+      join (from number list) (join (of_nodes kids) (of_nodes rest))
+  of_nodes (hole rest) = of_nodes rest
 
 -- how often a number is the number of a node
 abbrev pub node_uses : ℕ → Trees → ℕ
-node_uses n none = 0
-node_uses n (node name number kids list rest) =
-    one_if (ℕ_discrete n number) + (node_uses n kids + node_uses n rest)
-node_uses n (hole rest) = node_uses n rest
+node_uses n = of_nodes ◌+◌ (λ number list. one_if (ℕ_discrete n number))
 
 -- how often a number is the number of a children list
 abbrev pub list_uses : ℕ → Trees → ℕ
-list_uses n none = 0
-list_uses n (node name number kids list rest) =
-    one_if (ℕ_discrete n list) + (list_uses n kids + list_uses n rest)
-list_uses n (hole rest) = list_uses n rest
+list_uses n = of_nodes ◌+◌ (λ number list. one_if (ℕ_discrete n list))
 
 -- how often a tree stands among the roots
 abbrev pub root_uses : Trees → Trees → ℕ

@@ -34,22 +34,20 @@ truth_of store (cond_or c d) = truth_of store c || truth_of store d
 
 -- the terms of a condition, from left to right
 abbrev pub terms_of_cond : Cond → List Term
-terms_of_cond cond_true = []
-terms_of_cond cond_false = []
 terms_of_cond (cond_variable x) = variable (as_var x) ∷ []
 terms_of_cond (cond_equal a b) = a ∷ b ∷ []
 terms_of_cond (cond_at_most a b) = a ∷ b ∷ []
 terms_of_cond (cond_not c) = terms_of_cond c
 terms_of_cond (cond_and c d) = terms_of_cond c ++ terms_of_cond d
 terms_of_cond (cond_or c d) = terms_of_cond c ++ terms_of_cond d
+terms_of_cond c = []
 
 -- a condition of a command: its parts have the right sorts, and no logic variables
 abbrev pub condition_sorted : Cond → Bool
-condition_sorted cond_true = true
-condition_sorted cond_false = true
 condition_sorted (cond_variable x) = same_value_sort (sort_of x) bool_sort
 condition_sorted (cond_equal a b) = evaluate_alike a b
 condition_sorted (cond_at_most a b) = evaluates int_sort a && evaluates int_sort b
 condition_sorted (cond_not c) = condition_sorted c
 condition_sorted (cond_and c d) = condition_sorted c && condition_sorted d
 condition_sorted (cond_or c d) = condition_sorted c && condition_sorted d
+condition_sorted c = true

@@ -4,7 +4,7 @@ use Rattle.std.specs.Prelude.{◌++◌, [], ℤ, pos, ◌+ℤ◌, ◌-ℤ◌, Bo
 use Rattle.model_shapes.specs.Sorts.{ValueSort, node_sort, list_sort, int_sort, str_sort, bool_sort}
 use Rattle.model_shapes.specs.Values.{Name, Text, Value, null, nolist, int, str, boolean, FitsValue}
 use Rattle.model_terms.specs.VariableTests.{same_var}
-use Rattle.model_terms.specs.Variables.{Var, prog, logic, bound}
+use Rattle.model_terms.specs.Variables.{Var, prog}
 use Rattle.model_terms.specs.Terms.{Term, literal, variable, sum, difference, appended}
 
 -- a program variable: its name and its sort
@@ -69,8 +69,7 @@ text_in v = []
 abbrev pub value_of : Store → Term → Value
 value_of store (literal v) = v
 value_of store (variable (prog x s)) = lookup store x s
-value_of store (variable (logic x s)) = null
-value_of store (variable (bound i s)) = null
+value_of store (variable x) = null
 value_of store (sum a b) = int (int_in (value_of store a) +ℤ int_in (value_of store b))
 value_of store (difference a b) = int (int_in (value_of store a) -ℤ int_in (value_of store b))
 value_of store (appended a b) = str (text_in (value_of store a) ++ text_in (value_of store b))

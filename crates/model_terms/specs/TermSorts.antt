@@ -6,7 +6,7 @@ use Rattle.model_shapes.specs.Tests.{same_sort, same_value_sort}
 use Rattle.model_shapes.specs.Sorts.{value, ValueSort, node_sort, list_sort, int_sort, str_sort, bool_sort}
 use Rattle.model_shapes.specs.Values.{Value, node_number, list_number, value_sort}
 use Rattle.model_terms.specs.Variables.{Var, prog, logic, bound}
-use Rattle.model_terms.specs.Terms.{Term, literal, variable, sum, difference, appended}
+use Rattle.model_terms.specs.Terms.{Term, literal, variable, sum, difference, appended, gathered_in}
 
 -- the values that are literals: no number of a node or a list can be written
 abbrev pub is_literal : Value → Bool
@@ -33,11 +33,7 @@ both_have s a b = has_sort s a && has_sort s b
 
 -- the variables of a term
 abbrev pub variables_of_term : Term → List Var
-variables_of_term (literal v) = []
-variables_of_term (variable x) = x ∷ []
-variables_of_term (sum a b) = variables_of_term a ++ variables_of_term b
-variables_of_term (difference a b) = variables_of_term a ++ variables_of_term b
-variables_of_term (appended a b) = variables_of_term a ++ variables_of_term b
+variables_of_term = gathered_in [] ◌++◌ (λ x. x ∷ [])
 
 -- a program variable
 abbrev pub is_program : Var → Bool

@@ -2,7 +2,7 @@
 -- Node and list numbers are those of PODS 2008; integers, texts and truth values our own.
 use Rattle.std.specs.Prelude.{◌≡◌, ◌⊎◌, zero, suc}
 use Rattle.model_shapes.specs.Values.{Value}
-use Rattle.model_terms.specs.Variables.{Var, prog, logic, bound}
+use Rattle.model_terms.specs.Variables.{Var, bound}
 
 -- a literal, a variable, a sum or difference of integers, or one text behind another
 pub data Term : Type 0 where
@@ -11,19 +11,24 @@ pub data Term : Type 0 where
   sum difference appended : Term → Term → Term
   deriving Discrete as Term-discrete
 
+-- what is gathered from the variables of a term, from left to right
+module _ {ℓ} {Result : Type ℓ} (nothing : Result) (both : Result → Result → Result)
+    (from : Var → Result) where
+  abbrev pub gathered_in : Term → Result
+  gathered_in (literal v) = nothing
+  gathered_in (variable x) = from x
+  gathered_in (sum a b) = both (gathered_in a) (gathered_in b)
+  gathered_in (difference a b) = both (gathered_in a) (gathered_in b)
+  gathered_in (appended a b) = both (gathered_in a) (gathered_in b)
+
 -- the variable stands in the term
 abbrev pub InTerm : Var → Term → Type 0
-InTerm x (literal v) = ⊥
-InTerm x (variable y) = x ≡ y
-InTerm x (sum a b) = InTerm x a ⊎ InTerm x b
-InTerm x (difference a b) = InTerm x a ⊎ InTerm x b
-InTerm x (appended a b) = InTerm x a ⊎ InTerm x b
+InTerm x = gathered_in ⊥ ◌⊎◌ (λ y. x ≡ y)
 
 -- the variable as it is named under one more binder
 abbrev pub raised_var : Var → Var
-raised_var (prog name s) = prog name s
-raised_var (logic name s) = logic name s
 raised_var (bound i s) = bound (suc i) s
+raised_var x = x
 
 -- a term for each variable
 abbrev pub Substitution : Type 0
@@ -43,7 +48,6 @@ raised = term_with (λ x. variable (raised_var x))
 
 -- the substitution under one more binder, whose own variable it leaves
 abbrev pub under_binder : Substitution → Substitution
-under_binder f (prog name s) = raised (f (prog name s))
-under_binder f (logic name s) = raised (f (logic name s))
 under_binder f (bound zero s) = variable (bound zero s)
 under_binder f (bound (suc i) s) = raised (f (bound i s))
+under_binder f x = raised (f x)

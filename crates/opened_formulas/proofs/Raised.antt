@@ -6,7 +6,7 @@ use Rattle.model_terms.specs.Variables.{Var, prog, logic, bound, var_sort}
 use Rattle.model_terms.specs.VariableTests.{same_var}
 use Rattle.model_terms.specs.Terms.{Term, literal, variable, sum, difference, appended, raised, raised_var, term_with}
 use Rattle.model_formulas.specs.SameFormulas.{same_term}
-use Rattle.formula_syntax.specs.FreeVariables.{is_among, term_variables}
+use Rattle.formula_syntax.specs.FreeVariables.{is_among, variables_of_term}
 use Rattle.opened_formulas.specs.Readings.{as_terms, under_var}
 use Rattle.opened_formulas.proofs.Occurrences.{among-append}
 use Rattle.opened_formulas.proofs.Zeros.{zero-suc, suc-zero, suc-suc, same_var-turned}
@@ -73,18 +73,18 @@ apart false = refl
 
 pub raised-below : (a : Term) (y : Var) (f : Var → Var) (b : Term)
     → same_term (raised a) (term_with (as_terms (under_var y f)) b)
-    ≡ (not (is_among y (term_variables b)) && same_term a (term_with (as_terms f) b))
+    ≡ (not (is_among y (variables_of_term b)) && same_term a (term_with (as_terms f) b))
 raised-below a y f (variable x) =
     raised-at a y f x
     ∙ ap (λ b. not b && same_term a (variable (f x))) (sym (among-one y x))
 raised-below a y f (literal w) = raised-same a (literal w)
 raised-below (sum a c) y f (sum b d) =
     ap₂ ◌&&◌ (raised-below a y f b) (raised-below c y f d)
-    ∙ in-neither y (term_variables b) (term_variables d) _ _
+    ∙ in-neither y (variables_of_term b) (variables_of_term d) _ _
 raised-below (difference a c) y f (difference b d) =
     ap₂ ◌&&◌ (raised-below a y f b) (raised-below c y f d)
-    ∙ in-neither y (term_variables b) (term_variables d) _ _
+    ∙ in-neither y (variables_of_term b) (variables_of_term d) _ _
 raised-below (appended a c) y f (appended b d) =
     ap₂ ◌&&◌ (raised-below a y f b) (raised-below c y f d)
-    ∙ in-neither y (term_variables b) (term_variables d) _ _
-raised-below a y f b = sym (apart (is_among y (term_variables b)))
+    ∙ in-neither y (variables_of_term b) (variables_of_term d) _ _
+raised-below a y f b = sym (apart (is_among y (variables_of_term b)))

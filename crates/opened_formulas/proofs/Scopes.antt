@@ -12,7 +12,7 @@ use Rattle.model_formulas.specs.SameFormulas.{same_term, same_formula}
 use Rattle.model_formulas.specs.Substitution.{formula_with, closing, closing_at}
 use Rattle.model_formulas.proofs.Nameless.{then_with, formula-then, nameless-exists}
 use Rattle.dom_terms.specs.Terms.{logic_var_of, term_of}
-use Rattle.formula_syntax.specs.FreeVariables.{is_among, term_variables}
+use Rattle.formula_syntax.specs.FreeVariables.{is_among, variables_of_term}
 use Rattle.rule_patterns.proofs.Substituting.{raised-with}
 use Rattle.opened_formulas.specs.declared.reading.Scope.{Scope}
 use Rattle.opened_formulas.specs.declared.reading.Scope.TheVariants as s
@@ -175,7 +175,7 @@ module _ (f : Substitution) (g : Var → Var) (x y z : Var) (e : same_var x y �
       ap (λ t. same_term t (variable (under_var z g r))) kept
       ∙ (raised-at (f x) z g r ∙ ap (λ c. not c && same_term (f x) (variable (g r))) n)
 
-  pub term-below : (a : Term) (b : Bool) → is_among z (term_variables a) ≡ b
+  pub term-below : (a : Term) (b : Bool) → is_among z (variables_of_term a) ≡ b
       → same_term (under_name y f x) (term_with (as_terms (under_var z g)) a)
       ≡ (not b && same_term (f x) (term_with (as_terms g) a))
   term-below a b n =

@@ -5,7 +5,7 @@ ghost use Rattle.model_formulas.specs.Nameless.{nameless};
 ghost use Rattle.model_formulas.specs.Substitution.{formula_with, FreeIn};
 ghost use Rattle.dom_terms.specs.Terms.{logic_var_of, term_of};
 ghost use Rattle.formula_syntax.specs.Formulas.{formula_of};
-ghost use Rattle.formula_syntax.specs.FreeVariables.{is_among, occurrences, term_variables};
+ghost use Rattle.formula_syntax.specs.FreeVariables.{is_among, occurrences, variables_of_term};
 ghost use Rattle.opened_formulas.specs.Readings.{tried_var, renaming, occurs_below};
 
 use crate::candidates::{Candidate, same_candidate};
@@ -23,7 +23,7 @@ pub fn is_candidate(x: Candidate, variable: &LogicVar) -> bool
 /// Whether the variable stands in the term.
 #[tactic(auto, using(crate::proofs::Occurrences::listing))]
 pub fn term_mentions(a: &Term, x: Candidate) -> bool
-    ensures { result ≡ is_among (tried_var x.entry) (term_variables (term_of a.now)) }
+    ensures { result ≡ is_among (tried_var x.entry) (variables_of_term (term_of a.now)) }
 {
     match a {
         Term::Logic(y) => is_candidate(x, y),

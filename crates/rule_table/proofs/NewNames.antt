@@ -1,43 +1,23 @@
 -- A name that stands nowhere in a formula.
 use Rattle.std.proofs.Common.{◌≡◌, ◌⊎◌, ℕ, zero, suc, ◌+◌, ◌≤◌, refl, subst, inl, inr, arith, List, [], ◌∷◌, length}
 use Rattle.model_shapes.specs.Sorts.{Sort, ValueSort}
-use Rattle.model_terms.specs.Variables.{prog, logic, bound}
-use Rattle.model_terms.specs.Terms.{Term, literal, variable, sum, difference, appended, InTerm}
+use Rattle.model_terms.specs.Variables.{Var, prog, logic, bound}
+use Rattle.model_terms.specs.Terms.{Term, literal, variable, sum, difference, appended, InTerm, gathered_in}
 use Rattle.model_formulas.specs.Formulas.{Formula, truth, falsity, conjunction, disjunction, implication, negation, existential, universal, equality, at_most, empty, bare_hole, node_formula, one_tree, one_root, concatenation, grove_sum, grove_sum_hole, application, hole_adjoint, context_adjoint, same_as, length_is, value_meets}
-use Rattle.model_formulas.specs.Substitution.{FreeIn}
+use Rattle.model_formulas.specs.Substitution.{FreeIn, gathered}
 
--- the length of all names of logic variables in a term
+-- the length of the name of a logic variable
+abbrev letters_of : Var → ℕ
+letters_of (logic name s) = length name
+letters_of x = 0
+
+-- of all names of logic variables in a term
 abbrev letters_in : Term → ℕ
-letters_in (variable (logic name s)) = length name
-letters_in (sum a b) = letters_in a + letters_in b
-letters_in (difference a b) = letters_in a + letters_in b
-letters_in (appended a b) = letters_in a + letters_in b
-letters_in t = 0
+letters_in = gathered_in 0 ◌+◌ letters_of
 
 -- in a formula
 abbrev letters : Formula → ℕ
-letters (conjunction p q) = letters p + letters q
-letters (disjunction p q) = letters p + letters q
-letters (implication p q) = letters p + letters q
-letters (negation p) = letters p
-letters (existential s p) = letters p
-letters (universal s p) = letters p
-letters (equality a b) = letters_in a + letters_in b
-letters (at_most a b) = letters_in a + letters_in b
-letters (node_formula name number p list) =
-    letters_in name + (letters_in number + (letters p + letters_in list))
-letters (one_tree p) = letters p
-letters (one_root p) = letters p
-letters (concatenation side p q) = letters p + letters q
-letters (grove_sum p q) = letters p + letters q
-letters (grove_sum_hole p q) = letters p + letters q
-letters (application h p q) = letters p + letters q
-letters (hole_adjoint p q) = letters p + letters q
-letters (context_adjoint k p q) = letters p + letters q
-letters (same_as a) = letters_in a
-letters (length_is a) = letters_in a
-letters (value_meets s a p) = letters_in a + letters p
-letters p = 0
+letters = gathered 0 ◌+◌ letters_in (λ s n. n)
 
 module _ (name : List ℕ) (s : Sort) where
   -- a variable of two parts has a name within theirs

@@ -1,6 +1,7 @@
 -- Instances over the earlier steps of a proof, accepted theories, and the first bad place.
 use Rattle.std.specs.Prelude.{◌≡◌, ◌≢◌, ◌⊎◌, ℕ, ◌+◌, ◌==◌, cond, List, [], ◌∷◌, ◌++◌, Option, Some, None}
 use Rattle.model_terms.specs.Terms.{Term}
+pub use Rattle.model_commands.specs.Each.{Each}
 use Rattle.model_commands.specs.Theories.{Judgement, Reason, auto, by_rule, Step, Procedure, Procedures, Theory, procedures_of, own_triple}
 use Rattle.rule_table.specs.Table.{table}
 use Rattle.rule_table.specs.Verdicts.{Written, IsInstance, Verdict, instance_verdict, IsVerdict, readings_in}
@@ -65,11 +66,6 @@ EndsWell f = last_judgement f.proof ≡ Some (own_triple f)
 pub record IsProved (procedures : Procedures) (f : Procedure) : Type 0 where
   pub steps : AllInstances procedures [] f.proof
   pub ends : EndsWell f
-
--- each procedure
-abbrev pub Each : (Procedure → Type 0) → Procedures → Type 0
-Each P [] = Unit
-Each P (f ∷ fs) = P f × Each P fs
 
 -- ACCEPTED: no step is a gap, each is an instance of its named rule, and each proof ends in its
 -- procedure's own triple

@@ -11,7 +11,7 @@ use Rattle.model_formulas.proofs.Nameless.{term-variable}
 use Rattle.model_commands.specs.Theories.{Judgement}
 use Rattle.dom_terms.specs.Sorts.{data_sort_of}
 use Rattle.formula_syntax.specs.Formulas.{formula_of}
-use Rattle.formula_syntax.specs.FreeVariables.{is_among, occurrences, term_variables}
+use Rattle.formula_syntax.specs.FreeVariables.{is_among, occurrences, variables_of_term}
 use Rattle.formula_syntax.specs.declared.formulas.Formula.{Formula}
 use Rattle.opened_formulas.proofs.Occurrences.{occurs-free}
 use Rattle.theory_syntax.specs.Commands.{command_of}
@@ -28,7 +28,7 @@ use Rattle.small_axioms.proofs.Exact.{ReadOff, exact-two}
 use Rattle.small_axioms.proofs.Assigned.{sets, exact-node, exact-new, exact-bare}
 
 -- a variable of a term stands in it
-term-free : (t : terms.Term) (x : Var) → IsTrue (is_among x (term_variables t)) ↔ InTerm x t
+term-free : (t : terms.Term) (x : Var) → IsTrue (is_among x (variables_of_term t)) ↔ InTerm x t
 term-free t x = (
   λ h. subst (InTerm x) (term-variable t) ((occurs-free (length_is t) x).0 h),
   λ h. (occurs-free (length_is t) x).1 (subst (InTerm x) (sym (term-variable t)) h),
@@ -59,13 +59,13 @@ module _ (triple : Triple) where
   -- where it is on the name of a new node
   pub new-verdict : (fits taken : Bool) (v : Verdict) → v ≡ verdict_by fits taken
       → fits ≡ concludes (create_axiom (read_create (judgement_of triple))) (judgement_of triple)
-      → taken ≡ creates_one_of (term_variables (new_name (judgement_of triple)))
+      → taken ≡ creates_one_of (variables_of_term (new_name (judgement_of triple)))
       (command_of triple.command)
       → IsVerdict (create_axiom ∷ []) (written triple) v
   new-verdict fits taken v e f g =
       subst (IsVerdict (create_axiom ∷ []) (written triple)) (sym e)
       (exact-new p (command_of triple.command) q (data_sort_of triple.sort)
-      (term_variables (new_name (judgement_of triple)))
+      (variables_of_term (new_name (judgement_of triple)))
       (term-free (new_name (judgement_of triple))
       (as_var (target (command_of triple.command)))) fits taken f g)
 

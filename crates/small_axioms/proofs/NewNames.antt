@@ -7,7 +7,7 @@ use Rattle.model_commands.specs.Theories.{triple}
 use Rattle.dom_terms.specs.Terms.{term_of, var_of}
 use Rattle.dom_terms.specs.declared.terms.ProgVar.{ProgVar}
 use Rattle.dom_terms.specs.declared.terms.Term.{Term}
-use Rattle.formula_syntax.specs.FreeVariables.{is_among, term_variables}
+use Rattle.formula_syntax.specs.FreeVariables.{is_among, variables_of_term}
 use Rattle.theory_syntax.specs.Commands.{command_of}
 use Rattle.theory_syntax.specs.declared.commands.Command.{Command}
 use Rattle.theory_syntax.specs.declared.commands.Command.TheVariants.{Create}
@@ -25,11 +25,11 @@ module _ (p q : Formula) (d : DataSort) (command : Command) (x : ProgVar) (e nam
         sym (term-variable (term_of name))
         ∙ at ∙ ap (λ t. right_part t (second_part p)) (term-variable (term_of e))
 
-    pub name-set : (b : Bool) → b ≡ is_among (var_of x) (term_variables (term_of name))
-        → b ≡ creates_one_of (term_variables (new_name (triple p (command_of command) q d)))
+    pub name-set : (b : Bool) → b ≡ is_among (var_of x) (variables_of_term (term_of name))
+        → b ≡ creates_one_of (variables_of_term (new_name (triple p (command_of command) q d)))
         (command_of command)
     name-set b h =
         subst
-        (λ c. b ≡ creates_one_of (term_variables (new_name (triple p c q d))) c)
+        (λ c. b ≡ creates_one_of (variables_of_term (new_name (triple p c q d))) c)
         (sym (create-seen command x e is))
-        (h ∙ ap (λ t. is_among (var_of x) (term_variables t)) name-is)
+        (h ∙ ap (λ t. is_among (var_of x) (variables_of_term t)) name-is)

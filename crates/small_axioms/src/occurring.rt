@@ -2,7 +2,7 @@
 ghost use Rattle.std.specs.Prelude.{◌≡◌};
 ghost use Rattle.dom_terms.specs.Terms.{term_of, var_of};
 ghost use Rattle.formula_syntax.specs.Formulas.{formula_of};
-ghost use Rattle.formula_syntax.specs.FreeVariables.{is_among, occurrences, term_variables};
+ghost use Rattle.formula_syntax.specs.FreeVariables.{is_among, occurrences, variables_of_term};
 ghost use Rattle.theory_syntax.specs.Commands.{command_of};
 ghost use Rattle.small_axioms.specs.Tests.{sets_one_of};
 
@@ -13,7 +13,7 @@ use theory_syntax::Command;
 /// Whether the variable stands in the term.
 #[tactic(auto, using(crate::proofs::Listed::listing))]
 pub(crate) fn term_mentions(a: &Term, x: &ProgVar) -> bool
-    ensures { result ≡ is_among (var_of x.now) (term_variables (term_of a.now)) }
+    ensures { result ≡ is_among (var_of x.now) (variables_of_term (term_of a.now)) }
 {
     match a {
         Term::Prog(y) => same_prog_var(x, y),

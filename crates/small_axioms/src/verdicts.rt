@@ -6,7 +6,7 @@ ghost use Rattle.rule_table.specs.Axioms as table;
 ghost use Rattle.rule_table.specs.Verdicts.{IsVerdict, readings_in};
 ghost use Rattle.row_patterns.specs.Verdicts.{verdict_in};
 ghost use Rattle.dom_terms.specs.Terms.{term_of};
-ghost use Rattle.formula_syntax.specs.FreeVariables.{term_variables};
+ghost use Rattle.formula_syntax.specs.FreeVariables.{variables_of_term};
 ghost use Rattle.theory_syntax.specs.Commands.{command_of};
 ghost use Rattle.theory_syntax.specs.Judgements.{triple_of};
 ghost use Rattle.small_axioms.specs.Names.{name_of};
@@ -97,7 +97,7 @@ fn parent_none_verdict(triple: &Triple) -> Verdict
 // whether the command creates a node, and its variable stands in the name that the requires has
 fn sets_name(triple: &Triple) -> bool
     ensures { result ≡ creates_one_of
-        (term_variables (new_name (judgement_of triple.now))) (command_of triple.now.command) }
+        (variables_of_term (new_name (judgement_of triple.now))) (command_of triple.now.command) }
 {
     let Command::Create(x, e) = &triple.command else {
         return false;

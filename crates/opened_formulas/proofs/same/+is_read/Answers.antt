@@ -3,7 +3,7 @@ use Rattle.std.proofs.Common.{◌≡◌, true, false, not, sym, ap, ◌∙◌}
 use Rattle.model_terms.specs.Variables.{Var}
 use Rattle.model_terms.specs.VariableTests.{same_var}
 use Rattle.dom_terms.specs.Terms.{logic_var_of, term_of}
-use Rattle.formula_syntax.specs.FreeVariables.{is_among, term_variables}
+use Rattle.formula_syntax.specs.FreeVariables.{is_among, variables_of_term}
 use Rattle.opened_formulas.specs.Readings.{tried_var, left_of, right_name}
 use Rattle.opened_formulas.proofs.Scopes.{term_test, outside-kept, outside-other, term-below}
 use Rattle.opened_formulas.proofs.same.+is_read.Goals as goal
@@ -26,7 +26,7 @@ returns-then-not-term_mentions t c =
     let y : Var = logic_var_of c.in-Inside.y.now in
     let z : Var = logic_var_of c.in-Inside.z.now in
     let e : same_var x y ≡ false = cc in
-    let n : is_among z (term_variables (term_of c.args.right.now)) ≡ false =
+    let n : is_among z (variables_of_term (term_of c.args.right.now)) ≡ false =
     sym c.term_mentions.ensures ∙ c.if-not-term_mentions.true in
     c.is_read.ensures
     ∙ sym (ap (λ s. term_test s x (term_of c.args.right.now)) c.in-Inside.is
@@ -39,7 +39,7 @@ returns-else-not-term_mentions t c =
     let y : Var = logic_var_of c.in-Inside.y.now in
     let z : Var = logic_var_of c.in-Inside.z.now in
     let e : same_var x y ≡ false = cc in
-    let n : is_among z (term_variables (term_of c.args.right.now)) ≡ true =
+    let n : is_among z (variables_of_term (term_of c.args.right.now)) ≡ true =
     sym c.term_mentions.ensures ∙ c.if-not-term_mentions.false in
     ap not c.if-not-term_mentions.false
     ∙ sym (ap (λ s. term_test s x (term_of c.args.right.now)) c.in-Inside.is
