@@ -8,6 +8,7 @@ use dom_terms::{Cond, Copied, DataSort, List, Sort, Store, Text, Value, Values};
 use formula_syntax::{AnyVar, Entailment, Formula, Pair};
 use heap_runner::HeapOutcome;
 use logic_text::read_grove;
+use node_heap::NoNumber;
 use proof_text::read_theory;
 use request_words::Request;
 use std::alloc::Global;
@@ -140,6 +141,13 @@ fn outcomes_on_heaps_are_copied(rt: HostRuntime) -> Result<(), Fail> {
         command: assigning(alloc)?,
     };
     check_copy(&rt, alloc, &fault)
+}
+
+#[test]
+fn refused_names_are_copied(rt: HostRuntime) -> Result<(), Fail> {
+    let alloc = rt.alloc();
+    let name = Text::from_str(alloc, "div")?;
+    check_copy(&rt, alloc, &NoNumber { name })
 }
 
 #[test]

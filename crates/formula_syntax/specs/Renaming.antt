@@ -1,5 +1,5 @@
--- The binders that a substitution has passed, with what they became, and how long names are.
--- Nothing here is to be believed: the substitution itself is stated without it.
+-- Needn't be believed: the binders that a substitution has passed, with what they became, and how
+-- long names are. The substitution itself is stated without them.
 use Rattle.std.specs.Prelude.{◌≡◌, ℕ, ◌<◌, ◌≤◌, max, length, Bool, false, cond, List, [], ◌∷◌, Option, Some, None}
 use Rattle.std.specs.List.{list_any}
 use Rattle.model_terms.specs.VariableTests.{same_var}

@@ -72,7 +72,8 @@ module _ {ℓ} {Binder : Type 0} {Result : Type ℓ} (nothing : Result)
   gathered (value_meets s a p) = both (from a) (gathered p)
   gathered p = nothing
 
--- the variable stands free in the formula: in a term, or as it is named under a binder
+-- the variable stands free in the formula: in one of its terms, named there as the binders passed
+-- on the way ask
 abbrev pub FreeIn : Var → Formula → Type 0
 FreeIn x p =
     gathered {Result = Var → Type 0} (λ y. ⊥) (λ left right y. left y ⊎ right y)

@@ -10,13 +10,30 @@ ghost use Rattle.dom_meaning.specs.Configs.{pick_of};
 use crate::heap::NodeHeap;
 use crate::index::{Pair, greatest};
 use crate::records::Record;
-use dom_terms::Text;
+use dom_terms::{Copied, OutOfMemory, Text};
+use std::alloc::Global;
 
 /// There is no number for a new node, or none for its list. The name comes back.
 #[derive(Debug, Drop)]
 pub struct NoNumber {
     /// The name of the node that was to be made.
     pub name: Text,
+}
+
+impl Copied for NoNumber {
+    ghost use Rattle.std.specs.Prelude.{List, ℕ};
+
+    ghost Seen = { List ℕ };
+
+    ghost seen = { λ refused. refused.name };
+
+    fn copy(&self, alloc: Global) -> Result<NoNumber, OutOfMemory>
+        ensures { IfOk result (λ copied. copied.name ≡ self.now.name) }
+    {
+        Ok(NoNumber {
+            name: self.name.copy(alloc)?,
+        })
+    }
 }
 
 impl NodeHeap {

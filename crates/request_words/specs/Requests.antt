@@ -1,5 +1,4 @@
--- Needn't be believed: the requests of the definitions that those of the program stand for, and
--- what it says of words.
+-- The requests of the definitions that those of the program stand for, and what it says of words.
 use Rattle.std.specs.Prelude.{◌≡◌, ◌≤◌, Result, Ok, Err, Option, Some, None}
 use Rattle.model_answers.specs.Words as model
 use Rattle.model_generator.specs.Generated.{most_makers}
