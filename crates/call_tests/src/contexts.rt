@@ -9,7 +9,7 @@ use context_apply::{
     Context, ForestContext, ForestInner, Piece, PlugFault, compose, cut_at, hole_sort, outer_sort,
     plug,
 };
-use dom_terms::{DataSort, List, OutOfMemory};
+use dom_terms::{DataSort, List, OutOfMemory, with};
 use std::alloc::Global;
 use std::test::Fail;
 
@@ -43,14 +43,20 @@ fn bare_hole(alloc: Global) -> Context
 fn plugged(alloc: Global, id: u32) -> Result<Piece, PlugFault>
     requires { 0 < id }
 {
-    let context = behind_leaf(alloc)?;
-    plug(alloc, &context, &Piece::Forest(leaf(alloc, "b", id)?))
+    let (context, forest) = with(behind_leaf(alloc)?, leaf(alloc, "b", id))?;
+    let piece = Piece::Forest(forest);
+    let answer = plug(alloc, &context, &piece);
+    drop((context, piece));
+    answer
 }
 
 // the hole behind the leaf, with a bare hole in its place
 fn composed(alloc: Global) -> Result<Context, PlugFault> {
     let context = behind_leaf(alloc)?;
-    compose(alloc, &context, &bare_hole(alloc))
+    let hole = bare_hole(alloc);
+    let answer = compose(alloc, &context, &hole);
+    drop((context, hole));
+    answer
 }
 
 #[test]

@@ -4,7 +4,7 @@ use crate::groves::{document, leaf};
 use crate::terms::integer;
 use context_apply::{Piece, cut_at};
 use dom_meaning::{Config, FaultKind, Outcome, Pending, Pieces};
-use dom_terms::{Cond, Copied, DataSort, List, Sort, Store, Text, Value, Values};
+use dom_terms::{Cond, Copied, DataSort, List, Sort, Store, Text, Value, Values, with};
 use formula_syntax::{AnyVar, Entailment, Formula, Pair};
 use heap_runner::HeapOutcome;
 use logic_text::read_grove;
@@ -18,8 +18,9 @@ use std::test::Fail;
 use text_tokens::token_list;
 use theory_syntax::{Command, Judgement};
 
-// Checks that a copy of the value prints as the value does.
-fn check_copy<T: Copied + Debug>(rt: &impl Abort, alloc: Global, value: &T) -> Result<(), Fail> {
+// Checks that a copy of the value prints as the value does. The value is let go here, where its
+// type is a parameter: in its caller a proof would go through each of its shapes.
+fn check_copy<T: Copied + Debug>(rt: &impl Abort, alloc: Global, value: T) -> Result<(), Fail> {
     let copied = format!(in alloc; "{:?}", value.copy(alloc)?)?;
     let want = format!(in alloc; "{value:?}")?;
     assert_eq!(rt; copied.as_str(), want.as_str());
@@ -35,27 +36,31 @@ proof step 1 by assign(7, 8) with ({s ++ \"t\"}): pre 0g do x := 3 post true at 
 fn files_are_copied(rt: HostRuntime) -> Result<(), Fail> {
     let alloc = rt.alloc();
     let tokens = token_list(alloc, FILE.as_bytes())?;
-    check_copy(&rt, alloc, &read_theory(alloc, &tokens)?)
+    check_copy(&rt, alloc, read_theory(alloc, &tokens)?)
 }
 
 #[test]
 fn documents_are_copied(rt: HostRuntime) -> Result<(), Fail> {
     let alloc = rt.alloc();
     let tokens = token_list(alloc, b"[\"a\"#0[<\"b\"#2[0f]%3>]%4294967296]")?;
-    check_copy(&rt, alloc, &tokens)?;
-    check_copy(&rt, alloc, &read_grove(alloc, &tokens)?)
+    check_copy(&rt, alloc, read_grove(alloc, &tokens)?)?;
+    check_copy(&rt, alloc, tokens)
 }
 
 #[test]
 fn formulas_are_copied(rt: HostRuntime) -> Result<(), Fail> {
     let alloc = rt.alloc();
-    let (left, right) = (Formula::Len(program(alloc, "a")?), Formula::EmptyForest);
+    let left = Formula::Len(program(alloc, "a")?);
+    let right = Formula::EmptyForest;
     let sort = Sort::Shape(DataSort::Forest);
-    let entailment = Entailment { left, right, sort };
-    check_copy(&rt, alloc, &Judgement::Entails(entailment))?;
-    let var = AnyVar::Logic(logic(alloc, "$m")?);
-    let term = program(alloc, "b")?;
-    check_copy(&rt, alloc, &Pair { var, term })
+    check_copy(
+        &rt,
+        alloc,
+        Judgement::Entails(Entailment { left, right, sort }),
+    )?;
+    let (var, term) = with(logic(alloc, "$m")?, program(alloc, "b"))?;
+    let var = AnyVar::Logic(var);
+    check_copy(&rt, alloc, Pair { var, term })
 }
 
 #[test]
@@ -63,20 +68,20 @@ fn groves_and_contexts_are_copied(rt: HostRuntime) -> Result<(), Fail> {
     let alloc = rt.alloc();
     let grove = document(alloc)?;
     let (context, cut) = cut_at(alloc, &grove, 3)?.ok_or("no tree")?;
-    check_copy(&rt, alloc, &context)?;
-    check_copy(&rt, alloc, &Piece::Tree(cut))?;
-    check_copy(&rt, alloc, &Piece::Grove(grove))
+    check_copy(&rt, alloc, context)?;
+    check_copy(&rt, alloc, Piece::Tree(cut))?;
+    check_copy(&rt, alloc, Piece::Grove(grove))
 }
 
 // the pieces of each kind
 fn pieces(alloc: Global) -> Result<Pieces, Fail> {
-    let (left, right) = (program(alloc, "x")?, program(alloc, "y")?);
-    let looped = Command::While(Cond::Le(left, right), List::new(alloc));
-    let text = Text::from_str(alloc, "é")?;
     let nothing = Pending::Return(Store::new(alloc), List::new(alloc), List::new(alloc));
     let mut pending = List::new(alloc);
     pending.push(nothing)?;
-    pending.push(Pending::Restore(integer(alloc, "y")?, Value::Str(text)))?;
+    let (variable, text) = with(integer(alloc, "y")?, Text::from_str(alloc, "é"))?;
+    pending.push(Pending::Restore(variable, Value::Str(text)))?;
+    let (left, right) = with(program(alloc, "x")?, program(alloc, "y"))?;
+    let looped = Command::While(Cond::Le(left, right), List::new(alloc));
     pending.push(Pending::Run(looped))?;
     Ok(pending)
 }
@@ -94,7 +99,7 @@ fn configurations_are_copied(rt: HostRuntime) -> Result<(), Fail> {
         grove: leaf(alloc, "a", 1)?,
         results,
     };
-    check_copy(&rt, alloc, &config)
+    check_copy(&rt, alloc, config)
 }
 
 // a text and an integer
@@ -107,47 +112,49 @@ fn values(alloc: Global) -> Result<Values, Fail> {
 
 // a command with a variable and a term
 fn assigning(alloc: Global) -> Result<Command, Fail> {
-    Ok(Command::Assign(integer(alloc, "x")?, program(alloc, "y")?))
+    let (variable, term) = with(integer(alloc, "x")?, program(alloc, "y"))?;
+    Ok(Command::Assign(variable, term))
 }
 
 #[test]
 fn outcomes_are_copied(rt: HostRuntime) -> Result<(), Fail> {
     let alloc = rt.alloc();
+    let (values, grove) = with(values(alloc)?, leaf(alloc, "a", 1))?;
+    let steps = 3;
     let ended = Outcome::Ended {
-        steps: 3,
-        values: values(alloc)?,
-        grove: leaf(alloc, "a", 1)?,
+        steps,
+        values,
+        grove,
     };
-    check_copy(&rt, alloc, &ended)?;
+    check_copy(&rt, alloc, ended)?;
+    let command = assigning(alloc)?;
     let fault = Outcome::Fault {
         kind: FaultKind::NoList,
         steps: 2,
-        command: assigning(alloc)?,
+        command,
     };
-    check_copy(&rt, alloc, &fault)
+    check_copy(&rt, alloc, fault)
 }
 
 #[test]
 fn outcomes_on_heaps_are_copied(rt: HostRuntime) -> Result<(), Fail> {
     let alloc = rt.alloc();
-    let ended = HeapOutcome::Ended {
-        steps: 3,
-        values: values(alloc)?,
-    };
-    check_copy(&rt, alloc, &ended)?;
+    let values = values(alloc)?;
+    check_copy(&rt, alloc, HeapOutcome::Ended { steps: 3, values })?;
+    let command = assigning(alloc)?;
     let fault = HeapOutcome::Fault {
         kind: FaultKind::Cycle,
         steps: 2,
-        command: assigning(alloc)?,
+        command,
     };
-    check_copy(&rt, alloc, &fault)
+    check_copy(&rt, alloc, fault)
 }
 
 #[test]
 fn refused_names_are_copied(rt: HostRuntime) -> Result<(), Fail> {
     let alloc = rt.alloc();
     let name = Text::from_str(alloc, "div")?;
-    check_copy(&rt, alloc, &NoNumber { name })
+    check_copy(&rt, alloc, NoNumber { name })
 }
 
 #[test]
@@ -162,5 +169,5 @@ fn requests_are_copied(rt: HostRuntime) -> Result<(), Fail> {
         fuel: 9,
         arguments,
     };
-    check_copy(&rt, alloc, &run)
+    check_copy(&rt, alloc, run)
 }

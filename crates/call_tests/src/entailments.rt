@@ -6,7 +6,7 @@ ghost use Rattle.dom_terms.specs.Terms.{logic_var_of};
 ghost use Rattle.entail_rules.specs.Premises.{IsSmallEntailment, IsWellSorted};
 ghost use Rattle.entail_kernel.specs.Steps.{IsEntailmentStep};
 
-use dom_terms::{DataSort, LogicVar, Numbers, OutOfMemory, Sort, Terms, Text, Verdict};
+use dom_terms::{DataSort, LogicVar, Numbers, OutOfMemory, Sort, Terms, Text, Verdict, with};
 use entail_kernel::check_entailment;
 use entail_rules::{EntailRule, matches};
 use formula_syntax::{Entailment, Formula};
@@ -29,25 +29,44 @@ fn something(alloc: Global) -> Result<Entailment, OutOfMemory>
     ensures sorted { IfOk result IsWellSorted }
 {
     let variable = Box::new(alloc, Formula::Var(grove_variable(alloc)?))?;
-    let both = Formula::And(variable, Box::new(alloc, Formula::True)?);
-    let right = Formula::Exists(grove_variable(alloc)?, Box::new(alloc, both)?);
+    let (variable, yes) = with(variable, Box::new(alloc, Formula::True))?;
+    let both = Box::new(alloc, Formula::And(variable, yes))?;
+    let (both, bound) = with(both, grove_variable(alloc))?;
+    let right = Formula::Exists(bound, both);
     let sort = Sort::Shape(DataSort::Grove);
     let left = Formula::True;
     Ok(Entailment { left, right, sort })
 }
 
+// The verdict of a rule on it, without premises and arguments.
+fn verdict_of(alloc: Global, rule: EntailRule) -> Result<Verdict, OutOfMemory> {
+    let conclusion = something(alloc)?;
+    let verdict = matches(alloc, rule, &Terms::new(alloc), &[], &conclusion);
+    drop(conclusion);
+    verdict
+}
+
+// The verdict of the rule `cut` on it, with itself for each of two premises.
+fn verdict_of_cut(alloc: Global) -> Result<Verdict, OutOfMemory> {
+    let (first, second) = with(something(alloc)?, something(alloc))?;
+    let (premises, conclusion) = with([first, second], something(alloc))?;
+    let verdict = matches(
+        alloc,
+        EntailRule::Cut,
+        &Terms::new(alloc),
+        &premises,
+        &conclusion,
+    );
+    drop((premises, conclusion));
+    verdict
+}
+
 #[test]
 fn an_entailment_has_the_verdict_of_its_rule(rt: HostRuntime) -> Result<(), Fail> {
     let alloc = rt.alloc();
-    let arguments = Terms::new(alloc);
-    let conclusion = something(alloc)?;
-    let verdict = matches(alloc, EntailRule::Some, &arguments, &[], &conclusion)?;
-    assert!(rt; matches!(verdict, Verdict::Instance));
-    let premises = [something(alloc)?, something(alloc)?];
-    let verdict = matches(alloc, EntailRule::Cut, &arguments, &premises, &conclusion)?;
-    assert!(rt; matches!(verdict, Verdict::Premises));
-    let verdict = matches(alloc, EntailRule::TrueIn, &arguments, &[], &conclusion)?;
-    assert!(rt; matches!(verdict, Verdict::Shape));
+    assert!(rt; matches!(verdict_of(alloc, EntailRule::Some)?, Verdict::Instance));
+    assert!(rt; matches!(verdict_of_cut(alloc)?, Verdict::Premises));
+    assert!(rt; matches!(verdict_of(alloc, EntailRule::TrueIn)?, Verdict::Shape));
     Ok(())
 }
 
@@ -57,14 +76,16 @@ fn first_step(alloc: Global, conclusion: Entailment) -> Result<Step, OutOfMemory
     requires sorted { IsWellSorted conclusion }
     ensures { IfOk result IsEntailmentStep }
 {
+    let (conclusion, name) = with(conclusion, Text::from_str(alloc, "some"))?;
+    let reason = Reason::Rule {
+        name,
+        premises: Numbers::new(alloc),
+        arguments: Terms::new(alloc),
+    };
     Ok(Step {
         number: 1,
         line: 1,
-        reason: Reason::Rule {
-            name: Text::from_str(alloc, "some")?,
-            premises: Numbers::new(alloc),
-            arguments: Terms::new(alloc),
-        },
+        reason,
         judgement: Judgement::Entails(conclusion),
     })
 }
@@ -72,8 +93,9 @@ fn first_step(alloc: Global, conclusion: Entailment) -> Result<Step, OutOfMemory
 #[test]
 fn a_step_has_the_verdict_of_its_rule(rt: HostRuntime) -> Result<(), Fail> {
     let alloc = rt.alloc();
-    let conclusion = something(alloc)?;
-    let step = first_step(alloc, conclusion)?;
-    assert!(rt; matches!(check_entailment(alloc, &[], &step), Ok(Verdict::Instance)));
+    let step = first_step(alloc, something(alloc)?)?;
+    let verdict = check_entailment(alloc, &[], &step);
+    drop(step);
+    assert!(rt; matches!(verdict, Ok(Verdict::Instance)));
     Ok(())
 }

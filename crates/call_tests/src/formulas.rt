@@ -1,13 +1,14 @@
 // Formulas: sorts, free variables, sameness and substitution.
-ghost use Rattle.std.specs.Prelude.{◌≡◌, IfOk};
+ghost use Rattle.std.specs.Prelude.{◌≡◌, ◌<◌, [], ◌∷◌, map, codes, IfOk};
 ghost use Rattle.model_shapes.specs.Sorts.{value, int_sort};
 ghost use Rattle.model_terms.specs.Variables as model;
 ghost use Rattle.model_terms.specs.Terms.{variable};
-ghost use Rattle.model_formulas.specs.Formulas.{existential, negation, equality};
+ghost use Rattle.model_formulas.specs.Formulas.{conjunction, existential, negation, equality};
+ghost use Rattle.model_formulas.specs.Parts.{parts};
 ghost use Rattle.dom_terms.specs.Terms.{logic_var_of, term_of};
-ghost use Rattle.formula_syntax.specs.Formulas.{formula_of};
+ghost use Rattle.formula_syntax.specs.Formulas.{formula_of, pair_of};
 
-use dom_terms::{DataSort, LogicVar, OutOfMemory, ProgVar, Sort, Term, Text, ValueSort};
+use dom_terms::{DataSort, LogicVar, OutOfMemory, ProgVar, Sort, Term, Text, ValueSort, with};
 use formula_syntax::{
     AnyVar, Formula, IllSorted, Pair, free_vars, is_pure, is_substitution, same_formula, sorted_as,
     substitute,
@@ -38,8 +39,9 @@ fn some(alloc: Global, name: &str, part: Formula) -> Result<Formula, OutOfMemory
     ensures { IfOk result (λ p. formula_of p
         ≡ existential (model.logic name.now (value int_sort)) (formula_of part)) }
 {
-    let bound = logic(alloc, name)?;
-    Ok(Formula::Exists(bound, Box::new(alloc, part)?))
+    let (part, bound) = with(part, logic(alloc, name))?;
+    let (bound, part) = with(bound, Box::new(alloc, part))?;
+    Ok(Formula::Exists(bound, part))
 }
 
 // `(exists BOUND . (not LEFT = RIGHT))`, of integers
@@ -49,61 +51,140 @@ fn apart(alloc: Global, bound: &str, left: &str, right: &str) -> Result<Formula,
         (variable (model.logic left.now (value int_sort)))
         (variable (model.logic right.now (value int_sort)))))) }
 {
-    let left = Term::Logic(logic(alloc, left)?);
-    let right = Term::Logic(logic(alloc, right)?);
-    let equation = Box::new(alloc, Formula::Eq(left, right))?;
-    some(alloc, bound, Formula::Not(equation))
+    let (left, right) = with(logic(alloc, left)?, logic(alloc, right))?;
+    let equation = Formula::Eq(Term::Logic(left), Term::Logic(right));
+    some(alloc, bound, Formula::Not(Box::new(alloc, equation)?))
+}
+
+// `(exists BOUND . LEFT = RIGHT)`, of integers
+fn equated(alloc: Global, bound: &str, left: Term, right: Term) -> Result<Formula, OutOfMemory>
+    ensures { IfOk result (λ p. parts (formula_of p) < 4294967295) }
+{
+    some(alloc, bound, Formula::Eq(left, right))
+}
+
+// `(exists BOUND . a = BOUND)`
+fn is_a(alloc: Global, bound: &str) -> Result<Formula, OutOfMemory>
+    ensures { IfOk result (λ p. parts (formula_of p) < 4294967295) }
+{
+    let (left, right) = with(program(alloc, "a")?, logic(alloc, bound))?;
+    equated(alloc, bound, left, Term::Logic(right))
+}
+
+// `(exists BOUND . BOUND = a)`
+fn a_is(alloc: Global, bound: &str) -> Result<Formula, OutOfMemory>
+    ensures { IfOk result (λ p. parts (formula_of p) < 4294967295) }
+{
+    let (left, right) = with(logic(alloc, bound)?, program(alloc, "a"))?;
+    equated(alloc, bound, Term::Logic(left), right)
+}
+
+// Whether the formulas are the same, which are let go then.
+fn are_same(alloc: Global, formulas: (Formula, Formula)) -> Result<bool, OutOfMemory>
+    requires left { parts (formula_of formulas.0) < 4294967295 }
+    requires right { parts (formula_of formulas.1) < 4294967295 }
+{
+    let answer = same_formula(alloc, &formulas.0, &formulas.1);
+    drop(formulas);
+    answer
 }
 
 #[test]
 fn bound_names_do_not_matter(rt: HostRuntime) -> Result<(), Fail> {
     let alloc = rt.alloc();
-    let equation = Formula::Eq(program(alloc, "a")?, Term::Logic(logic(alloc, "$m")?));
-    let first = some(alloc, "$m", equation)?;
-    let equation = Formula::Eq(program(alloc, "a")?, Term::Logic(logic(alloc, "$n")?));
-    let renamed = some(alloc, "$n", equation)?;
-    let equation = Formula::Eq(Term::Logic(logic(alloc, "$m")?), program(alloc, "a")?);
-    let turned = some(alloc, "$m", equation)?;
-    assert_eq!(rt; same_formula(alloc, &first, &renamed)?, true);
-    assert_eq!(rt; same_formula(alloc, &first, &turned)?, false);
+    let renamed = with(is_a(alloc, "$m")?, is_a(alloc, "$n"))?;
+    assert_eq!(rt; are_same(alloc, renamed)?, true);
+    let turned = with(is_a(alloc, "$m")?, a_is(alloc, "$m"))?;
+    assert_eq!(rt; are_same(alloc, turned)?, false);
     Ok(())
+}
+
+// the pair of `$n` and `$m`, of integers
+fn turned(alloc: Global) -> Result<[Pair; 1], OutOfMemory>
+    ensures { IfOk result (λ pairs. map pair_of pairs
+        ≡ (
+          model.logic (codes "$n") (value int_sort),
+          variable (model.logic (codes "$m") (value int_sort)),
+        ) ∷ []) }
+{
+    let (var, term) = with(logic(alloc, "$n")?, logic(alloc, "$m"))?;
+    let (var, term) = (AnyVar::Logic(var), Term::Logic(term));
+    Ok([Pair { var, term }])
+}
+
+// Whether the formula is `(exists $m . (not $n = $m))` with `$m` for `$n`. It is let go then.
+fn is_put(alloc: Global, to: Formula) -> Result<bool, OutOfMemory>
+    requires { parts (formula_of to) < 4294967295 }
+{
+    let formulas = with(to, apart(alloc, "$m", "$n", "$m"))?;
+    let (formulas, pairs) = with(formulas, turned(alloc))?;
+    let answer = is_substitution(alloc, &formulas.1, &pairs, &formulas.0);
+    drop((formulas, pairs));
+    answer
+}
+
+// `(exists $m . (not $n = $m))` with `$m` for `$n`
+fn put(alloc: Global) -> Result<Formula, OutOfMemory>
+    ensures { IfOk result (λ to. parts (formula_of to) < 4294967295) }
+{
+    let (from, pairs) = with(apart(alloc, "$m", "$n", "$m")?, turned(alloc))?;
+    let answer = substitute(alloc, &from, &pairs);
+    drop((from, pairs));
+    answer
 }
 
 #[test]
 fn nothing_is_captured(rt: HostRuntime) -> Result<(), Fail> {
     let alloc = rt.alloc();
-    let from = apart(alloc, "$m", "$n", "$m")?;
-    let var = AnyVar::Logic(logic(alloc, "$n")?);
-    let term = Term::Logic(logic(alloc, "$m")?);
-    let pairs = [Pair { var, term }];
     let renamed = apart(alloc, "$k", "$m", "$k")?;
+    assert_eq!(rt; is_put(alloc, renamed)?, true);
     let captured = apart(alloc, "$m", "$m", "$m")?;
-    assert_eq!(rt; is_substitution(alloc, &from, &pairs, &renamed)?, true);
-    assert_eq!(rt; is_substitution(alloc, &from, &pairs, &captured)?, false);
-    let answer = substitute(alloc, &from, &pairs)?;
-    assert_eq!(rt; same_formula(alloc, &answer, &renamed)?, true);
+    assert_eq!(rt; is_put(alloc, captured)?, false);
+    let answers = with(put(alloc)?, apart(alloc, "$k", "$m", "$k"))?;
+    assert_eq!(rt; are_same(alloc, answers)?, true);
     Ok(())
 }
 
 #[test]
 fn the_first_part_at_fault_is_told(rt: HostRuntime) -> Result<(), Fail> {
     let alloc = rt.alloc();
-    let left = Box::new(alloc, Formula::EmptyForest)?;
-    let right = Box::new(alloc, Formula::EmptyGrove)?;
-    let both = Formula::And(left, right);
-    let answer = sorted_as(&both, Sort::Shape(DataSort::Forest));
+    let formula = both(alloc, Formula::EmptyForest, Formula::EmptyGrove)?;
+    let answer = sorted_as(&formula, Sort::Shape(DataSort::Forest));
+    let pure = is_pure(&formula);
+    drop(formula);
     assert_eq!(rt; answer, Err(IllSorted { place: 2 }));
-    assert_eq!(rt; is_pure(&both), false);
+    assert_eq!(rt; pure, false);
     Ok(())
+}
+
+// the formula of both, in boxes of their own
+fn both(alloc: Global, left: Formula, right: Formula) -> Result<Formula, OutOfMemory>
+    ensures { IfOk result (λ p. formula_of p ≡ conjunction (formula_of left) (formula_of right)) }
+{
+    let (right, left) = with(right, Box::new(alloc, left))?;
+    let (left, right) = with(left, Box::new(alloc, right))?;
+    Ok(Formula::And(left, right))
+}
+
+// the free variables of `(exists $m . (a = $m and b = a))`
+fn free_in_both(alloc: Global) -> Result<Vec<AnyVar>, OutOfMemory> {
+    let (a, m) = with(program(alloc, "a")?, logic(alloc, "$m"))?;
+    let left = Formula::Eq(a, Term::Logic(m));
+    let (left, right) = with(left, with(program(alloc, "b")?, program(alloc, "a")))?;
+    let formula = some(
+        alloc,
+        "$m",
+        both(alloc, left, Formula::Eq(right.0, right.1))?,
+    )?;
+    let found = free_vars(alloc, &formula);
+    drop(formula);
+    found
 }
 
 #[test]
 fn free_variables_are_listed_in_order(rt: HostRuntime) -> Result<(), Fail> {
     let alloc = rt.alloc();
-    let left = Formula::Eq(program(alloc, "a")?, Term::Logic(logic(alloc, "$m")?));
-    let right = Formula::Eq(program(alloc, "b")?, program(alloc, "a")?);
-    let both = Formula::And(Box::new(alloc, left)?, Box::new(alloc, right)?);
-    let found = free_vars(alloc, &some(alloc, "$m", both)?)?;
+    let found = free_in_both(alloc)?;
     let want = [program(alloc, "a")?, program(alloc, "b")?];
     let want = format!(in alloc; "{want:?}")?;
     assert_eq!(rt; format!(in alloc; "{found:?}")?.as_str(), want.as_str());

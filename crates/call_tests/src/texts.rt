@@ -35,7 +35,9 @@ fn read_and_written(alloc: Global) -> Result<(Text, Option<Sort>), Fail> {
     let vars = vec![in alloc; AnyVar::Logic(tree(alloc)?)]?;
     let formula = read_formula(alloc, &tokens, &vars)?;
     let sort = sort_in_root(&formula);
-    Ok((write_formula(alloc, &formula)?, sort))
+    let text = write_formula(alloc, &formula);
+    drop(formula);
+    Ok((text?, sort))
 }
 
 #[test]

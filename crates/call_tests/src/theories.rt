@@ -1,5 +1,5 @@
 // Calls on theories, commands and conditions that the program doesn't make.
-ghost use Rattle.std.specs.Prelude.{IfOk};
+ghost use Rattle.std.specs.Prelude.{◌≤◌, length, IfOk};
 ghost use Rattle.model_files.specs.Sizes.{JudgementIsSmall, TheoryIsSmall};
 ghost use Rattle.theory_syntax.specs.Judgements.{judgement_of};
 ghost use Rattle.theory_syntax.specs.Theories.{theory_of};
@@ -10,7 +10,7 @@ use dom_syntax::{
 };
 use dom_terms::{
     Cond, DataSort, LogicVars, Numbers, OutOfMemory, ProgVar, Sort, Store, Term, Terms, Text,
-    ValueSort, Vars, holds,
+    ValueSort, Vars, holds, with,
 };
 use formula_syntax::{Entailment, Formula};
 use hoare_kernel::{Accepted, check_theory};
@@ -57,19 +57,29 @@ fn gap(number: u32) -> Step
     }
 }
 
+// The test of that step, with this number, as the seventh of the first procedure.
+fn tested(alloc: Global, theory: &Theory, number: u32) -> Result<(), ProgramFault>
+    requires { 1 ≤ length theory.now.procedures }
+{
+    let step = gap(number);
+    let answer = check_one(alloc, theory, 1, 7, &step);
+    drop(step);
+    answer
+}
+
 #[test]
 fn a_step_is_tested_by_itself(rt: HostRuntime) -> Result<(), Fail> {
     let alloc = rt.alloc();
     let theory = theory(alloc)?;
     assert!(rt; theory.procedures.len() == 1);
-    assert!(rt; check_one(alloc, &theory, 1, 7, &gap(7)).is_ok());
+    assert!(rt; tested(alloc, &theory, 7).is_ok());
     let kind = FileKind::Number;
     let fault = ProgramFault::BadProgram {
         procedure: 1,
         step: 7,
         kind,
     };
-    assert_eq!(rt; check_one(alloc, &theory, 1, 7, &gap(8)), Err(fault));
+    assert_eq!(rt; tested(alloc, &theory, 8), Err(fault));
     Ok(())
 }
 
@@ -77,6 +87,12 @@ fn a_step_is_tested_by_itself(rt: HostRuntime) -> Result<(), Fail> {
 fn skip_step(alloc: Global) -> Result<Step, OutOfMemory>
     ensures { IfOk result (λ s. JudgementIsSmall (judgement_of s.judgement)) }
 {
+    let name = Text::from_str(alloc, "skip")?;
+    let reason = Reason::Rule {
+        name,
+        premises: Numbers::new(alloc),
+        arguments: Terms::new(alloc),
+    };
     let (pre, command, post) = (Formula::True, Command::Skip, Formula::True);
     let sort = DataSort::Grove;
     let triple = Triple {
@@ -84,11 +100,6 @@ fn skip_step(alloc: Global) -> Result<Step, OutOfMemory>
         command,
         post,
         sort,
-    };
-    let reason = Reason::Rule {
-        name: Text::from_str(alloc, "skip")?,
-        premises: Numbers::new(alloc),
-        arguments: Terms::new(alloc),
     };
     Ok(Step {
         number: 1,
@@ -105,8 +116,9 @@ fn idle_theory(alloc: Global) -> Result<Theory, OutOfMemory>
     let mut proof = Steps::new(alloc);
     proof.push(skip_step(alloc)?)?;
     let mut procedures = Procedures::new(alloc);
+    let (proof, name) = with(proof, Text::from_str(alloc, "idle"))?;
     procedures.push(Procedure {
-        name: Text::from_str(alloc, "idle")?,
+        name,
         params: Vars::new(alloc),
         results: Vars::new(alloc),
         sort: DataSort::Grove,
@@ -140,8 +152,12 @@ fn a_bool_variable_is_its_equation_with_yes(rt: HostRuntime) -> Result<(), Fail>
     let alloc = rt.alloc();
     let name = Text::from_str(alloc, "b")?;
     let sort = ValueSort::Bool;
-    let formula = cond_formula(alloc, &Cond::Holds(ProgVar { name, sort }))?;
-    assert!(rt; matches!(formula, Formula::Eq(Term::Prog(_), Term::Bool(true))));
+    let cond = Cond::Holds(ProgVar { name, sort });
+    let formula = cond_formula(alloc, &cond);
+    drop(cond);
+    let is_equation = matches!(formula, Ok(Formula::Eq(Term::Prog(_), Term::Bool(true))));
+    drop(formula);
+    assert!(rt; is_equation);
     Ok(())
 }
 
@@ -149,8 +165,11 @@ fn a_bool_variable_is_its_equation_with_yes(rt: HostRuntime) -> Result<(), Fail>
 fn both_parts_of_a_condition_are_evaluated(rt: HostRuntime) -> Result<(), Fail> {
     let alloc = rt.alloc();
     let store = Store::new(alloc);
-    let least = Cond::Le(Term::Int(2), Term::Int(1));
-    let either = Cond::Or(Box::new(alloc, Cond::True)?, Box::new(alloc, least)?);
-    assert!(rt; matches!(holds(alloc, &either, &store), Ok(true)));
+    let least = Box::new(alloc, Cond::Le(Term::Int(2), Term::Int(1)))?;
+    let (right, left) = with(least, Box::new(alloc, Cond::True))?;
+    let either = Cond::Or(left, right);
+    let holds = holds(alloc, &either, &store);
+    drop(either);
+    assert!(rt; matches!(holds, Ok(true)));
     Ok(())
 }

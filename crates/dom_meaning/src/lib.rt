@@ -18,6 +18,7 @@ mod steps;
 
 pub use configurations::{Config, Pending, Pieces};
 pub use faults::{FaultKind, StepFault};
+pub use pieces::drop_first;
 pub use runs::{Outcome, run_plain};
 pub use starts::start;
 pub use steps::{StepOut, step};

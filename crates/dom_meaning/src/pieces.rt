@@ -15,13 +15,13 @@ use std::mem::replace;
 use theory_syntax::{Block, Command};
 
 /// Takes the first piece away.
-pub(crate) fn drop_first(pending: &mut Pieces)
+pub fn drop_first(pending: &mut Pieces)
     requires { 0 < length pending.old }
     ensures { (piece : Pending) (others : plain.List Pending)
         → pending.old ≡ others ++ piece ∷ [] → pending.new ≡ others }
 {
     let place = pending.len() - 1;
-    let _piece = pending.remove(place);
+    drop(pending.remove(place));
 }
 
 /// Puts the pieces in the place of the first one. Where memory is refused nothing is changed.
@@ -34,7 +34,7 @@ pub(crate) fn replace_first(pending: &mut Pieces, pieces: Pieces) -> Result<(), 
     let mut pieces = pieces;
     let place = pending.len() - 1;
     pending.append(&mut pieces)?;
-    let _piece = pending.remove(place);
+    drop(pending.remove(place));
     Ok(())
 }
 
@@ -111,11 +111,11 @@ fn unfold_last(pending: &mut Pieces, block: Block) -> Result<(), OutOfMemory>
     let place = pending.len() - 1;
     match pending.append_reversed(&mut block) {
         Ok(()) => {
-            let _piece = pending.remove(place);
+            drop(pending.remove(place));
             Ok(())
         }
         Err(refused) => {
-            let _piece = replace_last(pending, Pending::Run(Command::Block(block)));
+            drop(replace_last(pending, Pending::Run(Command::Block(block))));
             Err(refused)
         }
     }

@@ -17,6 +17,7 @@ use Rattle.dom_syntax.specs.declared.programs.ProgramFault.{ProgramFault}
 use Rattle.dom_syntax.specs.declared.programs.ProgramFault.TheVariants.{BadProgram, OutOfMemory}
 use Rattle.dom_syntax.specs.declared.tables.Table.{Table}
 use Rattle.dom_syntax.specs.Faults.{Reports, FaultReports, step_fault}
+use Rattle.dom_syntax.specs.Places.{places_of}
 use Rattle.model_files.specs.Sizes.{StepsAreSmall, ProceduresAreSmall, JudgementIsSmall, ProcedureIsSmall}
 use Rattle.dom_syntax.specs.Tables.{Declaration, Declares, first_of, found}
 use Rattle.dom_syntax.proofs.TableLaws.{first-append}
@@ -84,11 +85,6 @@ module _ (theory : Theory) where
     small-steps h = subst StepsAreSmall cut-steps h
 
   -- PROCEDURES, at an index
-  abbrev pub places_of : List (ProcedureOf Named) → ℕ → ProcedureOf Named → List Place
-  places_of earlier number f =
-      record { procedure = number; step = 0; passes = header theory earlier f }
-      ∷ steps_from theory number f 1 f.proof
-
   module _ (earlier : List (ProcedureOf Named)) (number : ℕ) (xs : List Procedure) (i : ℕ)
       (x : Procedure) (lt : i < length xs) (is : x ≡ get_or xs i x) where
     pub cut-procedures : map procedure_of (drop i xs)
@@ -99,12 +95,12 @@ module _ (theory : Theory) where
 
     pub procedures-here :
         first_fault_at (procedures_from theory earlier number (map procedure_of (drop i xs)))
-        ≡ or_else (first_fault_at (places_of earlier number (procedure_of x)))
+        ≡ or_else (first_fault_at (places_of theory earlier number (procedure_of x)))
         (first_fault_at (procedures_from theory (procedure_of x ∷ earlier) (number + 1)
         (map procedure_of (drop (i + 1) xs))))
     procedures-here =
         (λ j. first_fault_at (procedures_from theory earlier number (cut-procedures j)))
-        ∙ places-joined (places_of earlier number (procedure_of x))
+        ∙ places-joined (places_of theory earlier number (procedure_of x))
         (procedures_from theory (procedure_of x ∷ earlier) (number + 1)
         (map procedure_of (drop (i + 1) xs)))
 

@@ -9,4 +9,5 @@ pub mod Fresh
 pub mod Contents
 pub mod Heads
 pub mod Judged
+pub mod Places
 pub mod Modified

@@ -5,7 +5,7 @@ ghost use Rattle.model_commands.specs.ConditionFormulas as model;
 ghost use Rattle.dom_terms.specs.Conditions.{cond_of};
 ghost use Rattle.formula_syntax.specs.Formulas.{formula_of};
 
-use dom_terms::{Cond, Copied, OutOfMemory, Term};
+use dom_terms::{Cond, Copied, OutOfMemory, Term, copies, with};
 use formula_syntax::Formula;
 use std::alloc::Global;
 
@@ -24,11 +24,23 @@ pub fn cond_formula(alloc: Global, cond: &Cond) -> Result<Formula, OutOfMemory>
             let variable = Term::Prog(variable.copy(alloc)?);
             Ok(Formula::Eq(variable, Term::Bool(true)))
         }
-        Cond::Eq(left, right) => Ok(Formula::Eq(left.copy(alloc)?, right.copy(alloc)?)),
-        Cond::Le(left, right) => Ok(Formula::Le(left.copy(alloc)?, right.copy(alloc)?)),
+        Cond::Eq(left, right) => {
+            let (left, right) = copies(alloc, left, right)?;
+            Ok(Formula::Eq(left, right))
+        }
+        Cond::Le(left, right) => {
+            let (left, right) = copies(alloc, left, right)?;
+            Ok(Formula::Le(left, right))
+        }
         Cond::Not(inner) => Ok(Formula::Not(part(alloc, inner)?)),
-        Cond::And(left, right) => Ok(Formula::And(part(alloc, left)?, part(alloc, right)?)),
-        Cond::Or(left, right) => Ok(Formula::Or(part(alloc, left)?, part(alloc, right)?)),
+        Cond::And(left, right) => {
+            let (left, right) = with(part(alloc, left)?, part(alloc, right))?;
+            Ok(Formula::And(left, right))
+        }
+        Cond::Or(left, right) => {
+            let (left, right) = with(part(alloc, left)?, part(alloc, right))?;
+            Ok(Formula::Or(left, right))
+        }
     }
 }
 

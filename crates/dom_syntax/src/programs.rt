@@ -13,6 +13,7 @@ ghost use Rattle.dom_syntax.specs.Scopes.{HasNames, IsScope, names_in, procedure
 ghost use Rattle.dom_syntax.specs.ScopeTests.{HeadSettled, StepSettled};
 ghost use Rattle.dom_syntax.specs.Judged.{HeadJudged, ProcedureJudged};
 ghost use Rattle.dom_syntax.specs.Judged.{StepJudged, StepsJudged, TheoryJudged};
+ghost use Rattle.dom_syntax.specs.Places.{places_of};
 ghost use Rattle.declared_sorts.specs.Settled.{procedure_settled, step_settled, theory_settled};
 ghost use Rattle.model_files.specs.Sizes.{StepsAreSmall, IsSmall, JudgementIsSmall};
 ghost use Rattle.model_files.specs.Sizes.{ProcedureIsSmall, TheoryIsSmall};
@@ -165,8 +166,31 @@ fn check_header(
     verdict(procedure, 0, first_kind(&head)?)
 }
 
-// Whether the procedure, whose name is new or not, and the steps of its proof are well formed. What
-// is known of them may be told.
+// Whether the procedure of the scope, whose name is new or not, and the steps of its proof are well
+// formed. What is known of them may be told.
+fn check_scope(
+    alloc: Global,
+    scope: &Scope,
+    number: u32,
+    is_new: bool,
+    told: Told,
+) -> Result<(), ProgramFault>
+    requires scope { IsScope scope.now }
+    requires small { ProcedureIsSmall (procedure_in scope.now) }
+    requires few { length (procedure_in scope.now).proof < 4294967295 }
+    requires settled { OnTrue told.are_settled (procedure_settled
+        (theory_in scope.now.names.now).logic (procedure_in scope.now) ≡ true) }
+    requires judged { ProcedureJudged told.are_judged (procedure_in scope.now) }
+    ensures { (earlier : List (ProcedureOf Named))
+        → not (list_any (λ g. bytes_eq (procedure_in scope.now).name g.name) earlier) ≡ is_new
+        → Reports result (model.first_fault_at (places_of (theory_in scope.now.names.now) earlier
+        number (procedure_in scope.now))) }
+{
+    check_header(alloc, scope, number, is_new, told)?;
+    check_steps(alloc, scope, number, told)
+}
+
+// The same of a procedure of the names.
 fn check_procedure(
     alloc: Global,
     names: &Names,
@@ -183,17 +207,13 @@ fn check_procedure(
     requires judged { ProcedureJudged told.are_judged (procedure_of procedure.now) }
     ensures { (earlier : List (ProcedureOf Named))
         → not (list_any (λ g. bytes_eq (procedure_of procedure.now).name g.name) earlier) ≡ is_new
-        → Reports result (model.first_fault_at (record {
-          procedure = number;
-          step = 0;
-          passes = model.header (theory_in names.now) earlier (procedure_of procedure.now);
-        }
-        ∷ model.steps_from (theory_in names.now) number (procedure_of procedure.now) 1
-        (procedure_of procedure.now).proof)) }
+        → Reports result (model.first_fault_at (places_of (theory_in names.now) earlier number
+        (procedure_of procedure.now))) }
 {
     let scope = Scope::new(alloc, names, procedure)?;
-    check_header(alloc, &scope, number, is_new, told)?;
-    check_steps(alloc, &scope, number, told)
+    let checked = check_scope(alloc, &scope, number, is_new, told);
+    drop(scope);
+    checked
 }
 
 // Whether the procedures of the theory are well formed. What is known of them may be told.
@@ -264,7 +284,9 @@ fn check_step_in(
         (step_of step.now))) }
 {
     let scope = Scope::new(alloc, names, own)?;
-    check_step_at(alloc, &scope, number, place, step, NOTHING)
+    let checked = check_step_at(alloc, &scope, number, place, step, NOTHING);
+    drop(scope);
+    checked
 }
 
 /// Whether the step is well formed at this place, counted from 1, of the proof of the procedure,

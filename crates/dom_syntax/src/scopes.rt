@@ -17,7 +17,7 @@ ghost use Rattle.dom_syntax.specs.Scopes.{logic_entry, variable_entry};
 
 use crate::tables::{Declared, Table};
 use crate::variable_sets::VariableSet;
-use dom_terms::{LogicVar, OutOfMemory, ProgVar, Sort, Text, ValueSort};
+use dom_terms::{LogicVar, OutOfMemory, ProgVar, Sort, Text, ValueSort, with};
 use std::alloc::Global;
 use theory_syntax::{Block, Command, Procedure, Theory};
 
@@ -95,10 +95,14 @@ impl<'a> Names<'a> {
     pub(crate) fn new(alloc: Global, theory: &'a Theory) -> Result<Names<'a>, OutOfMemory>
         ensures { IfOk result (λ names. HasNames names × (names.theory.now ≡ theory.now)) }
     {
+        let (procedures, logic) = with(
+            procedure_table(alloc, theory.procedures.as_slice())?,
+            logic_table(alloc, theory.logic.as_slice()),
+        )?;
         Ok(Names {
             theory,
-            procedures: procedure_table(alloc, theory.procedures.as_slice())?,
-            logic: logic_table(alloc, theory.logic.as_slice())?,
+            procedures,
+            logic,
         })
     }
 
@@ -192,12 +196,17 @@ impl<'a> Scope<'a> {
         ensures { IfOk result (λ scope. IsScope scope × (scope.names.now ≡ names.now)
             × (scope.procedure.now ≡ procedure.now)) }
     {
+        let sets = with(
+            VariableSet::of(alloc, procedure.params.as_slice())?,
+            VariableSet::of(alloc, procedure.results.as_slice()),
+        )?;
+        let ((params, results), variables) = with(sets, variable_table(alloc, procedure))?;
         Ok(Scope {
             names,
             procedure,
-            params: VariableSet::of(alloc, procedure.params.as_slice())?,
-            results: VariableSet::of(alloc, procedure.results.as_slice())?,
-            variables: variable_table(alloc, procedure)?,
+            params,
+            results,
+            variables,
         })
     }
 }

@@ -2,6 +2,7 @@
 ghost use Rattle.std.specs.Prelude.{◌≡◌, IfOk};
 ghost use Rattle.dom_terms.specs.Conditions.{cond_of};
 
+use crate::both::{copies, with};
 use crate::copied::Copied;
 use crate::memory::OutOfMemory;
 use crate::terms::{ProgVar, Term};
@@ -39,16 +40,28 @@ impl Copied for Cond {
     fn copy(&self, alloc: Global) -> Result<Cond, OutOfMemory>
         ensures { IfOk result (λ copied. cond_of copied ≡ cond_of self.now) }
     {
-        Ok(match self {
-            Cond::True => Cond::True,
-            Cond::False => Cond::False,
-            Cond::Holds(variable) => Cond::Holds(variable.copy(alloc)?),
-            Cond::Eq(left, right) => Cond::Eq(left.copy(alloc)?, right.copy(alloc)?),
-            Cond::Le(left, right) => Cond::Le(left.copy(alloc)?, right.copy(alloc)?),
-            Cond::Not(inner) => Cond::Not(boxed(alloc, inner)?),
-            Cond::And(left, right) => Cond::And(boxed(alloc, left)?, boxed(alloc, right)?),
-            Cond::Or(left, right) => Cond::Or(boxed(alloc, left)?, boxed(alloc, right)?),
-        })
+        match self {
+            Cond::True => Ok(Cond::True),
+            Cond::False => Ok(Cond::False),
+            Cond::Holds(variable) => Ok(Cond::Holds(variable.copy(alloc)?)),
+            Cond::Eq(left, right) => {
+                let (left, right) = copies(alloc, left, right)?;
+                Ok(Cond::Eq(left, right))
+            }
+            Cond::Le(left, right) => {
+                let (left, right) = copies(alloc, left, right)?;
+                Ok(Cond::Le(left, right))
+            }
+            Cond::Not(inner) => Ok(Cond::Not(boxed(alloc, inner)?)),
+            Cond::And(left, right) => {
+                let (left, right) = with(boxed(alloc, left)?, boxed(alloc, right))?;
+                Ok(Cond::And(left, right))
+            }
+            Cond::Or(left, right) => {
+                let (left, right) = with(boxed(alloc, left)?, boxed(alloc, right))?;
+                Ok(Cond::Or(left, right))
+            }
+        }
     }
 }
 

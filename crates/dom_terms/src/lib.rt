@@ -4,6 +4,7 @@
 //! Stands on the definitions of shapes, formulas and programs.
 #![tactic(auto)]
 
+mod both;
 mod conditions;
 mod copied;
 mod evaluation;
@@ -23,6 +24,7 @@ mod truth;
 mod values;
 mod verdicts;
 
+pub use both::{copies, with};
 pub use conditions::Cond;
 pub use copied::Copied;
 pub use evaluation::{default_of, eval, value_or_default};

@@ -59,7 +59,9 @@ impl From<OutOfMemory> for Refusal {
 fn report_line(alloc: Global, report: Report) -> Result<Text, OutOfMemory>
     ensures { IfOk result (λ text. line text ≡ line_of report) }
 {
-    status_line(alloc, &report)
+    let text = status_line(alloc, &report);
+    drop(report);
+    text
 }
 
 /// The answer of a status with the line of a report.

@@ -1,3 +1,4 @@
+pub mod Joining
 pub mod Formulas
 pub mod Entailments
 pub mod Binders

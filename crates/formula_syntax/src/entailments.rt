@@ -3,7 +3,7 @@ ghost use Rattle.std.specs.Prelude.{◌≡◌, IfOk};
 ghost use Rattle.formula_syntax.specs.Entailments.{entailment_of};
 
 use crate::formulas::Formula;
-use dom_terms::{Copied, OutOfMemory, Sort};
+use dom_terms::{Copied, OutOfMemory, Sort, copies};
 use std::alloc::Global;
 
 /// That whatever of the sort meets the left formula meets the right one.
@@ -28,10 +28,8 @@ impl Copied for Entailment {
     fn copy(&self, alloc: Global) -> Result<Entailment, OutOfMemory>
         ensures { IfOk result (λ copied. entailment_of copied ≡ entailment_of self.now) }
     {
-        Ok(Entailment {
-            left: self.left.copy(alloc)?,
-            right: self.right.copy(alloc)?,
-            sort: self.sort,
-        })
+        let (left, right) = copies(alloc, &self.left, &self.right)?;
+        let sort = self.sort;
+        Ok(Entailment { left, right, sort })
     }
 }

@@ -1,8 +1,10 @@
 // Formulas of context logic.
-ghost use Rattle.std.specs.Prelude.{◌≡◌, IfOk};
+ghost use Rattle.std.specs.Prelude.{◌≡◌, IfOk, true};
+ghost use Rattle.formula_syntax.specs.Joining.{has_one_part, has_two_parts, joining, over};
 ghost use Rattle.formula_syntax.specs.Formulas.{formula_of};
+ghost use Rattle.dom_terms.specs.Terms.{logic_var_of};
 
-use dom_terms::{Copied, DataSort, LogicVar, OutOfMemory, Term};
+use dom_terms::{Copied, DataSort, LogicVar, OutOfMemory, Term, copies, with};
 use std::alloc::Global;
 
 /// Where the hole of a concatenation is.
@@ -85,46 +87,102 @@ impl Copied for Formula {
         match self {
             Self::True => Ok(Self::True),
             Self::False => Ok(Self::False),
-            Self::And(left, right) => Ok(Self::And(boxed(alloc, left)?, boxed(alloc, right)?)),
-            Self::Or(left, right) => Ok(Self::Or(boxed(alloc, left)?, boxed(alloc, right)?)),
-            Self::Imp(left, right) => Ok(Self::Imp(boxed(alloc, left)?, boxed(alloc, right)?)),
-            Self::Not(inner) => Ok(Self::Not(boxed(alloc, inner)?)),
-            Self::Exists(var, inner) => Ok(Self::Exists(var.copy(alloc)?, boxed(alloc, inner)?)),
-            Self::Forall(var, inner) => Ok(Self::Forall(var.copy(alloc)?, boxed(alloc, inner)?)),
-            Self::Eq(left, right) => Ok(Self::Eq(left.copy(alloc)?, right.copy(alloc)?)),
-            Self::Le(left, right) => Ok(Self::Le(left.copy(alloc)?, right.copy(alloc)?)),
             Self::EmptyForest => Ok(Self::EmptyForest),
             Self::EmptyGrove => Ok(Self::EmptyGrove),
             Self::Hole(sort) => Ok(Self::Hole(*sort)),
-            Self::Node(name, number, children, list) => {
-                let name = name.copy(alloc)?;
-                let number = number.copy(alloc)?;
-                let children = boxed(alloc, children)?;
-                Ok(Self::Node(name, number, children, list.copy(alloc)?))
+            Self::And(left, right)
+            | Self::Or(left, right)
+            | Self::Imp(left, right)
+            | Self::Join(_, left, right)
+            | Self::Plus(left, right)
+            | Self::PlusHole(left, right)
+            | Self::App(_, left, right)
+            | Self::HoleAdj(left, right)
+            | Self::CtxAdj(_, left, right) => {
+                let (left, right) = with(boxed(alloc, left)?, boxed(alloc, right))?;
+                Ok(self.joining(left, right))
             }
-            Self::One(inner) => Ok(Self::One(boxed(alloc, inner)?)),
-            Self::Root(inner) => Ok(Self::Root(boxed(alloc, inner)?)),
-            Self::Join(side, left, right) => {
-                Ok(Self::Join(*side, boxed(alloc, left)?, boxed(alloc, right)?))
+            Self::Not(part) | Self::One(part) | Self::Root(part) => {
+                let part = boxed(alloc, part)?;
+                Ok(self.over(part))
             }
-            Self::Plus(left, right) => Ok(Self::Plus(boxed(alloc, left)?, boxed(alloc, right)?)),
-            Self::PlusHole(left, right) => {
-                Ok(Self::PlusHole(boxed(alloc, left)?, boxed(alloc, right)?))
+            Self::Exists(var, part) => {
+                let (var, part) = bound(alloc, var, part)?;
+                Ok(Self::Exists(var, part))
             }
-            Self::App(sort, left, right) => {
-                Ok(Self::App(*sort, boxed(alloc, left)?, boxed(alloc, right)?))
+            Self::Forall(var, part) => {
+                let (var, part) = bound(alloc, var, part)?;
+                Ok(Self::Forall(var, part))
             }
-            Self::HoleAdj(left, right) => {
-                Ok(Self::HoleAdj(boxed(alloc, left)?, boxed(alloc, right)?))
+            Self::Is(var, part) => {
+                let (var, part) = bound(alloc, var, part)?;
+                Ok(Self::Is(var, part))
             }
-            Self::CtxAdj(sort, left, right) => {
-                Ok(Self::CtxAdj(*sort, boxed(alloc, left)?, boxed(alloc, right)?))
+            Self::Eq(left, right) => {
+                let (left, right) = copies(alloc, left, right)?;
+                Ok(Self::Eq(left, right))
+            }
+            Self::Le(left, right) => {
+                let (left, right) = copies(alloc, left, right)?;
+                Ok(Self::Le(left, right))
+            }
+            Self::Node(name, number, part, list) => {
+                let (name, number) = copies(alloc, name, number)?;
+                let (list, part) = with(list.copy(alloc)?, boxed(alloc, part))?;
+                Ok(Self::Node(name, number, part, list))
             }
             Self::Var(var) => Ok(Self::Var(var.copy(alloc)?)),
             Self::Len(length) => Ok(Self::Len(length.copy(alloc)?)),
-            Self::Is(var, inner) => Ok(Self::Is(var.copy(alloc)?, boxed(alloc, inner)?)),
         }
     }
+}
+
+impl Formula {
+    // the formula with these for its two parts
+    pub(crate) fn joining(&self, left: Box<Formula>, right: Box<Formula>) -> Formula
+        requires { has_two_parts (formula_of self.now) ≡ true }
+        ensures { formula_of result ≡ joining (formula_of self.now)
+            (formula_of left.value) (formula_of right.value) }
+    {
+        match self {
+            Self::And(_, _) => Self::And(left, right),
+            Self::Or(_, _) => Self::Or(left, right),
+            Self::Imp(_, _) => Self::Imp(left, right),
+            Self::Join(side, _, _) => Self::Join(*side, left, right),
+            Self::Plus(_, _) => Self::Plus(left, right),
+            Self::PlusHole(_, _) => Self::PlusHole(left, right),
+            Self::App(sort, _, _) => Self::App(*sort, left, right),
+            Self::HoleAdj(_, _) => Self::HoleAdj(left, right),
+            Self::CtxAdj(sort, _, _) => Self::CtxAdj(*sort, left, right),
+            _ => unreachable!(),
+        }
+    }
+
+    // the formula with this for its part
+    pub(crate) fn over(&self, part: Box<Formula>) -> Formula
+        requires { has_one_part (formula_of self.now) ≡ true }
+        ensures { formula_of result ≡ over (formula_of self.now) (formula_of part.value) }
+    {
+        match self {
+            Self::Not(_) => Self::Not(part),
+            Self::One(_) => Self::One(part),
+            Self::Root(_) => Self::Root(part),
+            _ => unreachable!(),
+        }
+    }
+}
+
+// copies of a variable and of the formula that speaks of it, boxed
+#[cycle(formula_copy)]
+fn bound(
+    alloc: Global,
+    var: &LogicVar,
+    part: &Formula,
+) -> Result<(LogicVar, Box<Formula>), OutOfMemory>
+    ensures first { IfOk result (λ copied. logic_var_of copied.0 ≡ logic_var_of var.now) }
+    ensures second { IfOk result (λ copied. formula_of copied.1.value ≡ formula_of part.now) }
+{
+    with(var.copy(alloc)?, boxed(alloc, part))
 }
 
 // a copy of the formula, boxed

@@ -8,6 +8,7 @@ ghost use Rattle.dom_terms.specs.Sorts.{sort_of};
 ghost use Rattle.dom_terms.specs.Terms.{logic_var_of, term_of};
 ghost use Rattle.formula_syntax.specs.Formulas.{formula_of, pair_of};
 ghost use Rattle.formula_syntax.specs.Structural.{is_structural};
+ghost use Rattle.formula_syntax.specs.Joining.{has_one_part, has_two_parts};
 ghost use Rattle.formula_syntax.specs.Substitution.{is_value, names_no_value, pairs_fit, replacing_each, var_named};
 ghost use Rattle.model_shapes.specs.Sorts.{Sort};
 ghost use Rattle.model_formulas.specs.Formulas.{Named};
@@ -19,7 +20,7 @@ use crate::formulas::Formula;
 use crate::renaming::{Scopes, became, is_put, longest_name, longest_put, renamed};
 use crate::replaced::{Name, paired};
 use crate::variables::Pair;
-use dom_terms::{Copied, LogicVar, OutOfMemory, Term};
+use dom_terms::{Copied, LogicVar, OutOfMemory, Term, with};
 use std::alloc::Global;
 
 // what a walk down a formula carries along
@@ -74,10 +75,22 @@ fn substituted(formula: &Formula, walk: &Walk) -> Result<Formula, OutOfMemory>
     match formula {
         Formula::True => Ok(Formula::True),
         Formula::False => Ok(Formula::False),
-        Formula::And(p, q) => Ok(Formula::And(boxed(p, walk)?, boxed(q, walk)?)),
-        Formula::Or(p, q) => Ok(Formula::Or(boxed(p, walk)?, boxed(q, walk)?)),
-        Formula::Imp(p, q) => Ok(Formula::Imp(boxed(p, walk)?, boxed(q, walk)?)),
-        Formula::Not(p) => Ok(Formula::Not(boxed(p, walk)?)),
+        Formula::And(p, q)
+        | Formula::Or(p, q)
+        | Formula::Imp(p, q)
+        | Formula::Join(_, p, q)
+        | Formula::Plus(p, q)
+        | Formula::PlusHole(p, q)
+        | Formula::App(_, p, q)
+        | Formula::HoleAdj(p, q)
+        | Formula::CtxAdj(_, p, q) => {
+            let (left, right) = with(boxed(p, walk)?, boxed(q, walk))?;
+            Ok(formula.joining(left, right))
+        }
+        Formula::Not(p) | Formula::One(p) | Formula::Root(p) => {
+            let part = boxed(p, walk)?;
+            Ok(formula.over(part))
+        }
         Formula::Exists(x, p) => {
             let (x, p) = quantified(x, p, walk)?;
             Ok(Formula::Exists(x, p))
@@ -86,9 +99,18 @@ fn substituted(formula: &Formula, walk: &Walk) -> Result<Formula, OutOfMemory>
             let (x, p) = quantified(x, p, walk)?;
             Ok(Formula::Forall(x, p))
         }
-        Formula::Eq(a, b) => Ok(Formula::Eq(put_in(a, walk)?, put_in(b, walk)?)),
-        Formula::Le(a, b) => Ok(Formula::Le(put_in(a, walk)?, put_in(b, walk)?)),
-        Formula::Is(x, p) => Ok(Formula::Is(variable_put(x, walk)?, boxed(p, walk)?)),
+        Formula::Eq(a, b) => {
+            let (a, b) = with(put_in(a, walk)?, put_in(b, walk))?;
+            Ok(Formula::Eq(a, b))
+        }
+        Formula::Le(a, b) => {
+            let (a, b) = with(put_in(a, walk)?, put_in(b, walk))?;
+            Ok(Formula::Le(a, b))
+        }
+        Formula::Is(x, p) => {
+            let (x, p) = with(variable_put(x, walk)?, boxed(p, walk))?;
+            Ok(Formula::Is(x, p))
+        }
         _ => structural(formula, walk),
     }
 }
@@ -98,6 +120,8 @@ fn substituted(formula: &Formula, walk: &Walk) -> Result<Formula, OutOfMemory>
 #[tactic(auto, using(crate::proofs::PutSorts::part_rules))]
 fn structural(formula: &Formula, walk: &Walk) -> Result<Formula, OutOfMemory>
     requires structural { is_structural (formula_of formula.now) ≡ true }
+    requires parted { has_two_parts (formula_of formula.now) ≡ false }
+    requires wrapped { has_one_part (formula_of formula.now) ≡ false }
     requires fit { pairs_fit (map pair_of walk.now.pairs.now) ≡ true }
     requires names { names_no_value (formula_of formula.now) ≡ true }
     requires apart { walks.IsApart walk.now }
@@ -111,19 +135,9 @@ fn structural(formula: &Formula, walk: &Walk) -> Result<Formula, OutOfMemory>
         Formula::EmptyGrove => Ok(Formula::EmptyGrove),
         Formula::Hole(sort) => Ok(Formula::Hole(*sort)),
         Formula::Node(name, number, p, list) => {
-            let (name, number) = (put_in(name, walk)?, put_in(number, walk)?);
-            let p = boxed(p, walk)?;
-            Ok(Formula::Node(name, number, p, put_in(list, walk)?))
-        }
-        Formula::One(p) => Ok(Formula::One(boxed(p, walk)?)),
-        Formula::Root(p) => Ok(Formula::Root(boxed(p, walk)?)),
-        Formula::Join(side, p, q) => Ok(Formula::Join(*side, boxed(p, walk)?, boxed(q, walk)?)),
-        Formula::Plus(p, q) => Ok(Formula::Plus(boxed(p, walk)?, boxed(q, walk)?)),
-        Formula::PlusHole(p, q) => Ok(Formula::PlusHole(boxed(p, walk)?, boxed(q, walk)?)),
-        Formula::App(sort, p, q) => Ok(Formula::App(*sort, boxed(p, walk)?, boxed(q, walk)?)),
-        Formula::HoleAdj(p, q) => Ok(Formula::HoleAdj(boxed(p, walk)?, boxed(q, walk)?)),
-        Formula::CtxAdj(sort, p, q) => {
-            Ok(Formula::CtxAdj(*sort, boxed(p, walk)?, boxed(q, walk)?))
+            let (name, number) = with(put_in(name, walk)?, put_in(number, walk))?;
+            let (list, p) = with(put_in(list, walk)?, boxed(p, walk))?;
+            Ok(Formula::Node(name, number, p, list))
         }
         Formula::Var(x) => Ok(Formula::Var(variable_put(x, walk)?)),
         Formula::Len(length) => Ok(Formula::Len(put_in(length, walk)?)),

@@ -1,6 +1,6 @@
 // One step of a run on the heap.
 ghost use Rattle.std.specs.Prelude as plain;
-ghost use Rattle.std.specs.Prelude.{◌≡◌, ◌<◌, [], ◌∷◌, ◌++◌, length};
+ghost use Rattle.std.specs.Prelude.{◌≡◌, ◌∷◌};
 ghost use Rattle.model_commands.specs.Theories.{Procedures, procedures_of};
 ghost use Rattle.model_files.specs.FileFaults.{IsWellFormedTheory};
 ghost use Rattle.model_groves.specs.Picks.{next_pick};
@@ -16,7 +16,7 @@ ghost use Rattle.heap_runner.specs.Turns.{Came, TellsOwnLimit, limit_here, piece
 ghost use Rattle.heap_runner.specs.Steps.{on_heap, Stepped};
 
 use crate::commands::{Turn, asked};
-use dom_meaning::{Config, Pending, Pieces, StepFault, StepOut, step};
+use dom_meaning::{Config, Pending, StepFault, StepOut, drop_first, step};
 use dom_terms::Store;
 use node_heap::NodeHeap;
 use std::alloc::Global;
@@ -78,14 +78,4 @@ fn turn_of(
         Pending::Run(command) => asked(alloc, command, store, heap),
         Pending::Restore(_, _) | Pending::Return(_, _, _) => Ok(Turn::Elsewhere),
     }
-}
-
-// Takes the first piece away.
-fn drop_first(pending: &mut Pieces)
-    requires { 0 < length pending.old }
-    ensures { (piece : Pending) (others : plain.List Pending)
-        → pending.old ≡ others ++ piece ∷ [] → pending.new ≡ others }
-{
-    let place = pending.len() - 1;
-    let _piece = pending.remove(place);
 }

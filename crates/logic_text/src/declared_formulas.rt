@@ -33,6 +33,7 @@ fn whole_formula(alloc: Global, tokens: Front) -> Result<Formula, ReadFault>
     if rest.is_empty() {
         Ok(found)
     } else {
+        drop(found);
         Err(ReadFault::Text(rest.count()))
     }
 }

@@ -14,12 +14,12 @@ ghost use Rattle.logic_text.specs.FormulaReaders.{leaf_word, quantified_at, join
 use crate::connectives::{joined, joint, word_of};
 use crate::logic_names::logic_name;
 use crate::term_reading::{Place, is_word_or_symbol, leaf_term, term, term_from};
-use dom_terms::{Copied, LogicVar, Sort, Term, Text, ValueSort};
+use dom_terms::{Copied, LogicVar, Sort, Term, Text, ValueSort, with};
 use formula_syntax::Formula;
 use std::alloc::Global;
 use std::mem;
 use text_tokens::{Front, Lexeme};
-use token_readers::{ReadFault, expect, is_this, skip};
+use token_readers::{ReadFault, expect, followed_by, is_this, skip};
 
 /// A quantifier.
 #[derive(Clone, Copy)]
@@ -78,8 +78,7 @@ fn quantified(
 {
     let name = logic_name(alloc, tokens)?;
     expect(tokens, ".")?;
-    let inner = part(alloc, depth, tokens)?;
-    expect(tokens, ")")?;
+    let inner = followed_by(part(alloc, depth, tokens)?, tokens, ")")?;
     put(target, bound(quantifier, name, inner));
     Ok(())
 }
@@ -97,9 +96,9 @@ fn connected(
     ensures { Gives (λ _. (formula_of target.new, lexemes_in tokens.new)) result
         (joined_at (formula_at depth) (formula_of left.value) (lexemes_in tokens.old)) }
 {
-    let connective = joint(tokens)?;
-    let right = part(alloc, depth, tokens)?;
-    expect(tokens, ")")?;
+    let (left, connective) = with(left, joint(tokens))?;
+    let parts = with(left, part(alloc, depth, tokens))?;
+    let (left, right) = followed_by(parts, tokens, ")")?;
     put(target, joined(connective, left, right));
     Ok(())
 }
@@ -118,10 +117,11 @@ fn connected_or_is(
 {
     if let Formula::Var(variable) = &*left {
         if skip(tokens, "is") {
-            let name = variable.name.copy(alloc)?;
+            let name = variable.name.copy(alloc);
             let sort = variable.sort;
-            let inner = part(alloc, depth, tokens)?;
-            expect(tokens, ")")?;
+            drop(left);
+            let name = name?;
+            let inner = followed_by(part(alloc, depth, tokens)?, tokens, ")")?;
             put(target, Formula::Is(LogicVar { name, sort }, inner));
             return Ok(());
         }
@@ -141,8 +141,7 @@ fn negation(
         (then (formula_at depth) (λ p. expect (codes ")") (ret (negation p)))
         (lexemes_in tokens.old)) }
 {
-    let inner = part(alloc, depth, tokens)?;
-    expect(tokens, ")")?;
+    let inner = followed_by(part(alloc, depth, tokens)?, tokens, ")")?;
     put(target, Formula::Not(inner));
     Ok(())
 }
@@ -187,12 +186,11 @@ fn node(
         (node_at (term_at in_formula depth) (formula_at depth) (term_of name)
         (lexemes_in tokens.old)) }
 {
-    let number = term(alloc, Place::Formula, depth, tokens)?;
-    expect(tokens, "[")?;
-    let inner = part(alloc, depth, tokens)?;
-    expect(tokens, "]")?;
-    expect(tokens, "%")?;
-    let list = term(alloc, Place::Formula, depth, tokens)?;
+    let terms = with(name, term(alloc, Place::Formula, depth, tokens))?;
+    let terms = followed_by(terms, tokens, "[")?;
+    let parts = with(terms, part(alloc, depth, tokens))?;
+    let parts = followed_by(followed_by(parts, tokens, "]")?, tokens, "%")?;
+    let (((name, number), inner), list) = with(parts, term(alloc, Place::Formula, depth, tokens))?;
     put(target, Formula::Node(name, number, inner, list));
     Ok(())
 }
@@ -213,12 +211,12 @@ fn compared(
         (lexemes_in tokens.old)) }
 {
     if skip(tokens, "=") {
-        let right = term(alloc, Place::Formula, depth, tokens)?;
+        let (left, right) = with(left, term(alloc, Place::Formula, depth, tokens))?;
         put(target, Formula::Eq(left, right));
         return Ok(());
     }
     if skip(tokens, "<=") {
-        let right = term(alloc, Place::Formula, depth, tokens)?;
+        let (left, right) = with(left, term(alloc, Place::Formula, depth, tokens))?;
         put(target, Formula::Le(left, right));
         return Ok(());
     }
@@ -259,8 +257,7 @@ fn tree(
         (then (formula_at depth) (λ p. expect (codes ">") (ret (one_tree p)))
         (lexemes_in tokens.old)) }
 {
-    let inner = part(alloc, depth, tokens)?;
-    expect(tokens, ">")?;
+    let inner = followed_by(part(alloc, depth, tokens)?, tokens, ">")?;
     put(target, Formula::One(inner));
     Ok(())
 }
@@ -277,8 +274,7 @@ fn root(
         (then (formula_at depth) (λ p. expect (codes "]") (ret (one_root p)))
         (lexemes_in tokens.old)) }
 {
-    let inner = part(alloc, depth, tokens)?;
-    expect(tokens, "]")?;
+    let inner = followed_by(part(alloc, depth, tokens)?, tokens, "]")?;
     put(target, Formula::Root(inner));
     Ok(())
 }
@@ -407,7 +403,8 @@ fn part(alloc: Global, depth: u32, tokens: &mut Front) -> Result<Box<Formula>, R
         (formula_at depth (lexemes_in tokens.old)) }
 {
     let mut found = Box::new(alloc, Formula::True)?;
-    fill(alloc, depth, tokens, &mut found)?;
+    let filled = fill(alloc, depth, tokens, &mut found);
+    let (found, ()) = with(found, filled)?;
     Ok(found)
 }
 
@@ -417,6 +414,7 @@ pub fn formula(alloc: Global, depth: u32, tokens: &mut Front) -> Result<Formula,
         (formula_at depth (lexemes_in tokens.old)) }
 {
     let mut found = Formula::True;
-    fill(alloc, depth, tokens, &mut found)?;
+    let filled = fill(alloc, depth, tokens, &mut found);
+    let (found, ()) = with(found, filled)?;
     Ok(found)
 }

@@ -13,12 +13,12 @@ ghost use Rattle.proof_text.specs.Commands.{cond_at, semicolon, block_rest, bloc
 use crate::bracketed::{terms, variables};
 use crate::conditions::condition;
 use crate::sorts::{value_sort, variable};
-use dom_terms::{ProgVar, Term};
+use dom_terms::{ProgVar, Term, with};
 use logic_text::{Place, term};
 use std::alloc::Global;
 use text_tokens::Front;
 use theory_syntax::{Block, Command};
-use token_readers::{ReadFault, expect, name, skip};
+use token_readers::{ReadFault, expect, followed_by, name, skip};
 
 /// What is asked of the document.
 #[derive(Clone, Copy)]
@@ -54,9 +54,9 @@ fn one(
         (one_at (term_at in_command depth) (query_of query (prog_var_of x))
         (lexemes_in tokens.old)) }
 {
-    expect(tokens, "(")?;
-    let argument = term(alloc, Place::Command, depth, tokens)?;
-    expect(tokens, ")")?;
+    let x = followed_by(x, tokens, "(")?;
+    let both = with(x, term(alloc, Place::Command, depth, tokens))?;
+    let (x, argument) = followed_by(both, tokens, ")")?;
     Ok(asked(query, x, argument))
 }
 
@@ -85,11 +85,11 @@ fn two(alloc: Global, depth: u32, change: Change, tokens: &mut Front) -> Result<
     ensures { Gives (λ found. (command_of found, lexemes_in tokens.new)) result
         (two_at (term_at in_command depth) (change_of change) (lexemes_in tokens.old)) }
 {
-    expect(tokens, "(")?;
-    let first = term(alloc, Place::Command, depth, tokens)?;
-    expect(tokens, ",")?;
-    let second = term(alloc, Place::Command, depth, tokens)?;
-    expect(tokens, ")")?;
+    let change = followed_by(change, tokens, "(")?;
+    let begun = with(change, term(alloc, Place::Command, depth, tokens))?;
+    let begun = followed_by(begun, tokens, ",")?;
+    let whole = with(begun, term(alloc, Place::Command, depth, tokens))?;
+    let ((change, first), second) = followed_by(whole, tokens, ")")?;
     Ok(changed(change, first, second))
 }
 
@@ -114,7 +114,7 @@ fn setting(alloc: Global, depth: u32, x: ProgVar, tokens: &mut Front) -> Result<
     if skip(tokens, "item") {
         return two(alloc, depth, Change::Item(x), tokens);
     }
-    let value = term(alloc, Place::Command, depth, tokens)?;
+    let (x, value) = with(x, term(alloc, Place::Command, depth, tokens))?;
     Ok(Command::Assign(x, value))
 }
 
@@ -130,8 +130,7 @@ fn other_command(alloc: Global, depth: u32, tokens: &mut Front) -> Result<Comman
     if skip(tokens, "removeChild") {
         return two(alloc, depth, Change::Remove, tokens);
     }
-    let x = variable(alloc, tokens)?;
-    expect(tokens, ":=")?;
+    let x = followed_by(variable(alloc, tokens)?, tokens, ":=")?;
     setting(alloc, depth, x, tokens)
 }
 
@@ -141,10 +140,12 @@ fn called(alloc: Global, depth: u32, tokens: &mut Front) -> Result<Command, Read
     ensures { Gives (λ found. (command_of found, lexemes_in tokens.new)) result
         (call_at u32.MAX (term_at in_command depth) (lexemes_in tokens.old)) }
 {
-    let results = variables(alloc, tokens)?;
-    expect(tokens, ":=")?;
-    let procedure = name(alloc, tokens)?;
-    let arguments = terms(alloc, Place::Command, depth, tokens)?;
+    let results = followed_by(variables(alloc, tokens)?, tokens, ":=")?;
+    let named = with(results, name(alloc, tokens))?;
+    let ((results, procedure), arguments) = with(
+        named,
+        terms(alloc, Place::Command, depth, tokens),
+    )?;
     Ok(Command::Call(results, procedure, arguments))
 }
 
@@ -172,9 +173,7 @@ fn rest_of_block(alloc: Global, depth: u32, tokens: &mut Front) -> Result<Block,
     ensures { Gives (λ found. (block_of found, lexemes_in tokens.new)) result
         (block_rest u32.MAX (command_at u32.MAX depth) (lexemes_in tokens.old)) }
 {
-    let block = commands(alloc, depth, tokens)?;
-    expect(tokens, "}")?;
-    Ok(block)
+    followed_by(commands(alloc, depth, tokens)?, tokens, "}")
 }
 
 // A block.
@@ -196,10 +195,12 @@ fn choice(alloc: Global, depth: u32, tokens: &mut Front) -> Result<Command, Read
         (choice_at (cond_at depth) (block_at u32.MAX (command_at u32.MAX depth))
         (lexemes_in tokens.old)) }
 {
-    let test = condition(alloc, depth, tokens)?;
-    let first = block(alloc, depth, tokens)?;
-    expect(tokens, "else")?;
-    let second = block(alloc, depth, tokens)?;
+    let begun = with(
+        condition(alloc, depth, tokens)?,
+        block(alloc, depth, tokens),
+    )?;
+    let begun = followed_by(begun, tokens, "else")?;
+    let ((test, first), second) = with(begun, block(alloc, depth, tokens))?;
     Ok(Command::If(test, first, second))
 }
 
@@ -211,8 +212,10 @@ fn repeated(alloc: Global, depth: u32, tokens: &mut Front) -> Result<Command, Re
         (loop_at (cond_at depth) (block_at u32.MAX (command_at u32.MAX depth))
         (lexemes_in tokens.old)) }
 {
-    let test = condition(alloc, depth, tokens)?;
-    let body = block(alloc, depth, tokens)?;
+    let (test, body) = with(
+        condition(alloc, depth, tokens)?,
+        block(alloc, depth, tokens),
+    )?;
     Ok(Command::While(test, body))
 }
 

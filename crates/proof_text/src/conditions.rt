@@ -8,11 +8,12 @@ ghost use Rattle.token_readers.specs.Leaves.{lexemes_in};
 ghost use Rattle.logic_text.specs.TermReaders.{term_at};
 ghost use Rattle.proof_text.specs.Commands.{cond_joined_at, cond_bracket_at, lone_name, cond_compared_at, cond_at};
 
-use dom_terms::{Cond, Term};
+use dom_terms::{Cond, Term, with};
 use logic_text::{Place, term};
 use std::alloc::Global;
+use std::mem;
 use text_tokens::Front;
-use token_readers::{ReadFault, expect, skip};
+use token_readers::{ReadFault, followed_by, skip};
 
 // A term of a command that is a variable, as a condition.
 fn lone(left: Term, tokens: &Front) -> Result<Cond, ReadFault>
@@ -32,11 +33,11 @@ fn compared(alloc: Global, depth: u32, left: Term, tokens: &mut Front) -> Result
         (cond_compared_at (term_at in_command depth) (term_of left) (lexemes_in tokens.old)) }
 {
     if skip(tokens, "=") {
-        let right = term(alloc, Place::Command, depth, tokens)?;
+        let (left, right) = with(left, term(alloc, Place::Command, depth, tokens))?;
         return Ok(Cond::Eq(left, right));
     }
     if skip(tokens, "<=") {
-        let right = term(alloc, Place::Command, depth, tokens)?;
+        let (left, right) = with(left, term(alloc, Place::Command, depth, tokens))?;
         return Ok(Cond::Le(left, right));
     }
     lone(left, tokens)
@@ -48,8 +49,9 @@ fn boxed(alloc: Global, depth: u32, tokens: &mut Front) -> Result<Box<Cond>, Rea
     ensures { Gives (λ found. (cond_of found.value, lexemes_in tokens.new)) result
         (cond_at depth (lexemes_in tokens.old)) }
 {
-    let mut found = Box::new(alloc, Cond::True)?;
-    *found = condition(alloc, depth, tokens)?;
+    let found = Box::new(alloc, Cond::True)?;
+    let (mut found, read) = with(found, condition(alloc, depth, tokens))?;
+    drop(mem::replace(&mut *found, read));
     Ok(found)
 }
 
@@ -66,15 +68,16 @@ fn connected(
         (cond_joined_at (cond_at depth) (cond_of left.value) (lexemes_in tokens.old)) }
 {
     if skip(tokens, "and") {
-        let right = boxed(alloc, depth, tokens)?;
-        expect(tokens, ")")?;
+        let both = with(left, boxed(alloc, depth, tokens))?;
+        let (left, right) = followed_by(both, tokens, ")")?;
         return Ok(Cond::And(left, right));
     }
     if skip(tokens, "or") {
-        let right = boxed(alloc, depth, tokens)?;
-        expect(tokens, ")")?;
+        let both = with(left, boxed(alloc, depth, tokens))?;
+        let (left, right) = followed_by(both, tokens, ")")?;
         return Ok(Cond::Or(left, right));
     }
+    drop(left);
     Err(ReadFault::Text(tokens.count()))
 }
 
@@ -86,8 +89,7 @@ fn bracket(alloc: Global, depth: u32, tokens: &mut Front) -> Result<Cond, ReadFa
         (cond_bracket_at (cond_at depth) (lexemes_in tokens.old)) }
 {
     if skip(tokens, "not") {
-        let inner = boxed(alloc, depth, tokens)?;
-        expect(tokens, ")")?;
+        let inner = followed_by(boxed(alloc, depth, tokens)?, tokens, ")")?;
         return Ok(Cond::Not(inner));
     }
     let left = boxed(alloc, depth, tokens)?;

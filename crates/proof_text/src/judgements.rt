@@ -8,12 +8,13 @@ ghost use Rattle.proof_text.specs.Theories.{triple_at, entailment_at, judgement_
 use crate::commands::command;
 use crate::declarations::shape_sort;
 use crate::sorts::data_sort;
+use dom_terms::with;
 use formula_syntax::Entailment;
 use logic_text::formula;
 use std::alloc::Global;
 use text_tokens::Front;
 use theory_syntax::{Judgement, Triple};
-use token_readers::{ReadFault, expect, skip};
+use token_readers::{ReadFault, followed_by, skip};
 
 // What stands behind the word `pre`.
 #[tactic(auto, unfolding(crate::specs::Theories::triple_at))]
@@ -21,13 +22,12 @@ fn triple(alloc: Global, depth: u32, tokens: &mut Front) -> Result<Judgement, Re
     ensures { Gives (λ found. (judgement_of found, lexemes_in tokens.new)) result
         (triple_at depth u32.MAX (lexemes_in tokens.old)) }
 {
-    let pre = formula(alloc, depth, tokens)?;
-    expect(tokens, "do")?;
-    let command = command(alloc, depth, tokens)?;
-    expect(tokens, "post")?;
-    let post = formula(alloc, depth, tokens)?;
-    expect(tokens, "at")?;
-    let sort = data_sort(tokens)?;
+    let pre = followed_by(formula(alloc, depth, tokens)?, tokens, "do")?;
+    let before = with(pre, command(alloc, depth, tokens))?;
+    let before = followed_by(before, tokens, "post")?;
+    let whole = with(before, formula(alloc, depth, tokens))?;
+    let whole = followed_by(whole, tokens, "at")?;
+    let (((pre, command), post), sort) = with(whole, data_sort(tokens))?;
     let triple = Triple {
         pre,
         command,
@@ -42,11 +42,10 @@ fn entailment(alloc: Global, depth: u32, tokens: &mut Front) -> Result<Judgement
     ensures { Gives (λ found. (judgement_of found, lexemes_in tokens.new)) result
         (entailment_at depth (lexemes_in tokens.old)) }
 {
-    let left = formula(alloc, depth, tokens)?;
-    expect(tokens, "entails")?;
-    let right = formula(alloc, depth, tokens)?;
-    expect(tokens, "at")?;
-    let sort = shape_sort(tokens)?;
+    let left = followed_by(formula(alloc, depth, tokens)?, tokens, "entails")?;
+    let formulas = with(left, formula(alloc, depth, tokens))?;
+    let formulas = followed_by(formulas, tokens, "at")?;
+    let ((left, right), sort) = with(formulas, shape_sort(tokens))?;
     let entailment = Entailment { left, right, sort };
     Ok(Judgement::Entails(entailment))
 }

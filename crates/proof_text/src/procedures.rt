@@ -28,13 +28,13 @@ use crate::judging::StepJudge;
 use crate::sorts::data_sort;
 use crate::steps::{ReadSteps, steps};
 use declared_sorts::{Declared, Names, Sorted, Told, declared_in, names_of, set_formulas};
-use dom_terms::{DataSort, LogicVar, Sort, Text, Vars};
+use dom_terms::{DataSort, LogicVar, Sort, Text, Vars, with};
 use formula_syntax::Formula;
 use logic_text::formula;
 use std::alloc::Global;
 use text_tokens::Front;
 use theory_syntax::{Command, Procedure, Procedures, Steps};
-use token_readers::{ReadFault, expect, name, skip};
+use token_readers::{ReadFault, expect, followed_by, name, skip};
 
 // What stands before the requires of a procedure.
 #[derive(Drop)]
@@ -157,13 +157,13 @@ fn contents<J: StepJudge>(
     ensures instances { IfOk result (λ found. OnTrue found.are_instances
         (AllHold [] (nameless_procedure (procedure_of found.procedure)).proof)) }
 {
-    expect(tokens, "requires")?;
-    let pre = formula(alloc, depth, tokens)?;
-    expect(tokens, "ensures")?;
-    let post = formula(alloc, depth, tokens)?;
-    expect(tokens, "body")?;
-    let body = command(alloc, depth, tokens)?;
-    expect(tokens, "proof")?;
+    let header = followed_by(header, tokens, "requires")?;
+    let begun = with(header, formula(alloc, depth, tokens))?;
+    let begun = followed_by(begun, tokens, "ensures")?;
+    let begun = with(begun, formula(alloc, depth, tokens))?;
+    let begun = followed_by(begun, tokens, "body")?;
+    let begun = with(begun, command(alloc, depth, tokens))?;
+    let (((header, pre), post), body) = followed_by(begun, tokens, "proof")?;
     let mut found = unproved(alloc, header, pre, post, body);
     let listed = declared_in(alloc, &found)?;
     let variables = listed.as_slice();

@@ -24,12 +24,12 @@ use crate::bracketed::{bracketed, listed_terms};
 use crate::judgements::judgement;
 use crate::judging::StepJudge;
 use declared_sorts::{Declared, set_step};
-use dom_terms::{Numbers, Terms};
+use dom_terms::{Numbers, Terms, with};
 use logic_text::Place;
 use std::alloc::Global;
 use text_tokens::Front;
 use theory_syntax::{Reason, Step, Steps};
-use token_readers::{ReadFault, Reader, expect, number, skip, step_line, word};
+use token_readers::{ReadFault, Reader, expect, followed_by, number, skip, step_line, word};
 
 // Reads numbers of steps.
 #[derive(Clone, Copy)]
@@ -70,9 +70,11 @@ fn arguments(alloc: Global, depth: u32, tokens: &mut Front) -> Result<Terms, Rea
         return Ok(Terms::new(alloc));
     }
     expect(tokens, "(")?;
-    let found = listed_terms(alloc, Place::Formula, depth, tokens)?;
-    expect(tokens, ")")?;
-    Ok(found)
+    followed_by(
+        listed_terms(alloc, Place::Formula, depth, tokens)?,
+        tokens,
+        ")",
+    )
 }
 
 // Why the step holds.
@@ -86,9 +88,8 @@ fn reason(alloc: Global, depth: u32, tokens: &mut Front) -> Result<Reason, ReadF
         return Ok(Reason::Auto);
     }
     expect(tokens, "by")?;
-    let name = word(alloc, tokens)?;
-    let premises = premises(alloc, tokens)?;
-    let arguments = arguments(alloc, depth, tokens)?;
+    let cited = with(word(alloc, tokens)?, premises(alloc, tokens))?;
+    let ((name, premises), arguments) = with(cited, arguments(alloc, depth, tokens))?;
     let reason = Reason::Rule {
         name,
         premises,
@@ -104,10 +105,9 @@ fn step(alloc: Global, depth: u32, line: u32, tokens: &mut Front) -> Result<Step
         (step_tail depth u32.MAX line (lexemes_in tokens.old)) }
 {
     let number = number(tokens)?;
-    let reason = reason(alloc, depth, tokens)?;
-    expect(tokens, ":")?;
-    let judgement = judgement(alloc, depth, tokens)?;
-    expect(tokens, ";")?;
+    let reason = followed_by(reason(alloc, depth, tokens)?, tokens, ":")?;
+    let both = with(reason, judgement(alloc, depth, tokens))?;
+    let (reason, judgement) = followed_by(both, tokens, ";")?;
     let step = Step {
         number,
         line,

@@ -2,7 +2,7 @@
 ghost use Rattle.std.specs.Prelude.{◌≡◌, IfOk, map};
 ghost use Rattle.theory_syntax.specs.Commands.{command_of};
 
-use dom_terms::{Cond, Copied, List, OutOfMemory, ProgVar, Term, Terms, Text, Vars};
+use dom_terms::{Cond, Copied, List, OutOfMemory, ProgVar, Term, Terms, Text, Vars, copies, with};
 use std::alloc::Global;
 
 /// A list of commands.
@@ -55,33 +55,55 @@ impl Copied for Command {
         match self {
             Self::Skip => Ok(Self::Skip),
             Self::Block(block) => Ok(Self::Block(copied_block(alloc, block)?)),
-            Self::Assign(x, value) => Ok(Self::Assign(x.copy(alloc)?, value.copy(alloc)?)),
-            Self::Create(x, name) => Ok(Self::Create(x.copy(alloc)?, name.copy(alloc)?)),
-            Self::Name(x, node) => Ok(Self::Name(x.copy(alloc)?, node.copy(alloc)?)),
-            Self::Parent(x, node) => Ok(Self::Parent(x.copy(alloc)?, node.copy(alloc)?)),
-            Self::Children(x, node) => Ok(Self::Children(x.copy(alloc)?, node.copy(alloc)?)),
+            Self::Assign(x, value) => {
+                let (x, value) = copies(alloc, x, value)?;
+                Ok(Self::Assign(x, value))
+            }
+            Self::Create(x, name) => {
+                let (x, name) = copies(alloc, x, name)?;
+                Ok(Self::Create(x, name))
+            }
+            Self::Name(x, node) => {
+                let (x, node) = copies(alloc, x, node)?;
+                Ok(Self::Name(x, node))
+            }
+            Self::Parent(x, node) => {
+                let (x, node) = copies(alloc, x, node)?;
+                Ok(Self::Parent(x, node))
+            }
+            Self::Children(x, node) => {
+                let (x, node) = copies(alloc, x, node)?;
+                Ok(Self::Children(x, node))
+            }
             Self::Item(x, list, place) => {
-                Ok(Self::Item(x.copy(alloc)?, list.copy(alloc)?, place.copy(alloc)?))
+                let ((x, list), place) = with(copies(alloc, x, list)?, place.copy(alloc))?;
+                Ok(Self::Item(x, list, place))
             }
             Self::Append(parent, child) => {
-                Ok(Self::Append(parent.copy(alloc)?, child.copy(alloc)?))
+                let (parent, child) = copies(alloc, parent, child)?;
+                Ok(Self::Append(parent, child))
             }
             Self::Remove(parent, child) => {
-                Ok(Self::Remove(parent.copy(alloc)?, child.copy(alloc)?))
+                let (parent, child) = copies(alloc, parent, child)?;
+                Ok(Self::Remove(parent, child))
             }
             Self::If(cond, first, second) => {
-                let first = copied_block(alloc, first)?;
-                let second = copied_block(alloc, second)?;
-                Ok(Self::If(cond.copy(alloc)?, first, second))
+                let blocks = with(copied_block(alloc, first)?, copied_block(alloc, second))?;
+                let ((first, second), cond) = with(blocks, cond.copy(alloc))?;
+                Ok(Self::If(cond, first, second))
             }
             Self::While(cond, block) => {
-                Ok(Self::While(cond.copy(alloc)?, copied_block(alloc, block)?))
+                let (cond, block) = with(cond.copy(alloc)?, copied_block(alloc, block))?;
+                Ok(Self::While(cond, block))
             }
-            Self::Local(x, block) => Ok(Self::Local(x.copy(alloc)?, copied_block(alloc, block)?)),
+            Self::Local(x, block) => {
+                let (x, block) = with(x.copy(alloc)?, copied_block(alloc, block))?;
+                Ok(Self::Local(x, block))
+            }
             Self::Call(results, name, arguments) => {
-                let results = results.copy(alloc)?;
-                let name = name.copy(alloc)?;
-                Ok(Self::Call(results, name, arguments.copy(alloc)?))
+                let named = copies(alloc, results, name)?;
+                let ((results, name), arguments) = with(named, arguments.copy(alloc))?;
+                Ok(Self::Call(results, name, arguments))
             }
         }
     }

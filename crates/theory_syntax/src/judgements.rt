@@ -3,7 +3,7 @@ ghost use Rattle.std.specs.Prelude.{◌≡◌, IfOk};
 ghost use Rattle.theory_syntax.specs.Judgements.{triple_of, judgement_of};
 
 use crate::commands::Command;
-use dom_terms::{Copied, DataSort, OutOfMemory};
+use dom_terms::{Copied, DataSort, OutOfMemory, copies, with};
 use formula_syntax::{Entailment, Formula};
 use std::alloc::Global;
 
@@ -41,11 +41,14 @@ impl Copied for Triple {
     fn copy(&self, alloc: Global) -> Result<Triple, OutOfMemory>
         ensures { IfOk result (λ copied. triple_of copied ≡ triple_of self.now) }
     {
+        let formulas = copies(alloc, &self.pre, &self.post)?;
+        let ((pre, post), command) = with(formulas, self.command.copy(alloc))?;
+        let sort = self.sort;
         Ok(Triple {
-            pre: self.pre.copy(alloc)?,
-            command: self.command.copy(alloc)?,
-            post: self.post.copy(alloc)?,
-            sort: self.sort,
+            pre,
+            command,
+            post,
+            sort,
         })
     }
 }

@@ -3,7 +3,7 @@ ghost use Rattle.std.specs.Prelude.{◌≡◌, IfOk};
 ghost use Rattle.theory_syntax.specs.Judgements.{reason_of, step_of};
 
 use crate::judgements::Judgement;
-use dom_terms::{Copied, List, Numbers, OutOfMemory, Terms, Text};
+use dom_terms::{Copied, List, Numbers, OutOfMemory, Terms, Text, copies, with};
 use std::alloc::Global;
 
 /// A list of steps.
@@ -51,11 +51,15 @@ impl Copied for Reason {
                 name,
                 premises,
                 arguments,
-            } => Ok(Self::Rule {
-                name: name.copy(alloc)?,
-                premises: premises.copy(alloc)?,
-                arguments: arguments.copy(alloc)?,
-            }),
+            } => {
+                let cited = copies(alloc, name, premises)?;
+                let ((name, premises), arguments) = with(cited, arguments.copy(alloc))?;
+                Ok(Self::Rule {
+                    name,
+                    premises,
+                    arguments,
+                })
+            }
         }
     }
 }
@@ -71,11 +75,13 @@ impl Copied for Step {
     fn copy(&self, alloc: Global) -> Result<Step, OutOfMemory>
         ensures { IfOk result (λ copied. step_of copied ≡ step_of self.now) }
     {
+        let (reason, judgement) = copies(alloc, &self.reason, &self.judgement)?;
+        let (number, line) = (self.number, self.line);
         Ok(Step {
-            number: self.number,
-            line: self.line,
-            reason: self.reason.copy(alloc)?,
-            judgement: self.judgement.copy(alloc)?,
+            number,
+            line,
+            reason,
+            judgement,
         })
     }
 }

@@ -4,7 +4,7 @@ ghost use Rattle.theory_syntax.specs.Theories.{procedure_of, theory_of};
 
 use crate::commands::Command;
 use crate::steps::Steps;
-use dom_terms::{Copied, DataSort, List, LogicVars, OutOfMemory, Text, Vars};
+use dom_terms::{Copied, DataSort, List, LogicVars, OutOfMemory, Text, Vars, copies, with};
 use formula_syntax::Formula;
 use std::alloc::Global;
 
@@ -54,15 +54,23 @@ impl Copied for Procedure {
     fn copy(&self, alloc: Global) -> Result<Procedure, OutOfMemory>
         ensures { IfOk result (λ copied. procedure_of copied ≡ procedure_of self.now) }
     {
+        let variables = copies(alloc, &self.params, &self.results)?;
+        let header = with(variables, copies(alloc, &self.pre, &self.post))?;
+        let text = with(header, copies(alloc, &self.body, &self.proof))?;
+        let ((((params, results), (pre, post)), (body, proof)), name) = with(
+            text,
+            self.name.copy(alloc),
+        )?;
+        let sort = self.sort;
         Ok(Procedure {
-            name: self.name.copy(alloc)?,
-            params: self.params.copy(alloc)?,
-            results: self.results.copy(alloc)?,
-            sort: self.sort,
-            pre: self.pre.copy(alloc)?,
-            post: self.post.copy(alloc)?,
-            body: self.body.copy(alloc)?,
-            proof: self.proof.copy(alloc)?,
+            name,
+            params,
+            results,
+            sort,
+            pre,
+            post,
+            body,
+            proof,
         })
     }
 }
@@ -77,10 +85,12 @@ impl Copied for Theory {
     fn copy(&self, alloc: Global) -> Result<Theory, OutOfMemory>
         ensures { IfOk result (λ copied. theory_of copied ≡ theory_of self.now) }
     {
+        let (logic, procedures) = copies(alloc, &self.logic, &self.procedures)?;
+        let version = self.version;
         Ok(Theory {
-            version: self.version,
-            logic: self.logic.copy(alloc)?,
-            procedures: self.procedures.copy(alloc)?,
+            version,
+            logic,
+            procedures,
         })
     }
 }

@@ -13,4 +13,4 @@ mod terminals;
 pub use fault::{ReadFault, TextFault};
 pub use leaves::{name, number, step_line, word};
 pub use listed::{Gathers, Reader, repeated, separated};
-pub use terminals::{expect, is_this, skip};
+pub use terminals::{expect, followed_by, is_this, skip};

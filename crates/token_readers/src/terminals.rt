@@ -1,5 +1,5 @@
 // Reserved words and symbols.
-ghost use Rattle.std.specs.Prelude.{◌≡◌, ℕ, List, Some, false, MatchBool};
+ghost use Rattle.std.specs.Prelude.{◌≡◌, ℕ, List, Some, false, IfOk, MatchBool};
 ghost use Rattle.token_readers.specs.Reading.{is_terminal, after, terminal_at, Stays};
 ghost use Rattle.token_readers.specs.Giving.{Gives};
 ghost use Rattle.token_readers.specs.Leaves.{lexeme_seen, lexemes_in};
@@ -42,4 +42,17 @@ pub fn expect(tokens: &mut Front, text: &str) -> Result<(), ReadFault>
     } else {
         Err(ReadFault::Text(tokens.count()))
     }
+}
+
+/// What was read, where this reserved word or symbol stands behind it; moves behind that. Where
+/// another does, what was read is let go here, and not in the caller, where each of its shapes
+/// would be gone through in the proof.
+#[inline(always)]
+pub fn followed_by<T: Drop>(found: T, tokens: &mut Front, text: &str) -> Result<T, ReadFault>
+    ensures found { IfOk result (λ same. same ≡ found) }
+    ensures behind { Gives (λ _. lexemes_in tokens.new) result
+        (terminal_at text.now (lexemes_in tokens.old)) }
+{
+    expect(tokens, text)?;
+    Ok(found)
 }

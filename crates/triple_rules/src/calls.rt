@@ -23,7 +23,7 @@ use crate::callees::Callees;
 use crate::same::{is_nothing, is_put};
 use crate::simple::{cites_nothing, staged};
 use crate::written::Written;
-use dom_terms::{Copied, List, OutOfMemory, ProgVar, Term, Verdict, same_data_sort};
+use dom_terms::{Copied, List, OutOfMemory, ProgVar, Term, Verdict, copies, same_data_sort};
 use formula_syntax::{AnyVar, Formula, Pair};
 use std::alloc::Global;
 use theory_syntax::{Command, Procedure, Triple};
@@ -43,8 +43,8 @@ fn with_pairs(
         let [term, further @ ..] = others else {
             return Ok(pairs);
         };
-        let var = AnyVar::Prog(variable.copy(alloc)?);
-        let term = term.copy(alloc)?;
+        let (variable, term) = copies(alloc, variable, term)?;
+        let var = AnyVar::Prog(variable);
         pairs.push(Pair { var, term })?;
         others = further;
     }

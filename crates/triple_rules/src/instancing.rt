@@ -24,7 +24,7 @@ use crate::simple::last;
 use crate::written::Written;
 use cited_steps::cited;
 use dom_terms::{
-    Copied, DataSort, LogicVar, OutOfMemory, ProgVar, SideName, Sort, Term, Verdict, has_sort,
+    DataSort, LogicVar, OutOfMemory, ProgVar, SideName, Sort, Term, Verdict, copies, has_sort,
     same_data_sort, same_sort,
 };
 use formula_syntax::{AnyVar, Binders, Pair};
@@ -103,9 +103,12 @@ fn becomes(
         (data_sort_of written.now.triple.now.sort)
         (replacing (logic_var_of variable.now) (term_of term.now))) }
 {
-    let var = AnyVar::Logic(variable.copy(alloc)?);
-    let term = term.copy(alloc)?;
-    Ok(is_given(alloc, written, &[Pair { var, term }]))
+    let (variable, term) = copies(alloc, variable, term)?;
+    let var = AnyVar::Logic(variable);
+    let pairs = [Pair { var, term }];
+    let is_given = is_given(alloc, written, &pairs);
+    drop(pairs);
+    Ok(is_given)
 }
 
 /// The rule instance, with the program variables that the command changes. OutOfMemory comes only

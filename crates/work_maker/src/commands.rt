@@ -6,7 +6,7 @@ ghost use Rattle.model_generator.specs.Generated.{creation, body};
 
 use crate::formulas::tag;
 use crate::variables::x;
-use dom_terms::OutOfMemory;
+use dom_terms::{OutOfMemory, with};
 use std::alloc::Global;
 use theory_syntax::{Block, Command};
 
@@ -14,7 +14,8 @@ use theory_syntax::{Block, Command};
 pub fn creation(alloc: Global, k: u32) -> Result<Command, OutOfMemory>
     ensures { IfOk result (λ command. command_of command ≡ creation k) }
 {
-    Ok(Command::Create(x(alloc)?, tag(alloc, k)?))
+    let (x, name) = with(x(alloc)?, tag(alloc, k))?;
+    Ok(Command::Create(x, name))
 }
 
 /// `{ x := createNode("tK") }`
@@ -30,5 +31,6 @@ pub fn creation_block(alloc: Global, k: u32) -> Result<Block, OutOfMemory>
 pub fn body(alloc: Global, k: u32) -> Result<Command, OutOfMemory>
     ensures { IfOk result (λ command. command_of command ≡ body k) }
 {
-    Ok(Command::Local(x(alloc)?, creation_block(alloc, k)?))
+    let (x, block) = with(x(alloc)?, creation_block(alloc, k))?;
+    Ok(Command::Local(x, block))
 }

@@ -7,7 +7,7 @@ use crate::commands::body;
 use crate::formulas::some_root;
 use crate::names::numbered;
 use crate::steps::proof;
-use dom_terms::{DataSort, OutOfMemory, Vars};
+use dom_terms::{DataSort, OutOfMemory, Vars, with};
 use formula_syntax::Formula;
 use std::alloc::Global;
 use theory_syntax::{Procedure, Procedures};
@@ -16,15 +16,18 @@ use theory_syntax::{Procedure, Procedures};
 fn maker(alloc: Global, k: u32) -> Result<Procedure, OutOfMemory>
     ensures { IfOk result (λ procedure. procedure_of procedure ≡ maker k) }
 {
+    let specified = with(some_root(alloc, k)?, body(alloc, k))?;
+    let proved = with(specified, proof(alloc, k))?;
+    let (((post, body), proof), name) = with(proved, numbered(alloc, "p", k))?;
     Ok(Procedure {
-        name: numbered(alloc, "p", k)?,
+        name,
         params: Vars::new(alloc),
         results: Vars::new(alloc),
         sort: DataSort::Grove,
         pre: Formula::EmptyGrove,
-        post: some_root(alloc, k)?,
-        body: body(alloc, k)?,
-        proof: proof(alloc, k)?,
+        post,
+        body,
+        proof,
     })
 }
 

@@ -12,10 +12,10 @@ ghost use Rattle.model_generator.specs.Generated.{creation, body};
 ghost use Rattle.model_generator.specs.Generated.{about, hoare, step_by, proof};
 
 use crate::commands::{body, creation, creation_block};
-use crate::formulas::{beginning, new_root, nothing_yet, same_tag, some_root};
+use crate::formulas::{beginning, nothing_yet, root_of_x, same_tag, some_root};
 use crate::judgements::{about, hoare};
 use crate::variables::x_term;
-use dom_terms::{Numbers, OutOfMemory, Terms, Text};
+use dom_terms::{Numbers, OutOfMemory, Terms, Text, with};
 use formula_syntax::Formula;
 use std::alloc::Global;
 use theory_syntax::{Command, Judgement, Reason, Step, Steps};
@@ -47,9 +47,11 @@ fn step_by(
       judgement = judgement_of judgement;
     }) }
 {
+    let (given, name) = with((arguments, judgement), Text::from_str(alloc, rule))?;
+    let ((arguments, judgement), premises) = with(given, cited(alloc, citations))?;
     let reason = Reason::Rule {
-        name: Text::from_str(alloc, rule)?,
-        premises: cited(alloc, citations)?,
+        name,
+        premises,
         arguments,
     };
     Ok(Step {
@@ -67,8 +69,9 @@ fn axiom(alloc: Global, k: u32) -> Result<Step, OutOfMemory>
         (hoare (nothing_yet k) (creation k) (new_root k x_term))) }
 {
     let none = Terms::new(alloc);
-    let root = new_root(alloc, k, x_term(alloc)?)?;
-    let says = hoare(nothing_yet(alloc, k)?, creation(alloc, k)?, root);
+    let formulas = with(nothing_yet(alloc, k)?, root_of_x(alloc, k))?;
+    let ((pre, post), command) = with(formulas, creation(alloc, k))?;
+    let says = hoare(pre, command, post);
     step_by(alloc, 1, "create", &[], none, says)
 }
 
@@ -88,7 +91,8 @@ fn tag_is_itself(alloc: Global, k: u32) -> Result<Step, OutOfMemory>
         ≡ step_by 3 (codes "eq_refl") [] [] (about beginning (same_tag k))) }
 {
     let none = Terms::new(alloc);
-    let says = about(beginning(alloc)?, same_tag(alloc, k)?);
+    let (left, right) = with(beginning(alloc)?, same_tag(alloc, k))?;
+    let says = about(left, right);
     step_by(alloc, 3, "eq_refl", &[], none, says)
 }
 
@@ -98,7 +102,8 @@ fn requires_met(alloc: Global, k: u32) -> Result<Step, OutOfMemory>
         ≡ step_by 4 (codes "and_in") (2 ∷ 3 ∷ []) [] (about beginning (nothing_yet k))) }
 {
     let none = Terms::new(alloc);
-    let says = about(beginning(alloc)?, nothing_yet(alloc, k)?);
+    let (left, right) = with(beginning(alloc)?, nothing_yet(alloc, k))?;
+    let says = about(left, right);
     step_by(alloc, 4, "and_in", &[2, 3], none, says)
 }
 
@@ -110,8 +115,8 @@ fn number_hidden(alloc: Global, k: u32) -> Result<Step, OutOfMemory>
 {
     let mut arguments = Terms::new(alloc);
     arguments.push(x_term(alloc)?)?;
-    let root = new_root(alloc, k, x_term(alloc)?)?;
-    let says = about(root, some_root(alloc, k)?);
+    let (left, right) = with(root_of_x(alloc, k)?, some_root(alloc, k))?;
+    let says = about(left, right);
     step_by(alloc, 5, "exists_in", &[], arguments, says)
 }
 
@@ -122,7 +127,9 @@ fn creates(alloc: Global, k: u32) -> Result<Step, OutOfMemory>
         (hoare beginning (creation k) (some_root k))) }
 {
     let none = Terms::new(alloc);
-    let says = hoare(beginning(alloc)?, creation(alloc, k)?, some_root(alloc, k)?);
+    let formulas = with(beginning(alloc)?, some_root(alloc, k))?;
+    let ((pre, post), command) = with(formulas, creation(alloc, k))?;
+    let says = hoare(pre, command, post);
     step_by(alloc, 6, "consequence", &[4, 1, 5], none, says)
 }
 
@@ -133,8 +140,9 @@ fn block_creates(alloc: Global, k: u32) -> Result<Step, OutOfMemory>
         (hoare beginning (block (creation k then stop)) (some_root k))) }
 {
     let none = Terms::new(alloc);
-    let block = Command::Block(creation_block(alloc, k)?);
-    let says = hoare(beginning(alloc)?, block, some_root(alloc, k)?);
+    let formulas = with(beginning(alloc)?, some_root(alloc, k))?;
+    let ((pre, post), block) = with(formulas, creation_block(alloc, k))?;
+    let says = hoare(pre, Command::Block(block), post);
     step_by(alloc, 7, "seq", &[6], none, says)
 }
 
@@ -145,7 +153,8 @@ fn body_creates(alloc: Global, k: u32) -> Result<Step, OutOfMemory>
         (hoare (empty grove) (body k) (some_root k))) }
 {
     let none = Terms::new(alloc);
-    let says = hoare(Formula::EmptyGrove, body(alloc, k)?, some_root(alloc, k)?);
+    let (body, post) = with(body(alloc, k)?, some_root(alloc, k))?;
+    let says = hoare(Formula::EmptyGrove, body, post);
     step_by(alloc, 8, "local", &[7], none, says)
 }
 

@@ -11,12 +11,12 @@ use Rattle.triple_rules.proofs.instancing.becomes.Goals as goal
 
 pub returns : goal.returns
 returns c =
-    c.is_given.ensures
+    c.is_given-is_given.ensures
     ∙ ap (gives_by (steps_in c.args.written.now.earlier.now) c.args.written.now.citations.now
     (nameless (formula_of c.args.written.now.triple.now.pre))
     (command_of c.args.written.now.triple.now.command)
     (nameless (formula_of c.args.written.now.triple.now.post))
     (data_sort_of c.args.written.now.triple.now.sort))
-    (pair-puts (logic_var_of c.in_ok-copy.field-0) (logic_var_of c.args.variable.now)
-    (term_of c.in_ok-term.term) (term_of c.args.term.now) c.in_ok-copy.ensures
-    c.in_ok-term.ensures)
+    (pair-puts (logic_var_of c.in_ok-variable.variable) (logic_var_of c.args.variable.now)
+    (term_of c.in_ok-variable.term) (term_of c.args.term.now) c.in_ok-variable.ensures.first
+    c.in_ok-variable.ensures.second)
