@@ -166,16 +166,22 @@ fn both(alloc: Global, left: Formula, right: Formula) -> Result<Formula, OutOfMe
     Ok(Formula::And(left, right))
 }
 
+// `a = NAME`, with a variable of the logic
+fn equation(alloc: Global, name: &str) -> Result<Formula, OutOfMemory> {
+    let (left, right) = with(program(alloc, "a")?, logic(alloc, name))?;
+    Ok(Formula::Eq(left, Term::Logic(right)))
+}
+
+// `b = a`
+fn b_is_a(alloc: Global) -> Result<Formula, OutOfMemory> {
+    let (left, right) = with(program(alloc, "b")?, program(alloc, "a"))?;
+    Ok(Formula::Eq(left, right))
+}
+
 // the free variables of `(exists $m . (a = $m and b = a))`
 fn free_in_both(alloc: Global) -> Result<Vec<AnyVar>, OutOfMemory> {
-    let (a, m) = with(program(alloc, "a")?, logic(alloc, "$m"))?;
-    let left = Formula::Eq(a, Term::Logic(m));
-    let (left, right) = with(left, with(program(alloc, "b")?, program(alloc, "a")))?;
-    let formula = some(
-        alloc,
-        "$m",
-        both(alloc, left, Formula::Eq(right.0, right.1))?,
-    )?;
+    let (left, right) = with(equation(alloc, "$m")?, b_is_a(alloc))?;
+    let formula = some(alloc, "$m", both(alloc, left, right)?)?;
     let found = free_vars(alloc, &formula);
     drop(formula);
     found

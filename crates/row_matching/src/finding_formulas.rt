@@ -120,23 +120,13 @@ fn find_connective<'a>(
         (formula_pat (formula_in pattern.now))
         (formula_tree (formula_with (renaming opened.entry) (nameless (formula_of a.now))))) None }
 {
-    match pattern {
-        Pattern::And(p, q) => match a {
-            Formula::And(b, c) => find_both(p, b, q, c, opened, candidate, letter),
-            _ => Found::Nothing,
-        },
-        Pattern::Or(p, q) => match a {
-            Formula::Or(b, c) => find_both(p, b, q, c, opened, candidate, letter),
-            _ => Found::Nothing,
-        },
-        Pattern::Imp(p, q) => match a {
-            Formula::Imp(b, c) => find_both(p, b, q, c, opened, candidate, letter),
-            _ => Found::Nothing,
-        },
-        Pattern::Not(p) => match a {
-            Formula::Not(b) => find_formula(p, b, opened, candidate, letter),
-            _ => Found::Nothing,
-        },
+    match (pattern, a) {
+        (Pattern::And(p, q), Formula::And(b, c))
+        | (Pattern::Or(p, q), Formula::Or(b, c))
+        | (Pattern::Imp(p, q), Formula::Imp(b, c)) => {
+            find_both(p, b, q, c, opened, candidate, letter)
+        }
+        (Pattern::Not(p), Formula::Not(b)) => find_formula(p, b, opened, candidate, letter),
         _ => Found::Nothing,
     }
 }
@@ -156,31 +146,15 @@ fn find_structural<'a>(
         (formula_pat (formula_in pattern.now))
         (formula_tree (formula_with (renaming opened.entry) (nameless (formula_of a.now))))) None }
 {
-    match pattern {
-        Pattern::Plus(p, q) => match a {
-            Formula::Plus(b, c) => find_both(p, b, q, c, opened, candidate, letter),
-            _ => Found::Nothing,
-        },
-        Pattern::PlusHole(p, q) => match a {
-            Formula::PlusHole(b, c) => find_both(p, b, q, c, opened, candidate, letter),
-            _ => Found::Nothing,
-        },
-        Pattern::HoleAdj(p, q) => match a {
-            Formula::HoleAdj(b, c) => find_both(p, b, q, c, opened, candidate, letter),
-            _ => Found::Nothing,
-        },
-        Pattern::One(p) => match a {
-            Formula::One(b) => find_formula(p, b, opened, candidate, letter),
-            _ => Found::Nothing,
-        },
-        Pattern::Root(p) => match a {
-            Formula::Root(b) => find_formula(p, b, opened, candidate, letter),
-            _ => Found::Nothing,
-        },
-        Pattern::Is(p) => match a {
-            Formula::Is(_, b) => find_formula(p, b, opened, candidate, letter),
-            _ => Found::Nothing,
-        },
+    match (pattern, a) {
+        (Pattern::Plus(p, q), Formula::Plus(b, c))
+        | (Pattern::PlusHole(p, q), Formula::PlusHole(b, c))
+        | (Pattern::HoleAdj(p, q), Formula::HoleAdj(b, c)) => {
+            find_both(p, b, q, c, opened, candidate, letter)
+        }
+        (Pattern::One(p), Formula::One(b))
+        | (Pattern::Root(p), Formula::Root(b))
+        | (Pattern::Is(p), Formula::Is(_, b)) => find_formula(p, b, opened, candidate, letter),
         _ => Found::Nothing,
     }
 }
@@ -200,33 +174,18 @@ fn find_sorted<'a>(
         (formula_pat (formula_in pattern.now))
         (formula_tree (formula_with (renaming opened.entry) (nameless (formula_of a.now))))) None }
 {
-    match pattern {
-        Pattern::Hole(p) => match a {
-            Formula::Hole(b) => find_data(*p, *b, candidate, letter),
-            _ => Found::Nothing,
+    match (pattern, a) {
+        (Pattern::Hole(p), Formula::Hole(b)) => find_data(*p, *b, candidate, letter),
+        (Pattern::Join(side, p, q), Formula::Join(other, b, c)) => if same_side(*side, *other) {
+            find_both(p, b, q, c, opened, candidate, letter)
+        } else {
+            Found::Nothing
         },
-        Pattern::Join(side, p, q) => match a {
-            Formula::Join(other, b, c) => if same_side(*side, *other) {
-                find_both(p, b, q, c, opened, candidate, letter)
-            } else {
-                Found::Nothing
-            },
-            _ => Found::Nothing,
-        },
-        Pattern::App(h, p, q) => match a {
-            Formula::App(k, b, c) => {
-                let parts = find_both(p, b, q, c, opened, candidate, letter);
-                find_data(*h, *k, candidate, letter).or(parts)
-            },
-            _ => Found::Nothing,
-        },
-        Pattern::CtxAdj(h, p, q) => match a {
-            Formula::CtxAdj(k, b, c) => {
-                let parts = find_both(p, b, q, c, opened, candidate, letter);
-                find_data(*h, *k, candidate, letter).or(parts)
-            },
-            _ => Found::Nothing,
-        },
+        (Pattern::App(h, p, q), Formula::App(k, b, c))
+        | (Pattern::CtxAdj(h, p, q), Formula::CtxAdj(k, b, c)) => {
+            let parts = find_both(p, b, q, c, opened, candidate, letter);
+            find_data(*h, *k, candidate, letter).or(parts)
+        }
         _ => Found::Nothing,
     }
 }
@@ -246,35 +205,19 @@ fn find_of_terms<'a>(
         (formula_pat (formula_in pattern.now))
         (formula_tree (formula_with (renaming opened.entry) (nameless (formula_of a.now))))) None }
 {
-    match pattern {
-        Pattern::Eq(p, q) => match a {
-            Formula::Eq(b, c) => {
-                let left = find_term(p, b, opened, candidate, letter);
-                left.or(find_term(q, c, opened, candidate, letter))
-            },
-            _ => Found::Nothing,
-        },
-        Pattern::Le(p, q) => match a {
-            Formula::Le(b, c) => {
-                let left = find_term(p, b, opened, candidate, letter);
-                left.or(find_term(q, c, opened, candidate, letter))
-            },
-            _ => Found::Nothing,
-        },
-        Pattern::Len(p) => match a {
-            Formula::Len(b) => find_term(p, b, opened, candidate, letter),
-            _ => Found::Nothing,
-        },
-        Pattern::Node(p, q, r, s) => match a {
-            Formula::Node(b, c, d, e) => {
-                let name = find_term(p, b, opened, candidate, letter);
-                let number = find_term(q, c, opened, candidate, letter);
-                let children = find_formula(r, d, opened, candidate, letter);
-                let list = find_term(s, e, opened, candidate, letter);
-                name.or(number).or(children.or(list))
-            },
-            _ => Found::Nothing,
-        },
+    match (pattern, a) {
+        (Pattern::Eq(p, q), Formula::Eq(b, c)) | (Pattern::Le(p, q), Formula::Le(b, c)) => {
+            let left = find_term(p, b, opened, candidate, letter);
+            left.or(find_term(q, c, opened, candidate, letter))
+        }
+        (Pattern::Len(p), Formula::Len(b)) => find_term(p, b, opened, candidate, letter),
+        (Pattern::Node(p, q, r, s), Formula::Node(b, c, d, e)) => {
+            let name = find_term(p, b, opened, candidate, letter);
+            let number = find_term(q, c, opened, candidate, letter);
+            let children = find_formula(r, d, opened, candidate, letter);
+            let list = find_term(s, e, opened, candidate, letter);
+            name.or(number).or(children.or(list))
+        }
         _ => Found::Nothing,
     }
 }

@@ -329,23 +329,15 @@ fn fits_connective<'r, 'a>(
     ensures passed { IsTrue result → ArePassed seen.old seen.new
         (place_in candidate.entry opened.entry pattern.now a.now) }
 {
-    match pattern {
-        Pattern::And(p, q) => match a {
-            Formula::And(b, c) => fits_both(p, b, q, c, opened, candidate, &*source, &mut *seen),
-            _ => false,
-        },
-        Pattern::Or(p, q) => match a {
-            Formula::Or(b, c) => fits_both(p, b, q, c, opened, candidate, &*source, &mut *seen),
-            _ => false,
-        },
-        Pattern::Imp(p, q) => match a {
-            Formula::Imp(b, c) => fits_both(p, b, q, c, opened, candidate, &*source, &mut *seen),
-            _ => false,
-        },
-        Pattern::Not(p) => match a {
-            Formula::Not(b) => fits_formula(p, b, opened, candidate, &*source, &mut *seen),
-            _ => false,
-        },
+    match (pattern, a) {
+        (Pattern::And(p, q), Formula::And(b, c))
+        | (Pattern::Or(p, q), Formula::Or(b, c))
+        | (Pattern::Imp(p, q), Formula::Imp(b, c)) => {
+            fits_both(p, b, q, c, opened, candidate, &*source, &mut *seen)
+        }
+        (Pattern::Not(p), Formula::Not(b)) => {
+            fits_formula(p, b, opened, candidate, &*source, &mut *seen)
+        }
         _ => false,
     }
 }
@@ -371,39 +363,20 @@ fn fits_structural<'r, 'a>(
     ensures passed { IsTrue result → ArePassed seen.old seen.new
         (place_in candidate.entry opened.entry pattern.now a.now) }
 {
-    match pattern {
-        Pattern::Plus(p, q) => match a {
-            Formula::Plus(b, c) => fits_both(p, b, q, c, opened, candidate, &*source, &mut *seen),
-            _ => false,
-        },
-        Pattern::PlusHole(p, q) => match a {
-            Formula::PlusHole(b, c) => fits_both(
-                p, b, q, c, opened, candidate, &*source, &mut *seen,
-            ),
-            _ => false,
-        },
-        Pattern::HoleAdj(p, q) => match a {
-            Formula::HoleAdj(b, c) => fits_both(
-                p, b, q, c, opened, candidate, &*source, &mut *seen,
-            ),
-            _ => false,
-        },
-        Pattern::One(p) => match a {
-            Formula::One(b) => fits_formula(p, b, opened, candidate, &*source, &mut *seen),
-            _ => false,
-        },
-        Pattern::Root(p) => match a {
-            Formula::Root(b) => fits_formula(p, b, opened, candidate, &*source, &mut *seen),
-            _ => false,
-        },
-        Pattern::Is(p) => match a {
-            Formula::Is(y, b) => {
-                has_sort_of_x(y, candidate, &*source)
-                    && is_x(y, opened, candidate, &*source)
-                    && fits_formula(p, b, opened, candidate, &*source, &mut *seen)
-            },
-            _ => false,
-        },
+    match (pattern, a) {
+        (Pattern::Plus(p, q), Formula::Plus(b, c))
+        | (Pattern::PlusHole(p, q), Formula::PlusHole(b, c))
+        | (Pattern::HoleAdj(p, q), Formula::HoleAdj(b, c)) => {
+            fits_both(p, b, q, c, opened, candidate, &*source, &mut *seen)
+        }
+        (Pattern::One(p), Formula::One(b)) | (Pattern::Root(p), Formula::Root(b)) => {
+            fits_formula(p, b, opened, candidate, &*source, &mut *seen)
+        }
+        (Pattern::Is(p), Formula::Is(y, b)) => {
+            has_sort_of_x(y, candidate, &*source)
+                && is_x(y, opened, candidate, &*source)
+                && fits_formula(p, b, opened, candidate, &*source, &mut *seen)
+        }
         _ => false,
     }
 }
@@ -429,32 +402,17 @@ fn fits_sorted<'r, 'a>(
     ensures passed { IsTrue result → ArePassed seen.old seen.new
         (place_in candidate.entry opened.entry pattern.now a.now) }
 {
-    match pattern {
-        Pattern::Hole(p) => match a {
-            Formula::Hole(b) => fits_data(*p, *b, candidate, &*source),
-            _ => false,
-        },
-        Pattern::Join(side, p, q) => match a {
-            Formula::Join(other, b, c) => {
-                same_side(*side, *other)
-                    && fits_both(p, b, q, c, opened, candidate, &*source, &mut *seen)
-            },
-            _ => false,
-        },
-        Pattern::App(h, p, q) => match a {
-            Formula::App(k, b, c) => {
-                fits_data(*h, *k, candidate, &*source)
-                    && fits_both(p, b, q, c, opened, candidate, &*source, &mut *seen)
-            },
-            _ => false,
-        },
-        Pattern::CtxAdj(h, p, q) => match a {
-            Formula::CtxAdj(k, b, c) => {
-                fits_data(*h, *k, candidate, &*source)
-                    && fits_both(p, b, q, c, opened, candidate, &*source, &mut *seen)
-            },
-            _ => false,
-        },
+    match (pattern, a) {
+        (Pattern::Hole(p), Formula::Hole(b)) => fits_data(*p, *b, candidate, &*source),
+        (Pattern::Join(side, p, q), Formula::Join(other, b, c)) => {
+            same_side(*side, *other)
+                && fits_both(p, b, q, c, opened, candidate, &*source, &mut *seen)
+        }
+        (Pattern::App(h, p, q), Formula::App(k, b, c))
+        | (Pattern::CtxAdj(h, p, q), Formula::CtxAdj(k, b, c)) => {
+            fits_data(*h, *k, candidate, &*source)
+                && fits_both(p, b, q, c, opened, candidate, &*source, &mut *seen)
+        }
         _ => false,
     }
 }
@@ -480,34 +438,18 @@ fn fits_of_terms<'r, 'a>(
     ensures passed { IsTrue result → ArePassed seen.old seen.new
         (place_in candidate.entry opened.entry pattern.now a.now) }
 {
-    match pattern {
-        Pattern::Eq(p, q) => match a {
-            Formula::Eq(b, c) => {
-                fits_term(p, b, opened, candidate, &*source)
-                    && fits_term(q, c, opened, candidate, &*source)
-            },
-            _ => false,
-        },
-        Pattern::Le(p, q) => match a {
-            Formula::Le(b, c) => {
-                fits_term(p, b, opened, candidate, &*source)
-                    && fits_term(q, c, opened, candidate, &*source)
-            },
-            _ => false,
-        },
-        Pattern::Len(p) => match a {
-            Formula::Len(b) => fits_term(p, b, opened, candidate, &*source),
-            _ => false,
-        },
-        Pattern::Node(p, q, r, s) => match a {
-            Formula::Node(b, c, d, e) => {
-                fits_term(p, b, opened, candidate, &*source)
-                    && fits_term(q, c, opened, candidate, &*source)
-                    && fits_formula(r, d, opened, candidate, &*source, &mut *seen)
-                    && fits_term(s, e, opened, candidate, &*source)
-            },
-            _ => false,
-        },
+    match (pattern, a) {
+        (Pattern::Eq(p, q), Formula::Eq(b, c)) | (Pattern::Le(p, q), Formula::Le(b, c)) => {
+            fits_term(p, b, opened, candidate, &*source)
+                && fits_term(q, c, opened, candidate, &*source)
+        }
+        (Pattern::Len(p), Formula::Len(b)) => fits_term(p, b, opened, candidate, &*source),
+        (Pattern::Node(p, q, r, s), Formula::Node(b, c, d, e)) => {
+            fits_term(p, b, opened, candidate, &*source)
+                && fits_term(q, c, opened, candidate, &*source)
+                && fits_formula(r, d, opened, candidate, &*source, &mut *seen)
+                && fits_term(s, e, opened, candidate, &*source)
+        }
         _ => false,
     }
 }

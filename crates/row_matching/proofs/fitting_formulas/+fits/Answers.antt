@@ -21,7 +21,7 @@ use Rattle.row_matching.proofs.Bound.{bound-all, with-true, x-tried}
 use Rattle.row_matching.proofs.NoFormulas.{data-none, term-none, none-behind}
 use Rattle.row_matching.proofs.Passing.{same-first, same-passed, left-first, right-first, both-passed, none-passed, bound-place, below-place}
 use Rattle.row_matching.proofs.fitting_formulas.+fits.Goals as goal
-use Rattle.row_matching.proofs.fitting_formulas.+fits.Goals.{fits_of_terms-then-fits_term-4, fits_of_terms-else-fits_term-4}
+use Rattle.row_matching.proofs.fitting_formulas.+fits.Goals.{fits_of_terms-then-fits_term-2, fits_of_terms-else-fits_term-2}
 
 -- the formula is the pattern's
 abbrev fits : Letters → Option Opened → Pattern → Formula → Bool
@@ -81,16 +81,6 @@ fits_connective-fits_both-requires t c =
     both-parts (search rules) (search rules) (search rules) (search rules)
     (same-first c.requires.unseen (λ l. search rules))
 
-pub fits_connective-fits_both-requires-in-Or-a : goal.fits_connective-fits_both-requires-in-Or-a
-fits_connective-fits_both-requires-in-Or-a t c =
-    both-parts (search rules) (search rules) (search rules) (search rules)
-    (same-first c.requires.unseen (λ l. search rules))
-
-pub fits_connective-fits_both-requires-in-Imp-a : goal.fits_connective-fits_both-requires-in-Imp-a
-fits_connective-fits_both-requires-in-Imp-a t c =
-    both-parts (search rules) (search rules) (search rules) (search rules)
-    (same-first c.requires.unseen (λ l. search rules))
-
 pub fits_connective-fits_formula-requires : goal.fits_connective-fits_formula-requires
 fits_connective-fits_formula-requires t c =
     one-part (search rules) (search rules) (search rules)
@@ -101,32 +91,14 @@ fits_structural-fits_both-requires t c =
     both-parts (search rules) (search rules) (search rules) (search rules)
     (same-first c.requires.unseen (λ l. search rules))
 
-pub fits_structural-fits_both-requires-in-PlusHole-a
-    : goal.fits_structural-fits_both-requires-in-PlusHole-a
-fits_structural-fits_both-requires-in-PlusHole-a t c =
-    both-parts (search rules) (search rules) (search rules) (search rules)
-    (same-first c.requires.unseen (λ l. search rules))
-
-pub fits_structural-fits_both-requires-in-HoleAdj-a
-    : goal.fits_structural-fits_both-requires-in-HoleAdj-a
-fits_structural-fits_both-requires-in-HoleAdj-a t c =
-    both-parts (search rules) (search rules) (search rules) (search rules)
-    (same-first c.requires.unseen (λ l. search rules))
-
 pub fits_structural-fits_formula-requires : goal.fits_structural-fits_formula-requires
 fits_structural-fits_formula-requires t c =
     one-part (search rules) (search rules) (search rules)
     (same-first c.requires.unseen (λ l. search rules))
 
-pub fits_structural-fits_formula-requires-in-Root-a
-    : goal.fits_structural-fits_formula-requires-in-Root-a
-fits_structural-fits_formula-requires-in-Root-a t c =
-    one-part (search rules) (search rules) (search rules)
-    (same-first c.requires.unseen (λ l. search rules))
-
-pub fits_structural-fits_formula-requires-then-is_x
-    : goal.fits_structural-fits_formula-requires-then-is_x
-fits_structural-fits_formula-requires-then-is_x t c =
+pub fits_structural-fits_formula-requires-in-One-One
+    : goal.fits_structural-fits_formula-requires-in-One-One
+fits_structural-fits_formula-requires-in-One-One t c =
     one-part (search rules) (search rules) (search rules)
     (same-first c.requires.unseen (λ l. search rules))
 
@@ -138,12 +110,6 @@ fits_sorted-fits_both-requires t c =
 pub fits_sorted-fits_both-requires-then-fits_data
     : goal.fits_sorted-fits_both-requires-then-fits_data
 fits_sorted-fits_both-requires-then-fits_data t c =
-    both-parts (search rules) (search rules) (search rules) (search rules)
-    (same-first c.requires.unseen (λ l. search (rules, data-none)))
-
-pub fits_sorted-fits_both-requires-then-fits_data-2
-    : goal.fits_sorted-fits_both-requires-then-fits_data-2
-fits_sorted-fits_both-requires-then-fits_data-2 t c =
     both-parts (search rules) (search rules) (search rules) (search rules)
     (same-first c.requires.unseen (λ l. search (rules, data-none)))
 
@@ -204,27 +170,22 @@ fits_below-returns-then-binds_x-clause-passed t c h = same-passed (c.fits_formul
     c.args.b.now c.opened_at.ensures)
 
 -- TERMS
-pub fits_of_terms-returns-then-fits_term-clause-passed
-    : goal.fits_of_terms-returns-then-fits_term-clause-passed
-fits_of_terms-returns-then-fits_term-clause-passed t c h =
+pub fits_of_terms-returns-then-fits_term-3-clause-passed
+    : goal.fits_of_terms-returns-then-fits_term-3-clause-passed
+fits_of_terms-returns-then-fits_term-3-clause-passed t c h =
     none-passed _ (λ l. search (rules, term-none))
 
-pub fits_of_terms-returns-then-fits_term-2-clause-passed
-    : goal.fits_of_terms-returns-then-fits_term-2-clause-passed
-fits_of_terms-returns-then-fits_term-2-clause-passed t c h =
-    none-passed _ (λ l. search (rules, term-none))
-
-pub fits_of_terms-returns-in-Len-a-clause-passed
-    : goal.fits_of_terms-returns-in-Len-a-clause-passed
-fits_of_terms-returns-in-Len-a-clause-passed t c h =
+pub fits_of_terms-returns-in-Len-Len-clause-passed
+    : goal.fits_of_terms-returns-in-Len-Len-clause-passed
+fits_of_terms-returns-in-Len-Len-clause-passed t c h =
     none-passed _ (λ l. search (rules, term-none))
 
 pub fits_of_terms-returns-then-fits_formula-clause-passed
     : goal.fits_of_terms-returns-then-fits_formula-clause-passed
 fits_of_terms-returns-then-fits_formula-clause-passed t c h =
-    elim c.if-fits_term-4.branch [
-      | fits_of_terms-then-fits_term-4 w ↦ rw w.seen-is (same-passed
+    elim c.if-fits_term-2.branch [
+      | fits_of_terms-then-fits_term-2 w ↦ rw w.seen-is (same-passed
           (w.fits_formula.ensures.passed (sym w.value-is ∙ c.if-fits_formula.true))
           (λ l. search (rules, term-none, none-behind)))
-      | fits_of_terms-else-fits_term-4 w ↦ cc
+      | fits_of_terms-else-fits_term-2 w ↦ cc
     ]
