@@ -32,9 +32,9 @@ pub returns-in_err-check_header : goal.returns-in_err-check_header
 returns-in_err-check_header c = λ earlier new.
     let theory = theory_in c.args.scope.now.names.now in
     let f = procedure_in c.args.scope.now in
-    let p = err_from_is_err_and c.from_residual-in_err-check_header.result
-    c.from_residual-in_err-check_header.ensures.1 in
-    refused c.from_residual-in_err-check_header.result p.0 c.in_err-check_header.field-0.0
+    let p = err_from_is_err_and c.from_residual.result
+    c.from_residual.ensures.1 in
+    refused c.from_residual.result p.0 c.in_err-check_header.field-0.0
     (first_fault_at (places_of theory earlier c.args.number f)) p.1 p.2
     (head-bad theory earlier c.args.number f c.in_err-check_header.field-0.0
     (c.in_err-check_header.ensures earlier new))

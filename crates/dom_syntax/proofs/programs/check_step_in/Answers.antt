@@ -9,8 +9,8 @@ use Rattle.dom_syntax.proofs.programs.check_step_in.Goals as goal
 
 pub returns : goal.returns
 returns c =
-    subst (λ (o : Option FileFault). Reports c.check_step_at.result o)
+    subst (λ (o : Option FileFault). Reports c.check_step_at-checked.result o)
     (λ j. step_fault c.args.number c.args.place
     (step_kind (theory_in (c.in_ok-scope.ensures.1 j)) (procedure_of (c.in_ok-scope.ensures.2 j))
     c.args.place (step_of c.args.step.now)))
-    c.check_step_at.ensures
+    c.check_step_at-checked.ensures
