@@ -10,19 +10,22 @@ use dom_terms::{DataSort, Sort};
 use formula_syntax::{Entailment, Formula};
 use theory_syntax::{Command, Judgement, Triple};
 
-/// An entailment about groves.
-pub fn about(left: Formula, right: Formula) -> Judgement
-    ensures { judgement_of result ≡ entails (formula_of left) (formula_of right) (shape grove) }
+/// An entailment about groves, of its two sides.
+pub fn about(sides: (Formula, Formula)) -> Judgement
+    ensures { judgement_of result
+        ≡ entails (formula_of sides.0) (formula_of sides.1) (shape grove) }
 {
+    let (left, right) = sides;
     let sort = Sort::Shape(DataSort::Grove);
     Judgement::Entails(Entailment { left, right, sort })
 }
 
-/// A triple about groves.
-pub fn hoare(pre: Formula, command: Command, post: Formula) -> Judgement
+/// A triple about groves: what it requires and ensures, and its command.
+pub fn hoare(ends: (Formula, Formula), command: Command) -> Judgement
     ensures { judgement_of result
-        ≡ triple (formula_of pre) (command_of command) (formula_of post) grove }
+        ≡ triple (formula_of ends.0) (command_of command) (formula_of ends.1) grove }
 {
+    let (pre, post) = ends;
     let sort = DataSort::Grove;
     Judgement::Triple(Triple {
         pre,
