@@ -1,6 +1,7 @@
 // Tests of a command by itself: a procedure that it calls is there, its parts fit, it sets no
 // parameter, and the results of a call are apart.
-ghost use Rattle.std.specs.Prelude.{◌≡◌, ◌&&◌, true, false, not, map, IfOk, MatchOption};
+ghost use Rattle.std.specs.Prelude.{◌≡◌, ◌&&◌, true, not, map, [], IfOk};
+ghost use Rattle.std.specs.Bool.{OnTrue};
 ghost use Rattle.std.specs.List.{flat_map, list_all};
 ghost use Rattle.std.specs.Option.{option_map};
 ghost use Rattle.model_shapes.specs.Tests as sorts;
@@ -184,28 +185,38 @@ fn are_all_outside(set: &VariableSet, all: &[ProgVar], terms: &[Term]) -> bool
     all_in_terms(&Outside { set, all }, terms)
 }
 
-// The set of the variables, or none where one repeats.
-fn distinct_set<'a>(
-    alloc: Global,
-    variables: &'a [ProgVar],
-) -> Result<Option<VariableSet<'a>>, OutOfMemory>
-    ensures { IfOk result (λ answer. MatchOption answer
-        (distinct_by same_name (map prog_var_of variables.now) ≡ false)
-        (λ set. Holds set (map prog_var_of variables.now)
-        × (distinct_by same_name (map prog_var_of variables.now) ≡ true))) }
+// Puts the variables into the empty set; tells whether none repeats.
+fn put_each<'a>(set: &mut VariableSet<'a>, variables: &'a [ProgVar]) -> Result<bool, OutOfMemory>
+    requires { Holds set.now [] }
+    ensures { IfOk result (λ b. (b ≡ distinct_by same_name (map prog_var_of variables.now))
+        × OnTrue b (Holds set.new (map prog_var_of variables.now))) }
 {
-    let mut set = VariableSet::new(alloc);
     for variable in variables {
         if set.has(variable) {
-            return Ok(None);
+            return Ok(false);
         }
         set.insert(variable)?;
     }
-    Ok(Some(set))
+    Ok(true)
+}
+
+// Whether no result repeats, and none of them stands in the arguments; puts them into the set.
+#[tactic(auto, using(crate::proofs::PartTestLaws::apart_rules))]
+fn are_apart<'a>(
+    set: &mut VariableSet<'a>,
+    results: &'a [ProgVar],
+    arguments: &[Term],
+) -> Result<bool, OutOfMemory>
+    requires { Holds set.now [] }
+    ensures { IfOk result (λ b. b ≡ (distinct_by same_name (map prog_var_of results.now)
+        && list_all (λ x. not (stands_in
+        (flat_map variables_of_term (map term_of arguments.now)) x))
+        (map prog_var_of results.now))) }
+{
+    Ok(put_each(set, results)? && are_all_outside(set, results, arguments))
 }
 
 // Whether no result repeats, and none of them stands in the arguments.
-#[tactic(auto, using(crate::proofs::PartTestLaws::apart_rules))]
 fn are_results_apart(
     alloc: Global,
     results: &[ProgVar],
@@ -216,10 +227,10 @@ fn are_results_apart(
         (flat_map variables_of_term (map term_of arguments.now)) x))
         (map prog_var_of results.now))) }
 {
-    match distinct_set(alloc, results)? {
-        Some(set) => Ok(are_all_outside(&set, results, arguments)),
-        None => Ok(false),
-    }
+    let mut set = VariableSet::new(alloc);
+    let answer = are_apart(&mut set, results, arguments);
+    drop(set);
+    answer
 }
 
 /// Whether the results of a call don't repeat, and none of them stands in its arguments.

@@ -4,7 +4,7 @@ use Rattle.model_commands.specs.SortTests.{distinct_by}
 use Rattle.dom_terms.specs.Terms.{prog_var_of}
 use Rattle.dom_syntax.specs.Fresh.{fresh}
 use Rattle.dom_syntax.specs.VariableSets.{Holds}
-use Rattle.dom_syntax.proofs.part_tests.distinct_set.Given as goal
+use Rattle.dom_syntax.proofs.part_tests.put_each.Given as goal
 
 abbrev pub invariant-loop-variable : goal.invariant-loop-variable
 invariant-loop-variable l =

@@ -4,14 +4,13 @@ use Rattle.model_commands.specs.CommandParts.{variables_of_term}
 use Rattle.model_commands.specs.SortTests.{stands_in}
 use Rattle.dom_terms.specs.Terms.{prog_var_of, term_of}
 use Rattle.dom_syntax.proofs.PartTestLaws.{results-outside}
-use Rattle.dom_syntax.proofs.part_tests.are_results_apart.Goals as goal
+use Rattle.dom_syntax.proofs.part_tests.are_apart.Goals as goal
 
-pub returns-in-Some : goal.returns-in-Some
-returns-in-Some c =
-    let m = rw c.in-Some.is at c.in_ok-set.ensures in
+pub returns-then-branch : goal.returns-then-branch
+returns-then-branch c =
     c.are_all_outside.ensures
     ∙ results-outside (map prog_var_of c.args.results.now)
     (flat_map variables_of_term (map term_of c.args.arguments.now))
-    ∙ (λ j. sym m.1 j && list_all (λ x. not (stands_in
+    ∙ (λ j. (sym c.if-branch.true ∙ c.in_ok-put_each.ensures.0) j && list_all (λ x. not (stands_in
     (flat_map variables_of_term (map term_of c.args.arguments.now)) x))
     (map prog_var_of c.args.results.now))
