@@ -6,7 +6,7 @@ ghost use Rattle.model_commands.specs.CommandParts.{commands_of, own_variables};
 ghost use Rattle.model_commands.specs.CommandParts.{variables_of_command, variables_of_term};
 ghost use Rattle.model_grammar.specs.Sorts.{sorted_name, sorted_term, sorted_command, sorted_block};
 ghost use Rattle.dom_terms.specs.Terms.{prog_var_of, term_of};
-ghost use Rattle.theory_syntax.specs.Commands.{block_with, command_of};
+ghost use Rattle.theory_syntax.specs.Commands.{block_of, command_of};
 ghost use Rattle.declared_sorts.specs.Declarations.{declared_of, scope_in};
 ghost use Rattle.declared_sorts.specs.Known.{Knows};
 ghost use Rattle.declared_sorts.specs.Settled.{is_settled};
@@ -14,8 +14,8 @@ ghost use Rattle.declared_sorts.specs.Settled.{is_settled};
 use crate::declared::Declared;
 use crate::sorted::{Sorted, set_all};
 use crate::terms::set_terms;
-use dom_terms::{ProgVar, Term};
-use theory_syntax::Command;
+use dom_terms::{ProgVar, Term, Terms, Vars};
+use theory_syntax::{Block, Command};
 
 impl Sorted for Command {
     ghost use Rattle.model_commands.specs.Commands as model;
@@ -48,25 +48,23 @@ impl Sorted for Command {
             Command::Item(x, list, place) => set_item(x, list, place, declared),
             Command::Append(parent, child) => set_terms(parent, child, declared),
             Command::Remove(parent, child) => set_terms(parent, child, declared),
-            Command::Block(block) => set_commands(block.as_mut_slice(), declared),
+            Command::Block(block) => set_block(block, declared),
             Command::Local(x, block) => {
-                let is_block_settled = set_commands(block.as_mut_slice(), declared);
-                declared.declares(x) && is_block_settled
+                let is_block_settled = set_block(block, declared);
+                declared.declares(x) & is_block_settled
             }
             Command::If(cond, first, second) => {
                 let is_cond_settled = cond.set_sorts(declared);
-                let is_first_settled = set_commands(first.as_mut_slice(), declared);
-                let is_second_settled = set_commands(second.as_mut_slice(), declared);
-                is_cond_settled && is_first_settled && is_second_settled
+                let is_first_settled = set_block(first, declared);
+                let is_second_settled = set_block(second, declared);
+                is_cond_settled & is_first_settled & is_second_settled
             }
             Command::While(cond, block) => {
                 let is_cond_settled = cond.set_sorts(declared);
-                let is_block_settled = set_commands(block.as_mut_slice(), declared);
-                is_cond_settled && is_block_settled
+                let is_block_settled = set_block(block, declared);
+                is_cond_settled & is_block_settled
             }
-            Command::Call(results, _, arguments) => {
-                set_call(results.as_mut_slice(), arguments.as_mut_slice(), declared)
-            }
+            Command::Call(results, _, arguments) => set_call(results, arguments, declared),
         }
     }
 }
@@ -82,7 +80,7 @@ fn set_target(x: &mut ProgVar, term: &mut Term, declared: &Declared) -> bool
 {
     let is_x_settled = x.set_sorts(declared);
     let is_term_settled = term.set_sorts(declared);
-    is_x_settled && is_term_settled
+    is_x_settled & is_term_settled
 }
 
 // The same of a variable that is set and two terms.
@@ -98,12 +96,12 @@ fn set_item(x: &mut ProgVar, list: &mut Term, place: &mut Term, declared: &Decla
 {
     let is_x_settled = x.set_sorts(declared);
     let are_terms_settled = set_terms(list, place, declared);
-    is_x_settled && are_terms_settled
+    is_x_settled & are_terms_settled
 }
 
 // The same of the results and the arguments of a call.
 #[tactic(auto, using(crate::proofs::CommandLaws::command_rules))]
-fn set_call(results: &mut [ProgVar], arguments: &mut [Term], declared: &Declared) -> bool
+fn set_call(results: &mut Vars, arguments: &mut Terms, declared: &Declared) -> bool
     requires { Knows declared.now }
     ensures results { map prog_var_of results.new
         ≡ map (sorted_name (declared_of declared.now)) (map prog_var_of results.old) }
@@ -113,25 +111,37 @@ fn set_call(results: &mut [ProgVar], arguments: &mut [Term], declared: &Declared
         (map as_var (map prog_var_of results.new)
         ++ flat_map variables_of_term (map term_of arguments.new)) }
 {
-    let are_results_settled = set_all(results, declared);
-    let are_arguments_settled = set_all(arguments, declared);
-    are_results_settled && are_arguments_settled
+    let are_results_settled = set_all(results.as_mut_slice(), declared);
+    let are_arguments_settled = set_all(arguments.as_mut_slice(), declared);
+    are_results_settled & are_arguments_settled
 }
 
 // The same of the commands of a block.
 #[cycle(sorting)]
+fn set_block(block: &mut Block, declared: &Declared) -> bool
+    requires { Knows declared.now }
+    ensures sorted { block_of block.new ≡ sorted_block (declared_of declared.now)
+        (block_of block.old) }
+    ensures settled { result ≡ list_all (is_settled (scope_in declared.now))
+        (flat_map own_variables (commands_of (block_of block.new))) }
+{
+    set_commands(block.as_mut_slice(), declared)
+}
+
+// The same, where the commands are lent one behind the other.
+#[cycle(sorting)]
 fn set_commands(commands: &mut [Command], declared: &Declared) -> bool
     requires { Knows declared.now }
-    ensures sorted { block_with (map command_of commands.new)
-        ≡ sorted_block (declared_of declared.now) (block_with (map command_of commands.old)) }
+    ensures sorted { block_of commands.new
+        ≡ sorted_block (declared_of declared.now) (block_of commands.old) }
     ensures settled { result ≡ list_all (is_settled (scope_in declared.now))
-        (flat_map own_variables (commands_of (block_with (map command_of commands.new)))) }
+        (flat_map own_variables (commands_of (block_of commands.new))) }
 {
     let mut are_settled = true;
     for i in 0..commands.len() {
         // a command gets its sorts whatever the others tell
         let is_settled = commands[i].set_sorts(declared);
-        are_settled = are_settled && is_settled;
+        are_settled &= is_settled;
     }
     are_settled
 }

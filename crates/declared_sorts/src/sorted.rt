@@ -51,7 +51,7 @@ pub fn set_all<T: Sorted>(items: &mut [T], declared: &Declared) -> bool
     for i in 0..items.len() {
         // an item gets its sorts whatever the others tell
         let is_settled = items[i].set_sorts(declared);
-        are_settled = are_settled && is_settled;
+        are_settled &= is_settled;
     }
     are_settled
 }

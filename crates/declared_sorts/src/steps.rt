@@ -55,7 +55,7 @@ pub fn set_formulas(
     let first = set_formula(left, sort, u32::MAX, declared);
     let second = set_formula(right, sort, u32::MAX, declared);
     Told {
-        is_settled: first.is_settled && second.is_settled,
+        is_settled: first.is_settled & second.is_settled,
         is_judged: first.left > 0 && second.left > 0,
     }
 }
@@ -82,7 +82,7 @@ fn set_judgement(judgement: &mut Judgement, declared: &Declared) -> Told
             let told = set_formulas(&mut triple.pre, &mut triple.post, sort, declared);
             let is_command_settled = triple.command.set_sorts(declared);
             Told {
-                is_settled: told.is_settled && is_command_settled,
+                is_settled: told.is_settled & is_command_settled,
                 is_judged: told.is_judged,
             }
         }
@@ -118,7 +118,7 @@ pub fn set_step(step: &mut Step, declared: &Declared) -> Told
     let is_reason_settled = set_reason(&mut step.reason, declared);
     let told = set_judgement(&mut step.judgement, declared);
     Told {
-        is_settled: told.is_settled && is_reason_settled,
+        is_settled: told.is_settled & is_reason_settled,
         is_judged: told.is_judged,
     }
 }

@@ -38,17 +38,17 @@ impl Sorted for Term {
             Term::Add(left, right) => {
                 let is_left_settled = left.set_sorts(declared);
                 let is_right_settled = right.set_sorts(declared);
-                is_left_settled && is_right_settled
+                is_left_settled & is_right_settled
             }
             Term::Sub(left, right) => {
                 let is_left_settled = left.set_sorts(declared);
                 let is_right_settled = right.set_sorts(declared);
-                is_left_settled && is_right_settled
+                is_left_settled & is_right_settled
             }
             Term::Cat(left, right) => {
                 let is_left_settled = left.set_sorts(declared);
                 let is_right_settled = right.set_sorts(declared);
-                is_left_settled && is_right_settled
+                is_left_settled & is_right_settled
             }
         }
     }
@@ -66,7 +66,7 @@ pub fn set_terms(left: &mut Term, right: &mut Term, declared: &Declared) -> bool
 {
     let is_left_settled = left.set_sorts(declared);
     let is_right_settled = right.set_sorts(declared);
-    is_left_settled && is_right_settled
+    is_left_settled & is_right_settled
 }
 
 impl Sorted for Cond {
@@ -96,12 +96,12 @@ impl Sorted for Cond {
             Cond::And(left, right) => {
                 let is_left_settled = left.set_sorts(declared);
                 let is_right_settled = right.set_sorts(declared);
-                is_left_settled && is_right_settled
+                is_left_settled & is_right_settled
             }
             Cond::Or(left, right) => {
                 let is_left_settled = left.set_sorts(declared);
                 let is_right_settled = right.set_sorts(declared);
-                is_left_settled && is_right_settled
+                is_left_settled & is_right_settled
             }
         }
     }

@@ -1,4 +1,4 @@
-use Rattle.std.proofs.Common.{◌≡◌, ◌∙◌, ◌&&◌, ap, arith, map}
+use Rattle.std.proofs.Common.{◌∙◌, ap, arith, map}
 use Rattle.std.specs.List.{list_all}
 use Rattle.std.proofs.lemmas.Grind.{common_steps}
 use Rattle.model_commands.specs.CommandParts.{variables_of_command}
@@ -6,25 +6,18 @@ use Rattle.model_grammar.specs.Sorts.{sorted_command}
 use Rattle.theory_syntax.specs.Commands.{block_with, command_of}
 use Rattle.declared_sorts.specs.Declarations.{declared_of, scope_in}
 use Rattle.declared_sorts.specs.Settled.{is_settled}
-use Rattle.declared_sorts.proofs.CommandLaws.{each_command}
+use Rattle.declared_sorts.proofs.CommandLaws.{each_command, loop_told, choice_told}
 use Rattle.declared_sorts.proofs.Each.{all_changed, block_changed}
-use Rattle.declared_sorts.proofs.Loops.{one_told, all_told, then_both, else_both}
+use Rattle.declared_sorts.proofs.Loops.{one_told, all_told}
 use Rattle.declared_sorts.proofs.commands.+sorting.Goals as goal
-use Rattle.declared_sorts.proofs.commands.+sorting.Goals.{set_commands-then-are_settled, set_commands-else-are_settled}
 
 pub set_commands-loop-i-preserved : goal.set_commands-loop-i-preserved
 set_commands-loop-i-preserved t c =
     let p = is_settled (scope_in c.args.declared.now) in
-    let both : c.if-are_settled.are_settled
-    ≡ (c.loop-i.are_settled && c.set_sorts-is_settled.result) =
-    elim c.if-are_settled.branch [
-      | set_commands-then-are_settled w ↦ then_both _ _ _ w.if-are_settled.true w.are_settled-is
-      | set_commands-else-are_settled w ↦ else_both _ _ _ w.if-are_settled.false w.are_settled-is
-    ] in
     record {
       unvisited = grind (arith, common_steps);
       each = grind (arith, common_steps);
-      told = both ∙ one_told command_of (λ d. list_all p (variables_of_command d))
+      told = one_told command_of (λ d. list_all p (variables_of_command d))
           c.loop-i.commands c.loop-i.i c.set_sorts-is_settled.new.self _ _ (omega arith)
           c.loop-i.invariant.told c.set_sorts-is_settled.ensures.settled;
     }
@@ -42,3 +35,19 @@ set_commands-returns-clause-settled t c =
     all_told command_of (λ d. list_all p (variables_of_command d)) c.loop-i.commands c.loop-i.i _
     (omega arith) c.loop-i.invariant.told
     ∙ each_command p (map command_of c.loop-i.commands)
+
+pub CommandSorted::set_sorts-returns-in-If-clause-settled :
+    goal.CommandSorted::set_sorts-returns-in-If-clause-settled
+CommandSorted::set_sorts-returns-in-If-clause-settled t c =
+    choice_told (is_settled (scope_in c.args.declared.now)) c.set_sorts-is_cond_settled.new.self
+    c.set_block-is_first_settled.new.block c.set_block-is_second_settled.new.block _ _ _
+    c.set_sorts-is_cond_settled.ensures.settled c.set_block-is_first_settled.ensures.settled
+    c.set_block-is_second_settled.ensures.settled
+
+pub CommandSorted::set_sorts-returns-in-While-clause-settled :
+    goal.CommandSorted::set_sorts-returns-in-While-clause-settled
+CommandSorted::set_sorts-returns-in-While-clause-settled t c =
+    loop_told (is_settled (scope_in c.args.declared.now))
+    c.set_sorts-is_cond_settled-in-While.new.self c.set_block-is_block_settled-in-While.new.block
+    _ _ c.set_sorts-is_cond_settled-in-While.ensures.settled
+    c.set_block-is_block_settled-in-While.ensures.settled

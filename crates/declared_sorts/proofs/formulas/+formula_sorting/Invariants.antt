@@ -11,7 +11,13 @@ decreases-set_parts l = 3 * parts (formula_of l.formula.now)
 
 abbrev pub decreases-set_two : goal.decreases-set_two
 decreases-set_two l =
-    3 * (parts (formula_of l.left.now) + parts (formula_of l.right.now)) + 2
+    3 * (parts (formula_of l.left.now.value) + parts (formula_of l.right.now.value)) + 2
 
 abbrev pub decreases-set_scope : goal.decreases-set_scope
-decreases-set_scope l = 3 * parts (formula_of l.inner.now) + 2
+decreases-set_scope l = 3 * parts (formula_of l.inner.now.value) + 2
+
+abbrev pub decreases-set_met : goal.decreases-set_met
+decreases-set_met l = 3 * parts (formula_of l.inner.now.value) + 2
+
+abbrev pub decreases-set_node : goal.decreases-set_node
+decreases-set_node l = 3 * parts (formula_of l.children.now.value) + 2

@@ -1,26 +1,19 @@
-use Rattle.std.proofs.Common.{◌∙◌, ◌≡◌, ◌&&◌, arith, map}
+use Rattle.std.proofs.Common.{◌∙◌, arith, map}
 use Rattle.std.specs.List.{list_all}
 use Rattle.std.proofs.lemmas.Grind.{common_steps}
 use Rattle.declared_sorts.specs.Declarations.{declared_of, scope_in}
 use Rattle.declared_sorts.specs.Settled.{is_settled}
 use Rattle.declared_sorts.proofs.Each.{all_changed}
-use Rattle.declared_sorts.proofs.Loops.{one_told, all_told, each_item, then_both, else_both}
+use Rattle.declared_sorts.proofs.Loops.{one_told, all_told, each_item}
 use Rattle.declared_sorts.proofs.sorted.set_all.Goals as goal
-use Rattle.declared_sorts.proofs.sorted.set_all.Goals.{then-are_settled, else-are_settled}
 
 pub loop-i-preserved : goal.loop-i-preserved
 loop-i-preserved g c =
     let p = is_settled (scope_in c.args.declared.now) in
-    let both : c.if-are_settled.are_settled
-    ≡ (c.loop-i.are_settled && c.set_sorts-is_settled.result) =
-    elim c.if-are_settled.branch [
-      | then-are_settled w ↦ then_both _ _ _ w.if-are_settled.true w.are_settled-is
-      | else-are_settled w ↦ else_both _ _ _ w.if-are_settled.false w.are_settled-is
-    ] in
     record {
       same = grind (arith, common_steps);
       each = grind (arith, common_steps);
-      told = both ∙ one_told g.T.Sorted.seen (λ y. list_all p (g.T.Sorted.variables y))
+      told = one_told g.T.Sorted.seen (λ y. list_all p (g.T.Sorted.variables y))
           c.loop-i.items c.loop-i.i c.set_sorts-is_settled.new.self _ _ (omega arith)
           c.loop-i.invariant.told c.set_sorts-is_settled.ensures.settled;
     }
