@@ -12,10 +12,12 @@ use Rattle.dom_terms.specs.Sorts.{data_sort_of, sort_of}
 use Rattle.dom_terms.specs.declared.sorts.DataSort.{DataSort}
 use Rattle.dom_terms.specs.Terms.{term_of}
 use Rattle.formula_syntax.specs.Formulas.{formula_of}
+use Rattle.formula_syntax.specs.declared.formulas.Formula.{Formula}
 use Rattle.rule_patterns.specs.Finding.{find, conclusion_pat, premises_pat, conclusion_tree, cited_tree}
 use Rattle.rule_patterns.specs.TreePatterns as pattern
 use Rattle.rule_patterns.specs.Trees.{Tree, leaf, no_hole_leaf, formula_tree, term_tree, data_tree, sort_tree}
-use Rattle.row_patterns.specs.Views.{letter_in, term_letter_in, data_letter_in, line_in}
+use Rattle.row_patterns.specs.declared.patterns.Pattern.{Pattern}
+use Rattle.row_patterns.specs.Views.{letter_in, term_letter_in, data_letter_in, formula_in, line_in}
 use Rattle.opened_formulas.specs.declared.candidates.Candidate.{Candidate}
 use Rattle.opened_formulas.specs.declared.reading.Opened.{Opened}
 use Rattle.opened_formulas.specs.Readings.{tried_var, renaming}
@@ -24,6 +26,7 @@ use Rattle.row_matching.specs.declared.found.Letter.{Letter}
 use Rattle.row_matching.specs.declared.found.Letter.TheVariants as l
 use Rattle.row_matching.specs.declared.found.Found.{Found}
 use Rattle.row_matching.specs.declared.found.Found.TheVariants as f
+use Rattle.row_matching.specs.declared.found.Search.{Search}
 use Rattle.row_matching.specs.declared.source.Source.{Source}
 
 abbrev pub letter_of : Letter → pattern.Letter
@@ -42,6 +45,12 @@ tree_found (f.Value a o) = Some (term_tree (terms.term_with (renaming o) (term_o
 tree_found (f.Data k) = Some (data_tree (data_sort_of k))
 tree_found f.NoHole = Some (leaf no_hole_leaf)
 tree_found (f.Sort s) = Some (sort_tree (sort_of s))
+
+-- what stands at the first place in a formula, below what was opened
+abbrev pub found_in : Search → Pattern → Formula → Option Tree
+found_in s p a = find (tried_var s.candidate) (letter_of s.letter)
+    (pattern.formula_pat (formula_in p))
+    (formula_tree (formula_with (renaming s.opened) (nameless (formula_of a))))
 
 -- what stands at the first place of a letter in all that is written
 abbrev pub first_place : Source → Candidate → pattern.Letter → Option Tree

@@ -8,7 +8,7 @@ ghost use Rattle.row_matching.specs.FirstPlaces.{formula_found, term_found, data
 ghost use Rattle.row_matching.specs.Choices.{choice_of};
 
 use crate::found::{Found, Letter};
-use crate::source::{Source, found_at};
+use crate::source::{Source, found_in_all};
 use dom_terms::{DataSort, Sort};
 use opened_formulas::Candidate;
 use row_patterns::{DataLetter, FormulaLetter, TermLetter};
@@ -23,7 +23,7 @@ pub fn formula_at<'r, 'a>(
     ensures { formula_found result
         ≡ letters.formula_at (choice_of source.now candidate.entry) (letter_in letter) }
 {
-    found_at(*source, candidate, Letter::Formula(letter))
+    found_in_all(source, candidate, Letter::Formula(letter))
 }
 
 /// The term.
@@ -36,7 +36,7 @@ pub fn term_at<'r, 'a>(
     ensures { term_found result
         ≡ letters.term_at (choice_of source.now candidate.entry) (term_letter_in letter) }
 {
-    found_at(*source, candidate, Letter::Term(letter))
+    found_in_all(source, candidate, Letter::Term(letter))
 }
 
 /// The data sort.
@@ -49,7 +49,7 @@ pub fn data_at<'r, 'a>(
     ensures { data_sort_of result
         ≡ letters.data_at (choice_of source.now candidate.entry) (data_letter_in letter) }
 {
-    data_in(found_at(*source, candidate, Letter::Data(letter)))
+    data_in(found_in_all(source, candidate, Letter::Data(letter)))
 }
 
 /// The hole, or none.
@@ -57,7 +57,7 @@ pub fn hole_at<'r, 'a>(source: &Source<'r, 'a>, candidate: Candidate<'a>) -> Opt
     requires { IsTrue (single_row source.now.row.now) }
     ensures { hole_of result ≡ (choice_of source.now candidate.entry).o }
 {
-    hole_in(found_at(*source, candidate, Letter::Hole))
+    hole_in(found_in_all(source, candidate, Letter::Hole))
 }
 
 /// The sort.
@@ -65,7 +65,7 @@ pub fn sort_at<'r, 'a>(source: &Source<'r, 'a>, candidate: Candidate<'a>) -> Sor
     requires { IsTrue (single_row source.now.row.now) }
     ensures { sort_of result ≡ (choice_of source.now candidate.entry).s }
 {
-    sort_in(found_at(*source, candidate, Letter::Sort))
+    sort_in(found_in_all(source, candidate, Letter::Sort))
 }
 
 fn data_in(found: Found) -> DataSort

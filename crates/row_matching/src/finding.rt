@@ -12,7 +12,7 @@ ghost use Rattle.row_patterns.specs.Views.{data_in, sort_in, term_in};
 ghost use Rattle.opened_formulas.specs.Readings.{tried_var, renaming};
 ghost use Rattle.row_matching.specs.FirstPlaces.{letter_of, tree_found};
 
-use crate::found::{Found, Letter, same_letter};
+use crate::found::{Found, Letter, Search, same_letter};
 use dom_terms::{DataSort, Sort, Term};
 use opened_formulas::{Candidate, Opened};
 use row_patterns::{DataPattern, SortPattern, TermPattern};
@@ -102,7 +102,6 @@ fn no_hole<'a>(pattern: Letter, letter: Letter) -> Found<'a>
 }
 
 /// The same in a term of a formula, below what was opened.
-#[tactic(auto, using(crate::proofs::Opening::plain_rules))]
 pub fn find_term<'a>(
     pattern: &TermPattern,
     a: &'a Term,
@@ -114,17 +113,36 @@ pub fn find_term<'a>(
         (term_pat (term_in pattern.now))
         (term_tree (term_with (renaming opened.entry) (term_with (naming []) (term_of a.now)))) }
 {
+    find_in_term(
+        pattern,
+        a,
+        &Search {
+            opened,
+            candidate,
+            letter,
+        },
+    )
+}
+
+// the same of what is looked for
+#[tactic(auto, using(crate::proofs::Opening::plain_rules))]
+pub(crate) fn find_in_term<'a>(pattern: &TermPattern, a: &'a Term, search: &Search<'a>) -> Found<'a>
+    ensures { tree_found result ≡ find (tried_var search.now.candidate)
+        (letter_of search.now.letter) (term_pat (term_in pattern.now))
+        (term_tree (term_with (renaming search.now.opened)
+        (term_with (naming []) (term_of a.now)))) }
+{
     match (pattern, a) {
-        (TermPattern::Letter(l), _) => if same_letter(Letter::Term(*l), letter) {
-            Found::Value(a, opened)
+        (TermPattern::Letter(l), _) => if same_letter(Letter::Term(*l), search.letter) {
+            Found::Value(a, search.opened)
         } else {
             Found::Nothing
         },
         (TermPattern::Add(p, q), Term::Add(b, c))
         | (TermPattern::Sub(p, q), Term::Sub(b, c))
         | (TermPattern::Cat(p, q), Term::Cat(b, c)) => {
-            let left = find_term(p, b, opened, candidate, letter);
-            left.or(find_term(q, c, opened, candidate, letter))
+            let left = find_in_term(p, b, search);
+            left.or(find_in_term(q, c, search))
         }
         _ => Found::Nothing,
     }

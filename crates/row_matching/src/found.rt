@@ -8,7 +8,7 @@ ghost use Rattle.row_matching.specs.FirstPlaces.{letter_of, tree_found};
 
 use dom_terms::{DataSort, Sort, Term};
 use formula_syntax::Formula;
-use opened_formulas::Opened;
+use opened_formulas::{Candidate, Opened};
 use row_patterns::{DataLetter, FormulaLetter, TermLetter};
 
 /// A letter of a row.
@@ -41,6 +41,17 @@ pub enum Found<'a> {
     NoHole,
     /// A sort.
     Sort(Sort),
+}
+
+/// What is looked for in a formula or a term, below what was opened.
+#[derive(Clone, Copy)]
+pub(crate) struct Search<'a> {
+    /// The binder that was opened, if one was.
+    pub(crate) opened: Option<Opened<'a>>,
+    /// The variable for $x.
+    pub(crate) candidate: Candidate<'a>,
+    /// The letter.
+    pub(crate) letter: Letter,
 }
 
 impl<'a> Found<'a> {

@@ -121,6 +121,18 @@ pub fn found_at<'r, 'a>(
     requires { IsTrue (single_row source.row.now) }
     ensures { tree_found result ≡ first_place source.entry candidate.entry (letter_of letter) }
 {
+    found_in_all(&source, candidate, letter)
+}
+
+// the same of a source that is lent
+pub(crate) fn found_in_all<'r, 'a>(
+    source: &Source<'r, 'a>,
+    candidate: Candidate<'a>,
+    letter: Letter,
+) -> Found<'a>
+    requires { IsTrue (single_row source.now.row.now) }
+    ensures { tree_found result ≡ first_place source.now candidate.entry (letter_of letter) }
+{
     let argument = find_argument(source.row.asked, source.arguments, candidate, letter);
     if !argument.is_nothing() {
         return argument;

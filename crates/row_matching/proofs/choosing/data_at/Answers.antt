@@ -7,4 +7,4 @@ use Rattle.row_matching.proofs.choosing.data_at.Goals as goal
 pub returns : goal.returns
 returns c = c.data_in.ensures
     ∙ data-read c.args.source.now c.args.candidate (data_letter_in c.args.letter)
-    c.found_at.result c.found_at.ensures
+    c.found_in_all.result c.found_in_all.ensures

@@ -5,4 +5,4 @@ use Rattle.row_matching.proofs.choosing.formula_at.Goals as goal
 
 pub returns : goal.returns
 returns c = formula-read c.args.source.now c.args.candidate (letter_in c.args.letter)
-    c.found_at.result c.found_at.ensures
+    c.found_in_all.result c.found_in_all.ensures

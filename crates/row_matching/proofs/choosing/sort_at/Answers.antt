@@ -5,4 +5,4 @@ use Rattle.row_matching.proofs.choosing.sort_at.Goals as goal
 
 pub returns : goal.returns
 returns c = c.sort_in.ensures
-    ∙ sort-read c.args.source.now c.args.candidate c.found_at.result c.found_at.ensures
+    ∙ sort-read c.args.source.now c.args.candidate c.found_in_all.result c.found_in_all.ensures

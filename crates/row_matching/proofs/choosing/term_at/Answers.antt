@@ -5,4 +5,4 @@ use Rattle.row_matching.proofs.choosing.term_at.Goals as goal
 
 pub returns : goal.returns
 returns c = term-read c.args.source.now c.args.candidate (term_letter_in c.args.letter)
-    c.found_at.result c.found_at.ensures
+    c.found_in_all.result c.found_in_all.ensures

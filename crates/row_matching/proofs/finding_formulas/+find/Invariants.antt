@@ -4,8 +4,8 @@ use Rattle.model_formulas.specs.Parts.{parts}
 use Rattle.formula_syntax.specs.Formulas.{formula_of}
 use Rattle.row_matching.proofs.finding_formulas.+find.Given as goal
 
-abbrev pub decreases-find_formula : goal.decreases-find_formula
-decreases-find_formula l = 3 * parts (formula_of l.a.now) + 1
+abbrev pub decreases-find_in_formula : goal.decreases-find_in_formula
+decreases-find_in_formula l = 3 * parts (formula_of l.a.now) + 1
 
 abbrev pub decreases-find_connective : goal.decreases-find_connective
 decreases-find_connective l = 3 * parts (formula_of l.a.now)
