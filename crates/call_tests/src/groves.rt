@@ -5,11 +5,12 @@ ghost use Rattle.model_shapes.specs.Trees.{none, WellFormed};
 ghost use Rattle.model_documents.specs.Roots.{Rising};
 ghost use Rattle.grove_data.specs.Trees.{tree_of, forest_of};
 
-use dom_terms::{List, OutOfMemory, Text};
+use dom_terms::{List, OutOfMemory, Text, with};
 use grove_data::{
     Forest, Grove, Tree, find, find_list, moved_below, moved_to_roots, parent_of, same_sorted,
 };
 use std::alloc::Global;
+use std::process::Abort;
 use std::test::Fail;
 
 // a node with these children, whose list has the node's number
@@ -48,35 +49,48 @@ pub(crate) fn document(alloc: Global) -> Result<Grove, OutOfMemory>
     Ok(grove)
 }
 
+// Checks the questions of that grove.
+fn check_found(rt: &impl Abort, grove: &Grove)
+    requires { WellFormed (forest_of grove.now) }
+{
+    assert_eq!(rt; parent_of(grove, 3), Some(Some(1)));
+    assert_eq!(rt; parent_of(grove, 1), Some(None));
+    assert_eq!(rt; parent_of(grove, 9), None);
+    assert_eq!(rt; find_list(grove, 2).map(|tree| tree.id), Some(2));
+}
+
 #[test]
 fn parents_and_lists_are_found(rt: HostRuntime) -> Result<(), Fail> {
-    let alloc = rt.alloc();
-    let grove = document(alloc)?;
-    assert_eq!(rt; parent_of(&grove, 3), Some(Some(1)));
-    assert_eq!(rt; parent_of(&grove, 1), Some(None));
-    assert_eq!(rt; parent_of(&grove, 9), None);
-    assert_eq!(rt; find_list(&grove, 2).map(|tree| tree.id), Some(2));
+    let grove = document(rt.alloc())?;
+    check_found(&rt, &grove);
     Ok(())
 }
 
 #[test]
 fn sorted_groves_are_compared(rt: HostRuntime) -> Result<(), Fail> {
     let alloc = rt.alloc();
-    let grove = document(alloc)?;
-    assert_eq!(rt; same_sorted(&grove, &document(alloc)?), true);
+    let (grove, other) = with(document(alloc)?, document(alloc))?;
+    assert_eq!(rt; same_sorted(&grove, &other), true);
     assert_eq!(rt; same_sorted(&grove, &List::new(alloc)), false);
     Ok(())
 }
 
+// How many roots the grove has with its node 3 moved below the node 2, with it moved to the roots,
+// and as it is.
+fn roots_of_moves(alloc: Global, grove: &Grove) -> Result<(usize, usize, usize), Fail>
+    requires { WellFormed (forest_of grove.now) }
+{
+    let child = find(grove, 3).ok_or("no node")?;
+    let below = moved_below(alloc, grove, child, 2)?.len();
+    let beside = moved_to_roots(alloc, grove, child)?.len();
+    Ok((below, beside, grove.len()))
+}
+
 #[test]
 fn a_tree_is_moved_in_a_copy(rt: HostRuntime) -> Result<(), Fail> {
-    let alloc = rt.alloc();
-    let grove = document(alloc)?;
-    let child = find(&grove, 3).ok_or("no node")?;
-    let below = moved_below(alloc, &grove, child, 2)?;
-    assert_eq!(rt; below.len(), 1);
-    let roots = moved_to_roots(alloc, &grove, child)?;
-    assert_eq!(rt; roots.len(), 2);
-    assert_eq!(rt; grove.len(), 1);
+    let grove = document(rt.alloc())?;
+    let counts = roots_of_moves(rt.alloc(), &grove);
+    drop(grove);
+    assert_eq!(rt; counts?, (1, 2, 1));
     Ok(())
 }

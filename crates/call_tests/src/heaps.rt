@@ -39,24 +39,44 @@ fn one_root(alloc: Global, id: u32, list: u32) -> Result<Grove, OutOfMemory>
     Ok(grove)
 }
 
-#[test]
-fn a_child_moves_to_the_end(rt: HostRuntime) -> Result<(), Fail> {
-    let alloc = rt.alloc();
-    let mut heap = worked(alloc)?;
+// Checks the moves of a child to the end of its list, in that heap.
+fn check_moves(rt: &impl Abort, alloc: Global, heap: &mut NodeHeap) -> Result<(), Fail> {
     assert_eq!(rt; heap.append(1, 3), Ok(()));
     assert_eq!(rt; heap.write_text(alloc)?.as_str(), DOCUMENT);
     assert_eq!(rt; heap.append(1, 2), Ok(()));
     assert_eq!(rt; heap.write_text(alloc)?.as_str(), TURNED);
-    let grove = heap.to_grove(alloc)?;
-    assert_eq!(rt; write_grove(alloc, &grove)?.as_str(), TURNED);
-    assert_eq!(rt; heap.copy(alloc)?.write_text(alloc)?.as_str(), TURNED);
     Ok(())
 }
 
+// Checks that the grove and the copy of that heap are written as it is.
+fn check_made_of(rt: &impl Abort, alloc: Global, heap: &NodeHeap) -> Result<(), Fail> {
+    let grove = heap.to_grove(alloc)?;
+    let text = write_grove(alloc, &grove);
+    drop(grove);
+    assert_eq!(rt; text?.as_str(), TURNED);
+    let copied = heap.copy(alloc)?;
+    let text = copied.write_text(alloc);
+    drop(copied);
+    assert_eq!(rt; text?.as_str(), TURNED);
+    Ok(())
+}
+
+// Checks both.
+fn check_worked(rt: &impl Abort, alloc: Global, heap: &mut NodeHeap) -> Result<(), Fail> {
+    check_moves(rt, alloc, heap)?;
+    check_made_of(rt, alloc, heap)
+}
+
 #[test]
-fn a_removed_child_is_a_root(rt: HostRuntime) -> Result<(), Fail> {
-    let alloc = rt.alloc();
-    let mut heap = worked(alloc)?;
+fn a_child_moves_to_the_end(rt: HostRuntime) -> Result<(), Fail> {
+    let mut heap = worked(rt.alloc())?;
+    let answer = check_worked(&rt, rt.alloc(), &mut heap);
+    drop(heap);
+    answer
+}
+
+// Checks a removal in that heap, and the grove that is made of it.
+fn check_removal(rt: &impl Abort, alloc: Global, heap: &mut NodeHeap) -> Result<(), Fail> {
     assert_eq!(rt; heap.remove(1, 2), Ok(()));
     assert_eq!(rt; heap.parent(2), Ok(None));
     assert_eq!(rt; (heap.item(1, 0), heap.item(1, 1)), (Ok(Some(3)), Ok(None)));
@@ -65,9 +85,15 @@ fn a_removed_child_is_a_root(rt: HostRuntime) -> Result<(), Fail> {
 }
 
 #[test]
-fn a_refused_call_changes_nothing(rt: HostRuntime) -> Result<(), Fail> {
-    let alloc = rt.alloc();
-    let mut heap = worked(alloc)?;
+fn a_removed_child_is_a_root(rt: HostRuntime) -> Result<(), Fail> {
+    let mut heap = worked(rt.alloc())?;
+    let answer = check_removal(&rt, rt.alloc(), &mut heap);
+    drop(heap);
+    answer
+}
+
+// Checks what is refused of that heap.
+fn check_refused(rt: &impl Abort, alloc: Global, heap: &mut NodeHeap) -> Result<(), Fail> {
     assert_eq!(rt; heap.append(2, 1), Err(FaultKind::Cycle));
     assert_eq!(rt; heap.append(9, 2), Err(FaultKind::NoNode));
     assert_eq!(rt; heap.remove(2, 3), Err(FaultKind::NotChild));
@@ -75,6 +101,14 @@ fn a_refused_call_changes_nothing(rt: HostRuntime) -> Result<(), Fail> {
     assert_eq!(rt; heap.item(1, -1), Ok(None));
     assert_eq!(rt; heap.write_text(alloc)?.as_str(), DOCUMENT);
     Ok(())
+}
+
+#[test]
+fn a_refused_call_changes_nothing(rt: HostRuntime) -> Result<(), Fail> {
+    let mut heap = worked(rt.alloc())?;
+    let answer = check_refused(&rt, rt.alloc(), &mut heap);
+    drop(heap);
+    answer
 }
 
 #[test]

@@ -63,7 +63,8 @@ fn a_theory_is_written_line_by_line(rt: HostRuntime) -> Result<(), Fail> {
     let alloc = rt.alloc();
     let tokens = token_list(alloc, LINES.as_bytes())?;
     let theory = read_theory(alloc, &tokens)?;
-    let text = write_theory(alloc, &theory)?;
-    assert_eq!(rt; text.as_str(), LINES);
+    let text = write_theory(alloc, &theory);
+    drop(theory);
+    assert_eq!(rt; text?.as_str(), LINES);
     Ok(())
 }

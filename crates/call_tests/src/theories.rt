@@ -16,6 +16,7 @@ use formula_syntax::{Entailment, Formula};
 use hoare_kernel::{Accepted, check_theory};
 use proof_text::read_theory;
 use std::alloc::Global;
+use std::process::Abort;
 use std::test::Fail;
 use text_tokens::token_list;
 use theory_syntax::{Command, Procedure, Procedures, Steps, Theory, Triple};
@@ -31,12 +32,19 @@ fn theory(alloc: Global) -> Result<Theory, Fail> {
     Ok(read_theory(alloc, &tokens)?)
 }
 
+// What the body of the first procedure modifies.
+fn modified_first(alloc: Global, theory: &Theory) -> Result<Vars, Fail> {
+    let procedure = theory.procedures.get(0).ok_or("no procedure")?;
+    Ok(modified(alloc, &procedure.body)?)
+}
+
 #[test]
 fn a_block_modifies_no_local_of_its_own(rt: HostRuntime) -> Result<(), Fail> {
     let alloc = rt.alloc();
     let theory = theory(alloc)?;
-    let procedure = theory.procedures.get(0).ok_or("no procedure")?;
-    let found = modified(alloc, &procedure.body)?;
+    let found = modified_first(alloc, &theory);
+    drop(theory);
+    let found = found?;
     assert_eq!(rt; found.len(), 1);
     let first = found.get(0).ok_or("no variable")?;
     assert_eq!(rt; first.name.as_str(), "x");
@@ -67,20 +75,26 @@ fn tested(alloc: Global, theory: &Theory, number: u32) -> Result<(), ProgramFaul
     answer
 }
 
-#[test]
-fn a_step_is_tested_by_itself(rt: HostRuntime) -> Result<(), Fail> {
-    let alloc = rt.alloc();
-    let theory = theory(alloc)?;
+// Checks the tests of that step in the theory, which has one procedure.
+fn check_tested(rt: &impl Abort, alloc: Global, theory: &Theory) -> Result<(), Fail> {
     assert!(rt; theory.procedures.len() == 1);
-    assert!(rt; tested(alloc, &theory, 7).is_ok());
+    assert!(rt; tested(alloc, theory, 7).is_ok());
     let kind = FileKind::Number;
     let fault = ProgramFault::BadProgram {
         procedure: 1,
         step: 7,
         kind,
     };
-    assert_eq!(rt; tested(alloc, &theory, 8), Err(fault));
+    assert_eq!(rt; tested(alloc, theory, 8), Err(fault));
     Ok(())
+}
+
+#[test]
+fn a_step_is_tested_by_itself(rt: HostRuntime) -> Result<(), Fail> {
+    let theory = theory(rt.alloc())?;
+    let answer = check_tested(&rt, rt.alloc(), &theory);
+    drop(theory);
+    answer
 }
 
 // A step by the rule for doing nothing.
@@ -134,17 +148,25 @@ fn idle_theory(alloc: Global) -> Result<Theory, OutOfMemory>
     })
 }
 
-#[test]
-fn a_theory_is_accepted_of_which_nothing_is_told(rt: HostRuntime) -> Result<(), Fail> {
-    let alloc = rt.alloc();
-    let theory = idle_theory(alloc)?;
-    check_program(alloc, &theory)?;
+// Checks that the theory is one that the program may check, and is accepted.
+fn check_accepted(rt: &impl Abort, alloc: Global, theory: &Theory) -> Result<(), Fail>
+    requires { TheoryIsSmall (theory_of theory.now) }
+{
+    check_program(alloc, theory)?;
     let counts = Accepted {
         procedures: 1,
         steps: 1,
     };
-    assert_eq!(rt; check_theory(alloc, &theory), Ok(counts));
+    assert_eq!(rt; check_theory(alloc, theory), Ok(counts));
     Ok(())
+}
+
+#[test]
+fn a_theory_is_accepted_of_which_nothing_is_told(rt: HostRuntime) -> Result<(), Fail> {
+    let theory = idle_theory(rt.alloc())?;
+    let answer = check_accepted(&rt, rt.alloc(), &theory);
+    drop(theory);
+    answer
 }
 
 #[test]
