@@ -36,7 +36,8 @@ pub enum Way {
     Computed(Computed),
 }
 
-const LOGIC: &'static [Rows] = &[
+// A table is short: what a proof costs grows with the square of its length.
+const AND: &'static [Rows] = &[
     logics::ID,
     logics::CUT,
     logics::TRUE_IN,
@@ -44,6 +45,17 @@ const LOGIC: &'static [Rows] = &[
     logics::AND_IN,
     logics::AND_LEFT,
     logics::AND_RIGHT,
+];
+
+/// The rows of id and cut, and of the rules of true, false and `and`.
+pub fn and_rows() -> &'static [Rows]
+    ensures patterns { map (λ rows. patterns_in rows.now) result.now ≡ take 7 logic }
+    ensures single { list_all (λ rows. all_single rows.now) result.now ≡ true }
+{
+    AND
+}
+
+const OR: &'static [Rows] = &[
     logics::OR_LEFT,
     logics::OR_RIGHT,
     logics::OR_OUT,
@@ -52,21 +64,32 @@ const LOGIC: &'static [Rows] = &[
     logics::NOT_IN,
     logics::NOT_OUT,
     logics::CLASSICAL,
+];
+
+/// The rows of the rules of `or`, `->` and `not`.
+pub fn or_rows() -> &'static [Rows]
+    ensures patterns { map (λ rows. patterns_in rows.now) result.now ≡ take 8 (drop 7 logic) }
+    ensures single { list_all (λ rows. all_single rows.now) result.now ≡ true }
+{
+    OR
+}
+
+const QUANTIFIERS: &'static [Rows] = &[
     logics::FORALL_IN,
     logics::FORALL_OUT,
     logics::EXISTS_IN,
     logics::EXISTS_OUT,
 ];
 
-/// The rows of the rules of logic.
-pub fn logic_rows() -> &'static [Rows]
-    ensures patterns { map (λ rows. patterns_in rows.now) result.now ≡ logic }
+/// The rows of the rules of `forall` and `exists`.
+pub fn quantifier_rows() -> &'static [Rows]
+    ensures patterns { map (λ rows. patterns_in rows.now) result.now ≡ drop 15 logic }
     ensures single { list_all (λ rows. all_single rows.now) result.now ≡ true }
 {
-    LOGIC
+    QUANTIFIERS
 }
 
-const STRUCTURE: &'static [Rows] = &[
+const STAR: &'static [Rows] = &[
     structures::STAR_ASSOC,
     structures::STAR_ASSOC_BACK,
     structures::STAR_LEFT_ASSOC,
@@ -75,6 +98,17 @@ const STRUCTURE: &'static [Rows] = &[
     structures::STAR_RIGHT_ASSOC_BACK,
     structures::STAR_MID_ASSOC,
     structures::STAR_MID_ASSOC_BACK,
+];
+
+/// The rows of the rules that three forests are concatenated either way.
+pub fn star_rows() -> &'static [Rows]
+    ensures patterns { map (λ rows. patterns_in rows.now) result.now ≡ take 8 structure }
+    ensures single { list_all (λ rows. all_single rows.now) result.now ≡ true }
+{
+    STAR
+}
+
+const UNITS: &'static [Rows] = &[
     structures::STAR_UNIT,
     structures::STAR_UNIT_BACK,
     structures::UNIT_STAR,
@@ -83,6 +117,17 @@ const STRUCTURE: &'static [Rows] = &[
     structures::STAR_LEFT_UNIT_BACK,
     structures::STAR_RIGHT_UNIT,
     structures::STAR_RIGHT_UNIT_BACK,
+];
+
+/// The rows of the rules of the forest with no tree.
+pub fn unit_rows() -> &'static [Rows]
+    ensures patterns { map (λ rows. patterns_in rows.now) result.now ≡ take 8 (drop 8 structure) }
+    ensures single { list_all (λ rows. all_single rows.now) result.now ≡ true }
+{
+    UNITS
+}
+
+const PLUS: &'static [Rows] = &[
     structures::PLUS_ASSOC,
     structures::PLUS_ASSOC_BACK,
     structures::PLUS_COMM,
@@ -94,21 +139,86 @@ const STRUCTURE: &'static [Rows] = &[
     structures::PLUS_LEFT_UNIT_BACK,
 ];
 
-/// The rows of the rules of structure.
-pub fn structure_rows() -> &'static [Rows]
-    ensures patterns { map (λ rows. patterns_in rows.now) result.now ≡ structure }
+/// The rows of the rules of groves beside one another.
+pub fn plus_rows() -> &'static [Rows]
+    ensures patterns { map (λ rows. patterns_in rows.now) result.now ≡ drop 16 structure }
     ensures single { list_all (λ rows. all_single rows.now) result.now ≡ true }
 {
-    STRUCTURE
+    PLUS
 }
 
-const PUT_IN: &'static [Rows] = &[
+const BESIDE: &'static [Rows] = &[
+    monotone::MONO_STAR,
+    monotone::MONO_STAR_LEFT,
+    monotone::MONO_STAR_RIGHT,
+    monotone::MONO_PLUS,
+    monotone::MONO_PLUS_LEFT,
+];
+
+/// The rows of the rules of monotony of what stands side by side.
+pub fn beside_rows() -> &'static [Rows]
+    ensures patterns { map (λ rows. patterns_in rows.now) result.now ≡ take 5 monotony }
+    ensures single { list_all (λ rows. all_single rows.now) result.now ≡ true }
+{
+    BESIDE
+}
+
+const ABOVE: &'static [Rows] = &[
+    monotone::MONO_NODE,
+    monotone::MONO_TREE,
+    monotone::MONO_ROOT,
+    monotone::MONO_APP,
+    monotone::MONO_HOLE_ADJ,
+    monotone::MONO_CTX_ADJ,
+];
+
+/// The rows of the rules of monotony of nodes, trees, roots and what is put into contexts.
+pub fn above_rows() -> &'static [Rows]
+    ensures patterns { map (λ rows. patterns_in rows.now) result.now ≡ take 6 (drop 5 monotony) }
+    ensures single { list_all (λ rows. all_single rows.now) result.now ≡ true }
+{
+    ABOVE
+}
+
+// A rule with a row for each form that has a part is a group of its own.
+const PURE_OUT: &'static [Rows] = &[monotone::PURE_OUT];
+
+/// The rows of the rule that a pure part moves out of a formula.
+pub fn pure_out_rows() -> &'static [Rows]
+    ensures patterns { map (λ rows. patterns_in rows.now) result.now ≡ take 1 (drop 11 monotony) }
+    ensures single { list_all (λ rows. all_single rows.now) result.now ≡ true }
+{
+    PURE_OUT
+}
+
+const PURE_IN: &'static [Rows] = &[monotone::PURE_IN];
+
+/// The rows of the rule that it moves into one.
+pub fn pure_in_rows() -> &'static [Rows]
+    ensures patterns { map (λ rows. patterns_in rows.now) result.now ≡ drop 12 monotony }
+    ensures single { list_all (λ rows. all_single rows.now) result.now ≡ true }
+{
+    PURE_IN
+}
+
+const HOLES: &'static [Rows] = &[
     context::HOLE_LEFT,
     context::HOLE_LEFT_BACK,
     context::HOLE_RIGHT,
     context::HOLE_RIGHT_BACK,
     context::APP_ASSOC,
     context::APP_ASSOC_BACK,
+];
+
+/// The rows of the rules of holes, and of what is put into a context in a context.
+pub fn hole_rows() -> &'static [Rows]
+    ensures patterns { map (λ rows. patterns_in rows.now) result.now ≡ take 6 contexts }
+    ensures single { list_all (λ rows. all_single rows.now) result.now ≡ true }
+{
+    HOLES
+}
+
+const PUT_IN: &'static [Rows] = &[
     context::APP_NODE,
     context::APP_NODE_BACK,
     context::APP_TREE,
@@ -117,9 +227,9 @@ const PUT_IN: &'static [Rows] = &[
     context::APP_ROOT_BACK,
 ];
 
-/// The rows of the rules of what is put into contexts, holes, nodes, trees and roots.
+/// The rows of the rules of what is put into nodes, trees and roots.
 pub fn put_in_rows() -> &'static [Rows]
-    ensures patterns { map (λ rows. patterns_in rows.now) result.now ≡ take 12 contexts }
+    ensures patterns { map (λ rows. patterns_in rows.now) result.now ≡ take 6 (drop 6 contexts) }
     ensures single { list_all (λ rows. all_single rows.now) result.now ≡ true }
 {
     PUT_IN
@@ -186,25 +296,51 @@ const NODES: &'static [Rows] = &[
     node::ROOT_AND,
     node::NODE_SOME,
     node::NOT_NULL,
-    node::APART_STAR,
-    node::APART_PLUS,
-    node::APART_UP,
+];
+
+/// The rows of the rules of what nodes, trees and roots have.
+pub fn nodes_rows() -> &'static [Rows]
+    ensures patterns { map (λ rows. patterns_in rows.now) result.now ≡ take 5 nodes }
+    ensures single { list_all (λ rows. all_single rows.now) result.now ≡ true }
+{
+    NODES
+}
+
+const APART: &'static [Rows] = &[node::APART_STAR, node::APART_PLUS, node::APART_UP];
+
+/// The rows of the rules that nodes stand apart.
+pub fn apart_rows() -> &'static [Rows]
+    ensures patterns { map (λ rows. patterns_in rows.now) result.now ≡ take 3 (drop 5 nodes) }
+    ensures single { list_all (λ rows. all_single rows.now) result.now ≡ true }
+{
+    APART
+}
+
+const EMPTY: &'static [Rows] = &[
     node::FOREST_CASES,
     node::GROVE_CASES,
     node::EMPTY_STAR,
     node::EMPTY_PLUS,
     node::TREE_FULL,
     node::ROOT_FULL,
-    node::HEAD,
-    node::LAST,
 ];
 
-/// The rows of the rules of nodes.
-pub fn nodes_rows() -> &'static [Rows]
-    ensures patterns { map (λ rows. patterns_in rows.now) result.now ≡ nodes }
+/// The rows of the rules of forests and groves that are empty or not.
+pub fn empty_rows() -> &'static [Rows]
+    ensures patterns { map (λ rows. patterns_in rows.now) result.now ≡ take 6 (drop 8 nodes) }
     ensures single { list_all (λ rows. all_single rows.now) result.now ≡ true }
 {
-    NODES
+    EMPTY
+}
+
+const ENDS: &'static [Rows] = &[node::HEAD, node::LAST];
+
+/// The rows of the rules of the first tree and the last.
+pub fn ends_rows() -> &'static [Rows]
+    ensures patterns { map (λ rows. patterns_in rows.now) result.now ≡ drop 14 nodes }
+    ensures single { list_all (λ rows. all_single rows.now) result.now ≡ true }
+{
+    ENDS
 }
 
 const LENGTHS: &'static [Rows] = &[
@@ -223,30 +359,6 @@ pub fn lengths_rows() -> &'static [Rows]
     ensures single { list_all (λ rows. all_single rows.now) result.now ≡ true }
 {
     LENGTHS
-}
-
-const MONOTONY: &'static [Rows] = &[
-    monotone::MONO_STAR,
-    monotone::MONO_STAR_LEFT,
-    monotone::MONO_STAR_RIGHT,
-    monotone::MONO_PLUS,
-    monotone::MONO_PLUS_LEFT,
-    monotone::MONO_NODE,
-    monotone::MONO_TREE,
-    monotone::MONO_ROOT,
-    monotone::MONO_APP,
-    monotone::MONO_HOLE_ADJ,
-    monotone::MONO_CTX_ADJ,
-    monotone::PURE_OUT,
-    monotone::PURE_IN,
-];
-
-/// The rows of the rules of monotony.
-pub fn monotony_rows() -> &'static [Rows]
-    ensures patterns { map (λ rows. patterns_in rows.now) result.now ≡ monotony }
-    ensures single { list_all (λ rows. all_single rows.now) result.now ≡ true }
-{
-    MONOTONY
 }
 
 /// The rows of the rule that a term equals itself.
