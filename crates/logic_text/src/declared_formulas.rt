@@ -18,7 +18,7 @@ ghost use Rattle.logic_text.specs.DeclaredFormulas.{declared_vars, SpellsFormula
 use crate::formula_reading::formula;
 use crate::grove_reading::MOST_DEPTH;
 use declared_sorts::{Declared, Names, names_of, set_formula};
-use dom_terms::{Copied, LogicVar, LogicVars, OutOfMemory, ProgVar, Sort, ValueSort, Vars};
+use dom_terms::{Copied, LogicVar, LogicVars, OutOfMemory, ProgVar, Sort, ValueSort, Vars, with};
 use formula_syntax::{AnyVar, Formula};
 use std::alloc::Global;
 use text_tokens::{Front, Tokens};
@@ -98,6 +98,17 @@ fn set_declared(alloc: Global, formula: &mut Formula, vars: &[AnyVar]) -> Result
     set_among(alloc, formula, variables.as_slice(), logics.as_slice())
 }
 
+// The formula, each of whose variables has the sort of its declaration among these.
+fn with_sorts(alloc: Global, formula: Formula, vars: &[AnyVar]) -> Result<Formula, OutOfMemory>
+    ensures { IfOk result (λ p. formula_of p
+        ≡ sorted_formula (declared_vars vars.now) (formula_of formula)) }
+{
+    let mut formula = formula;
+    let are_set = set_declared(alloc, &mut formula, vars);
+    let (formula, ()) = with(formula, are_set)?;
+    Ok(formula)
+}
+
 // The formula that the tokens spell, all of them, with the sorts of the variables among these.
 fn formula_from(alloc: Global, tokens: Front, vars: &[AnyVar]) -> Result<Formula, TextFault>
     ensures found { IfOk result (λ p. SpellsFormulaWith (declared_vars vars.now) (formula_of p)
@@ -108,11 +119,7 @@ fn formula_from(alloc: Global, tokens: Front, vars: &[AnyVar]) -> Result<Formula
         → IfBadText result (IsFaultToken SpellsFormula (lexemes_in tokens.entry)) }
 {
     match whole_formula(alloc, tokens) {
-        Ok(found) => {
-            let mut formula = found;
-            set_declared(alloc, &mut formula, vars)?;
-            Ok(formula)
-        }
+        Ok(found) => Ok(with_sorts(alloc, found, vars)?),
         Err(fault) => Err(fault.of_whole(tokens.count())),
     }
 }
