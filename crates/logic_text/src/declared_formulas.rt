@@ -1,5 +1,5 @@
 // Whole lists of tokens as formulas, each variable with the sort of its declaration.
-ghost use Rattle.std.specs.Prelude.{◌≡◌, List, map, IfOk, OnOk};
+ghost use Rattle.std.specs.Prelude.{◌≡◌, ◌++◌, List, map, IfOk, OnOk};
 ghost use Rattle.model_formulas.specs.Formulas.{Named};
 ghost use Rattle.model_text.specs.Lexemes.{Lexeme};
 ghost use Rattle.model_text.specs.FaultTokens.{AreOfTokens, IsFaultToken};
@@ -13,7 +13,8 @@ ghost use Rattle.token_readers.specs.Giving.{Gives};
 ghost use Rattle.token_readers.specs.Leaves.{listed, lexemes_in};
 ghost use Rattle.token_readers.specs.Spelling.{whole};
 ghost use Rattle.logic_text.specs.FormulaReaders.{formula_at};
-ghost use Rattle.logic_text.specs.DeclaredFormulas.{declared_vars, SpellsFormulaWith};
+ghost use Rattle.logic_text.specs.DeclaredFormulas.{declared_vars, if_prog_var, if_logic_var};
+ghost use Rattle.logic_text.specs.DeclaredFormulas.{SpellsFormulaWith};
 
 use crate::formula_reading::formula;
 use crate::grove_reading::MOST_DEPTH;
@@ -38,6 +39,26 @@ fn whole_formula(alloc: Global, tokens: Front) -> Result<Formula, ReadFault>
     }
 }
 
+// Puts a copy of a program variable at the end of the first list, and of a logic variable at that of
+// the second.
+fn add_by_kind(
+    alloc: Global,
+    item: &AnyVar,
+    variables: &mut Vars,
+    logics: &mut LogicVars,
+) -> Result<(), OutOfMemory>
+    ensures variables { OnOk result (map prog_var_of variables.new
+        ≡ map prog_var_of variables.old ++ if_prog_var item.now) }
+    ensures logics { OnOk result (map logic_var_of logics.new
+        ≡ map logic_var_of logics.old ++ if_logic_var item.now) }
+{
+    match item {
+        AnyVar::Prog(variable) => variables.push(variable.copy(alloc)?)?,
+        AnyVar::Logic(variable) => logics.push(variable.copy(alloc)?)?,
+    }
+    Ok(())
+}
+
 // Copies of the program variables and of the logic variables.
 fn of_each_kind(alloc: Global, vars: &[AnyVar]) -> Result<(Vars, LogicVars), OutOfMemory>
     ensures { IfOk result (λ kinds. (map prog_var_of kinds.0 ≡ (declared_vars vars.now).variables)
@@ -46,10 +67,7 @@ fn of_each_kind(alloc: Global, vars: &[AnyVar]) -> Result<(Vars, LogicVars), Out
     let mut variables = Vars::new(alloc);
     let mut logics = LogicVars::new(alloc);
     for item in vars {
-        match item {
-            AnyVar::Prog(variable) => variables.push(variable.copy(alloc)?)?,
-            AnyVar::Logic(variable) => logics.push(variable.copy(alloc)?)?,
-        }
+        add_by_kind(alloc, item, &mut variables, &mut logics)?;
     }
     Ok((variables, logics))
 }
