@@ -7,3 +7,4 @@ pub mod Operators
 pub mod TermReaders
 pub mod FormulaReaders
 pub mod DeclaredFormulas
+pub mod Signs

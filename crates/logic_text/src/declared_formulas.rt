@@ -1,5 +1,5 @@
 // Whole lists of tokens as formulas, each variable with the sort of its declaration.
-ghost use Rattle.std.specs.Prelude.{◌≡◌, List, map, IfOk, OnOk};
+ghost use Rattle.std.specs.Prelude.{◌≡◌, ◌++◌, List, map, IfOk, OnOk};
 ghost use Rattle.model_formulas.specs.Formulas.{Named};
 ghost use Rattle.model_text.specs.Lexemes.{Lexeme};
 ghost use Rattle.model_text.specs.FaultTokens.{AreOfTokens, IsFaultToken};
@@ -13,12 +13,13 @@ ghost use Rattle.token_readers.specs.Giving.{Gives};
 ghost use Rattle.token_readers.specs.Leaves.{listed, lexemes_in};
 ghost use Rattle.token_readers.specs.Spelling.{whole};
 ghost use Rattle.logic_text.specs.FormulaReaders.{formula_at};
-ghost use Rattle.logic_text.specs.DeclaredFormulas.{declared_vars, SpellsFormulaWith};
+ghost use Rattle.logic_text.specs.DeclaredFormulas.{declared_vars, if_prog_var, if_logic_var};
+ghost use Rattle.logic_text.specs.DeclaredFormulas.{SpellsFormulaWith};
 
 use crate::formula_reading::formula;
 use crate::grove_reading::MOST_DEPTH;
 use declared_sorts::{Declared, Names, names_of, set_formula};
-use dom_terms::{Copied, LogicVar, LogicVars, OutOfMemory, ProgVar, Sort, ValueSort, Vars};
+use dom_terms::{Copied, LogicVar, LogicVars, OutOfMemory, ProgVar, Sort, ValueSort, Vars, with};
 use formula_syntax::{AnyVar, Formula};
 use std::alloc::Global;
 use text_tokens::{Front, Tokens};
@@ -38,6 +39,26 @@ fn whole_formula(alloc: Global, tokens: Front) -> Result<Formula, ReadFault>
     }
 }
 
+// Puts a copy of a program variable at the end of the first list, and of a logic variable at that of
+// the second.
+fn add_by_kind(
+    alloc: Global,
+    item: &AnyVar,
+    variables: &mut Vars,
+    logics: &mut LogicVars,
+) -> Result<(), OutOfMemory>
+    ensures variables { OnOk result (map prog_var_of variables.new
+        ≡ map prog_var_of variables.old ++ if_prog_var item.now) }
+    ensures logics { OnOk result (map logic_var_of logics.new
+        ≡ map logic_var_of logics.old ++ if_logic_var item.now) }
+{
+    match item {
+        AnyVar::Prog(variable) => variables.push(variable.copy(alloc)?)?,
+        AnyVar::Logic(variable) => logics.push(variable.copy(alloc)?)?,
+    }
+    Ok(())
+}
+
 // Copies of the program variables and of the logic variables.
 fn of_each_kind(alloc: Global, vars: &[AnyVar]) -> Result<(Vars, LogicVars), OutOfMemory>
     ensures { IfOk result (λ kinds. (map prog_var_of kinds.0 ≡ (declared_vars vars.now).variables)
@@ -46,10 +67,7 @@ fn of_each_kind(alloc: Global, vars: &[AnyVar]) -> Result<(Vars, LogicVars), Out
     let mut variables = Vars::new(alloc);
     let mut logics = LogicVars::new(alloc);
     for item in vars {
-        match item {
-            AnyVar::Prog(variable) => variables.push(variable.copy(alloc)?)?,
-            AnyVar::Logic(variable) => logics.push(variable.copy(alloc)?)?,
-        }
+        add_by_kind(alloc, item, &mut variables, &mut logics)?;
     }
     Ok((variables, logics))
 }
@@ -98,6 +116,17 @@ fn set_declared(alloc: Global, formula: &mut Formula, vars: &[AnyVar]) -> Result
     set_among(alloc, formula, variables.as_slice(), logics.as_slice())
 }
 
+// The formula, each of whose variables has the sort of its declaration among these.
+fn with_sorts(alloc: Global, formula: Formula, vars: &[AnyVar]) -> Result<Formula, OutOfMemory>
+    ensures { IfOk result (λ p. formula_of p
+        ≡ sorted_formula (declared_vars vars.now) (formula_of formula)) }
+{
+    let mut formula = formula;
+    let are_set = set_declared(alloc, &mut formula, vars);
+    let (formula, ()) = with(formula, are_set)?;
+    Ok(formula)
+}
+
 // The formula that the tokens spell, all of them, with the sorts of the variables among these.
 fn formula_from(alloc: Global, tokens: Front, vars: &[AnyVar]) -> Result<Formula, TextFault>
     ensures found { IfOk result (λ p. SpellsFormulaWith (declared_vars vars.now) (formula_of p)
@@ -108,11 +137,7 @@ fn formula_from(alloc: Global, tokens: Front, vars: &[AnyVar]) -> Result<Formula
         → IfBadText result (IsFaultToken SpellsFormula (lexemes_in tokens.entry)) }
 {
     match whole_formula(alloc, tokens) {
-        Ok(found) => {
-            let mut formula = found;
-            set_declared(alloc, &mut formula, vars)?;
-            Ok(formula)
-        }
+        Ok(found) => Ok(with_sorts(alloc, found, vars)?),
         Err(fault) => Err(fault.of_whole(tokens.count())),
     }
 }

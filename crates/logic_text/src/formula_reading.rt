@@ -1,8 +1,11 @@
 // Formulas from tokens.
 ghost use Rattle.std.specs.Prelude.{◌≡◌, suc, ◌∷◌, drop, codes};
-ghost use Rattle.model_formulas.specs.Formulas.{negation, existential, universal, one_tree, one_root, length_is};
+ghost use Rattle.model_formulas.specs.Formulas.{negation, existential, universal, one_tree, one_root};
+ghost use Rattle.model_formulas.specs.Formulas.{length_is, value_meets};
+ghost use Rattle.model_terms.specs.Variables.{var_sort};
+ghost use Rattle.model_terms.specs.Terms.{variable as as_term};
 ghost use Rattle.model_grammar.specs.Terms.{used_logic, in_formula};
-ghost use Rattle.dom_terms.specs.Terms.{term_of};
+ghost use Rattle.dom_terms.specs.Terms.{logic_var_of, term_of};
 ghost use Rattle.formula_syntax.specs.Formulas.{formula_of};
 ghost use Rattle.token_readers.specs.Reading.{ret, begins, then, expect, leaf};
 ghost use Rattle.token_readers.specs.Giving.{Gives};
@@ -103,6 +106,26 @@ fn connected(
     Ok(())
 }
 
+// What stands behind an open bracket, a logic variable and the word for what it meets.
+#[cycle(part)]
+fn met(
+    alloc: Global,
+    depth: u32,
+    variable: LogicVar,
+    tokens: &mut Front,
+    target: &mut Formula,
+) -> Result<(), ReadFault>
+    ensures { Gives (λ _. (formula_of target.new, lexemes_in tokens.new)) result
+        (then (formula_at depth) (λ p. expect (codes ")")
+        (ret (value_meets (var_sort (logic_var_of variable)) (as_term (logic_var_of variable)) p)))
+        (lexemes_in tokens.old)) }
+{
+    let parts = with(variable, part(alloc, depth, tokens))?;
+    let (variable, inner) = followed_by(parts, tokens, ")")?;
+    put(target, Formula::Is(variable, inner));
+    Ok(())
+}
+
 // What stands behind an open bracket and a formula.
 #[cycle(part)]
 fn connected_or_is(
@@ -117,13 +140,9 @@ fn connected_or_is(
 {
     if let Formula::Var(variable) = &*left {
         if skip(tokens, "is") {
-            let name = variable.name.copy(alloc);
-            let sort = variable.sort;
+            let variable = variable.copy(alloc);
             drop(left);
-            let name = name?;
-            let inner = followed_by(part(alloc, depth, tokens)?, tokens, ")")?;
-            put(target, Formula::Is(LogicVar { name, sort }, inner));
-            return Ok(());
+            return met(alloc, depth, variable?, tokens, target);
         }
     }
     connected(alloc, depth, left, tokens, target)

@@ -9,6 +9,7 @@ ghost use Rattle.model_grammar.specs.Writing as words;
 ghost use Rattle.dom_terms.specs.Sorts.{data_sort_of};
 ghost use Rattle.dom_terms.specs.Terms.{logic_var_of, term_of};
 ghost use Rattle.formula_syntax.specs.Formulas.{side_of, formula_of};
+ghost use Rattle.logic_text.specs.Signs.{sign_of};
 
 use crate::term_writing::push_term;
 use crate::tokens::{push_token, without_space};
@@ -57,6 +58,33 @@ fn star_sign(side: Side) -> &'static str
         Side::Whole => "*",
         Side::HoleLeft => ".*",
         Side::HoleRight => "*.",
+    }
+}
+
+// The word or the sign of a formula, which stands alone, before a variable or between two parts.
+fn sign(formula: &Formula) -> &'static str
+    ensures { terminal result.now ∷ [] ≡ sign_of (formula_of formula.now) }
+{
+    match formula {
+        Formula::True => "true",
+        Formula::False => "false",
+        Formula::EmptyForest => "0f",
+        Formula::EmptyGrove => "0g",
+        Formula::Hole(sort) => hole_sign(*sort),
+        Formula::Exists(_, _) => "exists",
+        Formula::Forall(_, _) => "forall",
+        Formula::Eq(_, _) => "=",
+        Formula::Le(_, _) => "<=",
+        Formula::And(_, _) => "and",
+        Formula::Or(_, _) => "or",
+        Formula::Imp(_, _) => "->",
+        Formula::Join(side, _, _) => star_sign(*side),
+        Formula::Plus(_, _) => "+",
+        Formula::PlusHole(_, _) => ".+",
+        Formula::App(sort, _, _) => at_sign(*sort),
+        Formula::HoleAdj(_, _) => "-o",
+        Formula::CtxAdj(sort, _, _) => into_sign(*sort),
+        _ => "",
     }
 }
 
@@ -207,38 +235,32 @@ pub fn push_formula(alloc: Global, text: &mut Text, formula: &Formula) -> Result
         (text.new ≡ text.old ++ spaced (formula_lexemes (formula_of formula.now))) }
 {
     match formula {
-        Formula::True => push_token(alloc, text, "true"),
-        Formula::False => push_token(alloc, text, "false"),
-        Formula::And(left, right) => push_joined(alloc, text, left, "and", right),
-        Formula::Or(left, right) => push_joined(alloc, text, left, "or", right),
-        Formula::Imp(left, right) => push_joined(alloc, text, left, "->", right),
+        Formula::True
+        | Formula::False
+        | Formula::EmptyForest
+        | Formula::EmptyGrove
+        | Formula::Hole(_) => push_token(alloc, text, sign(formula)),
+        Formula::And(left, right)
+        | Formula::Or(left, right)
+        | Formula::Imp(left, right)
+        | Formula::Join(_, left, right)
+        | Formula::Plus(left, right)
+        | Formula::PlusHole(left, right)
+        | Formula::App(_, left, right)
+        | Formula::HoleAdj(left, right)
+        | Formula::CtxAdj(_, left, right) => push_joined(alloc, text, left, sign(formula), right),
+        Formula::Exists(variable, inner) | Formula::Forall(variable, inner) => {
+            push_quantified(alloc, text, sign(formula), variable, inner)
+        }
+        Formula::Eq(left, right) | Formula::Le(left, right) => {
+            push_compared(alloc, text, left, sign(formula), right)
+        }
         Formula::Not(inner) => push_negated(alloc, text, inner),
-        Formula::Exists(variable, inner) => {
-            push_quantified(alloc, text, "exists", variable, inner)
-        }
-        Formula::Forall(variable, inner) => {
-            push_quantified(alloc, text, "forall", variable, inner)
-        }
-        Formula::Eq(left, right) => push_compared(alloc, text, left, "=", right),
-        Formula::Le(left, right) => push_compared(alloc, text, left, "<=", right),
-        Formula::EmptyForest => push_token(alloc, text, "0f"),
-        Formula::EmptyGrove => push_token(alloc, text, "0g"),
-        Formula::Hole(sort) => push_token(alloc, text, hole_sign(*sort)),
         Formula::Node(name, number, children, list) => {
             push_node(alloc, text, name, number, children, list)
         }
         Formula::One(inner) => push_between(alloc, text, "<", inner, ">"),
         Formula::Root(inner) => push_between(alloc, text, "[", inner, "]"),
-        Formula::Join(side, left, right) => {
-            push_joined(alloc, text, left, star_sign(*side), right)
-        }
-        Formula::Plus(left, right) => push_joined(alloc, text, left, "+", right),
-        Formula::PlusHole(left, right) => push_joined(alloc, text, left, ".+", right),
-        Formula::App(sort, left, right) => { push_joined(alloc, text, left, at_sign(*sort), right) }
-        Formula::HoleAdj(left, right) => push_joined(alloc, text, left, "-o", right),
-        Formula::CtxAdj(sort, left, right) => {
-            push_joined(alloc, text, left, into_sign(*sort), right)
-        }
         Formula::Var(variable) => push_token(alloc, text, variable.name.as_str()),
         Formula::Len(length) => push_length(alloc, text, length),
         Formula::Is(variable, inner) => push_met(alloc, text, variable, inner),

@@ -10,13 +10,13 @@ of_whole-requires c =
     fault_within formula_at SpellsFormula ends_formula refl formula_sound formula_only
     128 _ _ c.in-Err.ensures _ (sym c.count.ensures)
 
-pub returns-in_ok-set_declared-in-Ok-clause-found :
-    goal.returns-in_ok-set_declared-in-Ok-clause-found
-returns-in_ok-set_declared-in-Ok-clause-found c = record {
+pub returns-in_ok-with_sorts-in-Ok-clause-found :
+    goal.returns-in_ok-with_sorts-in-Ok-clause-found
+returns-in_ok-with_sorts-in-Ok-clause-found c = record {
   raw = _;
   spelled = whole_found formula_at SpellsFormula ends_formula refl formula_sound formula_only
       128 _ _ c.in-Ok.ensures;
-  sorted = c.in_ok-set_declared-in-Ok.ensures;
+  sorted = c.in_ok-with_sorts-in-Ok.ensures;
 }
 
 pub returns-in-Err-clause-bad_text : goal.returns-in-Err-clause-bad_text

@@ -14,6 +14,9 @@ decreases-quantified l = 8 * l.depth + 2
 abbrev pub decreases-connected : goal.decreases-connected
 decreases-connected l = 8 * l.depth + 2
 
+abbrev pub decreases-met : goal.decreases-met
+decreases-met l = 8 * l.depth + 2
+
 abbrev pub decreases-connected_or_is : goal.decreases-connected_or_is
 decreases-connected_or_is l = 8 * l.depth + 3
 
