@@ -1,5 +1,5 @@
--- Needn't be believed: it serves the contracts of private functions. The sorts of the two parts of a
--- formula that is judged at a sort; of one with one part, the first of them.
+-- Needn't be believed: it serves the contracts of private functions. The sorts of the two parts of
+-- a formula that is judged at a sort; of one with one part, the first of them.
 use Rattle.model_shapes.specs.Sorts.{Sort, shape, context, tree, grove, inner, outer, with_outer}
 use Rattle.model_formulas.specs.Formulas.{Named, one_tree, one_root, concatenation, grove_sum_hole, application, hole_adjoint, context_adjoint, left_sort, right_sort}
 

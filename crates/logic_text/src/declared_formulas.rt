@@ -39,8 +39,8 @@ fn whole_formula(alloc: Global, tokens: Front) -> Result<Formula, ReadFault>
     }
 }
 
-// Puts a copy of a program variable at the end of the first list, and of a logic variable at that of
-// the second.
+// Puts a copy of a program variable at the end of the first list, and of a logic variable at that
+// of the second.
 fn add_by_kind(
     alloc: Global,
     item: &AnyVar,
