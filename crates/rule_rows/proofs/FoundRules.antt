@@ -1,5 +1,5 @@
 -- The rule of a name, as the table of names is searched.
-use Rattle.std.proofs.Common.{◌≡◌, refl, sym, ap, ◌∙◌, Bool, true, false, ◌||◌, cond, bytes_eq, List, [], ◌∷◌, map, find, is_some, Option, Some, None}
+use Rattle.std.proofs.Common.{◌≡◌, refl, ap, ◌∙◌, Bool, true, false, ◌||◌, cond, bytes_eq, List, [], ◌∷◌, map, find, is_some, Option, Some}
 use Rattle.std.specs.Option.{option_map}
 use Rattle.std.specs.List.{list_any, list_all}
 use Rattle.std.proofs.lemmas.Slice.Eq.{bytes_eq-Decides}
