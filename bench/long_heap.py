@@ -7,7 +7,7 @@
 calls the heap. (It isn't named .rt, since the gate takes each .rt file as a part of a crate.) Where no
 PROGRAM is given it is proved and built first, by `rt` alone, in a repository that is thrown away: a copy
 of the crates that the heap stands on, with what is built of them here. What isn't is proved anew: with
-nothing built that takes half an hour. The program is kept as out/long_heap, to be given the next time.
+nothing built that takes an hour or less. The program is kept as out/long_heap, to be given the next time.
 
 A row is node 1 with all the others as its children. A chain is nodes that are each the only child of the
 one made next: each comes below a root, so that no walk to the root is long while it is made. It is
