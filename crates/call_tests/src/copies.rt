@@ -4,7 +4,8 @@ use crate::groves::{document, leaf};
 use crate::terms::integer;
 use context_apply::{Piece, cut_at};
 use dom_meaning::{Config, FaultKind, Outcome, Pending, Pieces};
-use dom_terms::{Cond, Copied, DataSort, List, Sort, Store, Text, Value, Values, with};
+use dom_terms::{Cond, Copied, DataSort, List, Sort, Store, Text, Value, Values, Verdict, with};
+use fault_report::Report;
 use formula_syntax::{AnyVar, Entailment, Formula, Pair};
 use heap_runner::HeapOutcome;
 use logic_text::read_grove;
@@ -170,4 +171,25 @@ fn requests_are_copied(rt: HostRuntime) -> Result<(), Fail> {
         arguments,
     };
     check_copy(&rt, alloc, run)
+}
+
+#[test]
+fn reports_are_copied(rt: HostRuntime) -> Result<(), Fail> {
+    let alloc = rt.alloc();
+    let (procedure, rule) = (Text::from_str(alloc, "f")?, Text::from_str(alloc, "seq")?);
+    let failure = Report::StepFails {
+        step: 3,
+        procedure,
+        line: 7,
+        rule,
+        verdict: Verdict::Shape,
+    };
+    check_copy(&rt, alloc, failure)?;
+    let command = assigning(alloc)?;
+    let fault = Report::Faulted {
+        kind: FaultKind::SelfRef,
+        steps: 2,
+        command,
+    };
+    check_copy(&rt, alloc, fault)
 }

@@ -6,9 +6,7 @@ ghost use Rattle.model_documents.specs.Roots.{Rising};
 ghost use Rattle.grove_data.specs.Trees.{tree_of, forest_of};
 
 use dom_terms::{List, OutOfMemory, Text, with};
-use grove_data::{
-    Forest, Grove, Tree, find, find_list, moved_below, moved_to_roots, parent_of, same_sorted,
-};
+use grove_data::{Forest, Grove, Tree, find_list, parent_of, same_sorted, sort_roots};
 use std::alloc::Global;
 use std::process::Abort;
 use std::test::Fail;
@@ -75,22 +73,22 @@ fn sorted_groves_are_compared(rt: HostRuntime) -> Result<(), Fail> {
     Ok(())
 }
 
-// How many roots the grove has with its node 3 moved below the node 2, with it moved to the roots,
-// and as it is.
-fn roots_of_moves(alloc: Global, grove: &Grove) -> Result<(usize, usize, usize), Fail>
-    requires { WellFormed (forest_of grove.now) }
+// two roots, the one with the greater number first
+fn falling(alloc: Global) -> Result<Grove, OutOfMemory>
+    ensures { IfOk result (λ grove. WellFormed (forest_of grove)) }
 {
-    let child = find(grove, 3).ok_or("no node")?;
-    let below = moved_below(alloc, grove, child, 2)?.len();
-    let beside = moved_to_roots(alloc, grove, child)?.len();
-    Ok((below, beside, grove.len()))
+    let mut grove = List::new(alloc);
+    grove.push(tree(alloc, "a", 2, List::new(alloc))?)?;
+    grove.push(tree(alloc, "b", 1, List::new(alloc))?)?;
+    Ok(grove)
 }
 
 #[test]
-fn a_tree_is_moved_in_a_copy(rt: HostRuntime) -> Result<(), Fail> {
-    let grove = document(rt.alloc())?;
-    let counts = roots_of_moves(rt.alloc(), &grove);
+fn roots_are_sorted(rt: HostRuntime) -> Result<(), Fail> {
+    let mut grove = falling(rt.alloc())?;
+    let answer = sort_roots(&mut grove);
+    let first = grove.get(0).map(|root| root.id);
     drop(grove);
-    assert_eq!(rt; counts?, (1, 2, 1));
+    assert_eq!(rt; (answer, first), (Ok(()), Some(1)));
     Ok(())
 }

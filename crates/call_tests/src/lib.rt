@@ -20,6 +20,8 @@ mod groves;
 #[cfg(test)]
 mod heaps;
 #[cfg(test)]
+mod runs;
+#[cfg(test)]
 mod terms;
 #[cfg(test)]
 mod texts;

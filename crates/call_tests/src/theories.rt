@@ -1,7 +1,9 @@
 // Calls on theories, commands and conditions that the program doesn't make.
-ghost use Rattle.std.specs.Prelude.{◌≤◌, length, IfOk};
+ghost use Rattle.std.specs.Prelude.{◌≡◌, ◌≤◌, true, length, IfOk};
+ghost use Rattle.model_commands.specs.Theories.{auto};
+ghost use Rattle.model_files.specs.FileFaults.{judgement_sorted};
 ghost use Rattle.model_files.specs.Sizes.{JudgementIsSmall, TheoryIsSmall};
-ghost use Rattle.theory_syntax.specs.Judgements.{judgement_of};
+ghost use Rattle.theory_syntax.specs.Judgements.{judgement_of, reason_of};
 ghost use Rattle.theory_syntax.specs.Theories.{theory_of};
 
 use dom_syntax::{
@@ -10,10 +12,10 @@ use dom_syntax::{
 };
 use dom_terms::{
     Cond, DataSort, LogicVars, Numbers, OutOfMemory, ProgVar, Sort, Store, Term, Terms, Text,
-    ValueSort, Vars, holds, with,
+    ValueSort, Vars, Verdict, holds, with,
 };
 use formula_syntax::{Entailment, Formula};
-use hoare_kernel::{Accepted, check_theory};
+use hoare_kernel::{Accepted, check_step, check_theory};
 use proof_text::read_theory;
 use std::alloc::Global;
 use std::process::Abort;
@@ -97,11 +99,13 @@ fn a_step_is_tested_by_itself(rt: HostRuntime) -> Result<(), Fail> {
     answer
 }
 
-// A step by the rule for doing nothing.
-fn skip_step(alloc: Global) -> Result<Step, OutOfMemory>
-    ensures { IfOk result (λ s. JudgementIsSmall (judgement_of s.judgement)) }
+// A step whose command does nothing, by the rule of that name.
+fn skip_step(alloc: Global, rule: &str) -> Result<Step, OutOfMemory>
+    ensures small { IfOk result (λ s. JudgementIsSmall (judgement_of s.judgement)) }
+    ensures sorted { IfOk result (λ s. judgement_sorted (judgement_of s.judgement) ≡ true) }
+    ensures reason { IfOk result (λ s. reason_of s.reason ≡ auto → ⊥) }
 {
-    let name = Text::from_str(alloc, "skip")?;
+    let name = Text::from_str(alloc, rule)?;
     let reason = Reason::Rule {
         name,
         premises: Numbers::new(alloc),
@@ -128,7 +132,7 @@ fn idle_theory(alloc: Global) -> Result<Theory, OutOfMemory>
     ensures { IfOk result (λ t. TheoryIsSmall (theory_of t)) }
 {
     let mut proof = Steps::new(alloc);
-    proof.push(skip_step(alloc)?)?;
+    proof.push(skip_step(alloc, "skip")?)?;
     let mut procedures = Procedures::new(alloc);
     let (proof, name) = with(proof, Text::from_str(alloc, "idle"))?;
     procedures.push(Procedure {
@@ -148,7 +152,18 @@ fn idle_theory(alloc: Global) -> Result<Theory, OutOfMemory>
     })
 }
 
-// Checks that the theory is one that the program may check, and is accepted.
+// The verdict on that step by the rule of that name.
+fn verdict_by(alloc: Global, theory: &Theory, rule: &str) -> Result<Verdict, OutOfMemory>
+    requires { TheoryIsSmall (theory_of theory.now) }
+{
+    let step = skip_step(alloc, rule)?;
+    let verdict = check_step(alloc, theory, &[], &step);
+    drop(step);
+    verdict
+}
+
+// Checks that the theory is one that the program may check, and is accepted; and that a step is an
+// instance of its rule, and of no other.
 fn check_accepted(rt: &impl Abort, alloc: Global, theory: &Theory) -> Result<(), Fail>
     requires { TheoryIsSmall (theory_of theory.now) }
 {
@@ -158,6 +173,8 @@ fn check_accepted(rt: &impl Abort, alloc: Global, theory: &Theory) -> Result<(),
         steps: 1,
     };
     assert_eq!(rt; check_theory(alloc, theory), Ok(counts));
+    assert_eq!(rt; verdict_by(alloc, theory, "skip"), Ok(Verdict::Instance));
+    assert_eq!(rt; verdict_by(alloc, theory, "assign"), Ok(Verdict::Shape));
     Ok(())
 }
 

@@ -1,5 +1,5 @@
--- The earlier steps of a proof: as the definitions have them, and what is asked of them where one
--- is cited.
+-- Needn't be believed: the program's promise doesn't speak of it. The earlier steps of a proof: as
+-- the definitions have them, and what is asked of them where one is cited.
 use Rattle.std.specs.Prelude.{◌≡◌, ℕ, ◌+◌, ◌==◌, Bool, true, ◌&&◌, cond, List, [], ◌∷◌, Option, Some, None, map}
 use Rattle.model_formulas.specs.Formulas.{Named}
 use Rattle.model_commands.specs.Theories as model

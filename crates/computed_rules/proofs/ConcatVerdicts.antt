@@ -5,12 +5,12 @@ use Rattle.model_shapes.proofs.Tests.{nat-is, nat-refl}
 use Rattle.model_shapes.specs.Sorts.{Sort, value, str_sort}
 use Rattle.model_terms.specs.Terms.{Term}
 use Rattle.model_terms.specs.TermSorts.{has_sort}
-use Rattle.model_terms.specs.VariableTests.{decided, same_var-is, same_var-refl}
+use Rattle.model_terms.specs.VariableTests.{decided_by, same_var-is, same_var-refl}
 use Rattle.model_formulas.specs.Formulas.{Formula, equality}
 use Rattle.model_commands.specs.Theories.{Judgement, entails}
 use Rattle.rule_table.specs.Letters.{Letters}
 use Rattle.rule_table.specs.Conditions.{TermAt, of_sort, same_texts}
-use Rattle.rule_table.specs.Equations as Te
+use Rattle.rule_table.specs.Entailments as Te
 use Rattle.rule_table.specs.Texts.{Piece, character, text_of_variable, pieces}
 use Rattle.rule_table.specs.Verdicts.{Concludes, IsVerdict, instance_verdict, side_verdict, shape_verdict}
 use Rattle.rule_table.specs.Conditions.{texts_side}
@@ -71,7 +71,7 @@ module _ (p : Formula) (a b : Term) (s : Sort) where
       (of_sort (value str_sort) a ∷ of_sort (value str_sort) b ∷ [])
       (entails p (equality a b) s) refl (same_texts a b)
       (concat_line (Some []) p (equality a b) s a b refl ta tb)
-      (decided (same_pieces (pieces a) (pieces b)) (same_pieces-is (pieces a) (pieces b))
+      (decided_by (same_pieces (pieces a) (pieces b)) (same_pieces-is (pieces a) (pieces b))
       (same_pieces-not (pieces a) (pieces b))))
 
   unsorted : (TermAt (value str_sort) a × TermAt (value str_sort) b → ⊥)

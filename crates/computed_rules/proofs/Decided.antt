@@ -2,7 +2,7 @@
 use Rattle.std.proofs.Common.{◌≡◌, refl, sym, subst, List, [], ◌∷◌, Some, Bool, true, false, cond, Result, Ok, Err, IfOk}
 use Rattle.model_terms.specs.Terms.{Term}
 use Rattle.model_commands.specs.Theories.{Judgement}
-use Rattle.model_terms.specs.VariableTests.{decided}
+use Rattle.model_terms.specs.VariableTests.{decided_by}
 use Rattle.rule_table.specs.Lines.{Line}
 use Rattle.rule_table.specs.Entries.{Row}
 use Rattle.rule_table.specs.Conditions.{Requirement, Condition, Holds, side_of}
@@ -27,7 +27,7 @@ says-test true = refl
 says-test false = refl
 
 pub says-decided : {A : Type 0} (b : Bool) (f : b ≡ true → A) (g : b ≡ false → A → ⊥)
-    → says (decided b f g) ≡ b
+    → says (decided_by b f g) ≡ b
 says-decided true f g = refl
 says-decided false f g = refl
 

@@ -6,8 +6,8 @@ use Rattle.model_formulas.specs.Formulas.{equality, falsity}
 use Rattle.model_commands.specs.Theories.{Judgement, entails}
 use Rattle.rule_table.specs.Letters.{Letters}
 use Rattle.rule_table.specs.Conditions.{tested, literal_side}
-use Rattle.rule_table.specs.Equations as Te
-use Rattle.rule_table.specs.Equations.{different_literals}
+use Rattle.rule_table.specs.Entailments as Te
+use Rattle.rule_table.specs.Entailments.{different_literals}
 use Rattle.rule_table.specs.Verdicts.{Concludes, IsVerdict, instance_verdict, side_verdict}
 use Rattle.rule_table.proofs.SomeLetters.{readings_of, a_step}
 use Rattle.rule_table.proofs.Decisions.{test_holds}

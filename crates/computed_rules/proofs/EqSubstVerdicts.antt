@@ -6,7 +6,7 @@ use Rattle.model_terms.specs.Terms.{Term}
 use Rattle.model_formulas.specs.Formulas.{Formula, conjunction, equality}
 use Rattle.model_commands.specs.Theories.{Judgement, entails}
 use Rattle.rule_table.specs.Letters.{Letters}
-use Rattle.rule_table.specs.Equations as Te
+use Rattle.rule_table.specs.Entailments as Te
 use Rattle.rule_table.specs.Verdicts.{Concludes, IsVerdict, instance_verdict, shape_verdict}
 use Rattle.rule_table.proofs.Replaced.{replaced}
 use Rattle.rule_table.proofs.SomeLetters.{readings_of, a_step}

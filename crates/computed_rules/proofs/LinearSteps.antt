@@ -11,7 +11,7 @@ use Rattle.model_commands.specs.Theories.{Judgement, entails, triple}
 use Rattle.rule_table.specs.Letters.{Letters}
 use Rattle.rule_table.specs.Conditions.{TermAt, tested, coefficient_side, sum_side}
 use Rattle.rule_table.specs.Entries.{Row}
-use Rattle.rule_table.specs.Equations as Te
+use Rattle.rule_table.specs.Entailments as Te
 use Rattle.rule_table.specs.Linear as model
 use Rattle.rule_table.specs.Linear.{Weighed, comparisons, numbers, rest, at_least_zero, is_zero, below_zero}
 use Rattle.rule_table.specs.Lines.{Line}

@@ -1,4 +1,5 @@
--- Needn't be believed. A term that takes the place of another one, as they stand below no binder.
+-- Needn't be believed: the program's promise doesn't speak of it. A term that takes the place of
+-- another one, as they stand below no binder.
 use Rattle.model_terms.specs.Terms as model
 use Rattle.model_formulas.specs.Nameless.{naming}
 use Rattle.dom_terms.specs.Terms.{term_of}

@@ -5,7 +5,7 @@ use Rattle.model_terms.specs.Terms.{Term, literal}
 use Rattle.model_formulas.specs.Formulas.{Formula, conjunction, equality, falsity}
 use Rattle.model_commands.specs.Theories.{Judgement, entails}
 use Rattle.rule_table.specs.Conditions.{literal_side}
-use Rattle.rule_table.specs.Equations.{different_literals}
+use Rattle.rule_table.specs.Entailments.{different_literals}
 use Rattle.rule_table.proofs.Replaced.{replaced}
 use Rattle.rule_table.specs.Verdicts.{Verdict, instance_verdict, shape_verdict, side_verdict}
 

@@ -1,5 +1,6 @@
--- Needn't be believed. The linear forms of the definitions that those of the program stand for: how
--- often the integer variables count, and what is left without them.
+-- Needn't be believed: the program's promise doesn't speak of it. The linear forms of the
+-- definitions that those of the program stand for: how often the integer variables count, and what
+-- is left without them.
 use Rattle.std.specs.Prelude.{◌≡◌, ◌+ℤ◌, ◌&&◌, ℤ, pos, ℕ, List, Bool, true, unwrap_or, bytes_eq}
 use Rattle.indexmap.specs.IndexMap.{get_by}
 use Rattle.model_shapes.specs.Sorts.{value, int_sort}

@@ -1,4 +1,5 @@
--- Needn't be believed. What is left of a text, as a walk goes through its pieces.
+-- Needn't be believed: the program's promise doesn't speak of it. What is left of a text, as a walk
+-- goes through its pieces.
 use Rattle.std.specs.Prelude.{List, [], ◌∷◌, ◌++◌}
 use Rattle.std.specs.List.{flat_map}
 use Rattle.rule_table.specs.Texts as model

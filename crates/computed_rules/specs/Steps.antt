@@ -1,4 +1,5 @@
--- What is written at a step that cites no other one.
+-- Needn't be believed: the program's promise doesn't speak of it. What is written at a step that
+-- cites no other one.
 use Rattle.std.specs.Prelude.{List, [], Some}
 use Rattle.model_terms.specs.Terms.{Term}
 use Rattle.model_formulas.specs.Nameless.{nameless}

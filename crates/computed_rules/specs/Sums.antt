@@ -1,5 +1,5 @@
--- Needn't be believed. The comparisons of the definitions that those of the program stand for, and
--- whether their variables cancel.
+-- Needn't be believed: the program's promise doesn't speak of it. The comparisons of the
+-- definitions that those of the program stand for, and whether their variables cancel.
 use Rattle.std.specs.Prelude.{◌&&◌, List, Bool}
 use Rattle.std.specs.List.{list_all}
 use Rattle.dom_terms.specs.Terms.{term_of}

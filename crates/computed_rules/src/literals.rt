@@ -1,6 +1,6 @@
 // The rule that two different literals are not equal.
 ghost use Rattle.std.specs.Prelude.{◌≡◌, codes, map};
-ghost use Rattle.rule_table.specs.Equations.{different_literals};
+ghost use Rattle.rule_table.specs.Entailments.{different_literals};
 ghost use Rattle.rule_table.specs.Table.{entailments};
 ghost use Rattle.rule_table.specs.Verdicts.{IsVerdict, readings_in};
 ghost use Rattle.dom_terms.specs.Terms.{term_of};

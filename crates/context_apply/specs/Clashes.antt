@@ -1,5 +1,6 @@
--- When plugging and composing are refused: where a number of one kind occurs twice. Trees, forests
--- and groves with such a number aren't well formed. Want of memory is free.
+-- Needn't be believed: the program's promise doesn't speak of it. When plugging and composing are
+-- refused: where a number of one kind occurs twice. Trees, forests and groves with such a number
+-- aren't well formed. Want of memory is free.
 use Rattle.std.specs.Prelude.{◌≡◌, ℕ, ◌≤◌, ◌⊎◌, Result, Ok, Err}
 use Rattle.model_shapes.specs.Trees.{Trees, node_uses, list_uses, WellFormed}
 use Rattle.context_apply.specs.declared.faults.PlugFault.{PlugFault}

@@ -1,5 +1,6 @@
--- The contexts of POPL 2005 by construction that the contexts of the program stand for; the plain
--- data, with its hole, that each context and each piece is; and their sorts.
+-- Needn't be believed: the program's promise doesn't speak of it. The contexts of POPL 2005 by
+-- construction that the contexts of the program stand for; the plain data, with its hole, that each
+-- context and each piece is; and their sorts.
 use Rattle.std.specs.Prelude.{Option, Some, None}
 use Rattle.model_shapes.specs.Sorts.{DataSort, tree, forest, grove, Sort, shape, context}
 use Rattle.model_shapes.specs.Trees.{Trees}

@@ -1,5 +1,6 @@
--- A tree that is cut out of a grove, with the context that it leaves, as POPL 2005 has a grove
--- split into a context and what stands in its hole.
+-- Needn't be believed: the program's promise doesn't speak of it. A tree that is cut out of a
+-- grove, with the context that it leaves, as POPL 2005 has a grove split into a context and what
+-- stands in its hole.
 use Rattle.std.specs.Prelude.{◌≡◌, ℕ}
 use Rattle.model_shapes.specs.Sorts.{tree, grove}
 use Rattle.model_shapes.specs.Trees.{Trees, fill}

@@ -4,7 +4,7 @@ use Rattle.std.proofs.lemmas.Grind.{flat_map-append}
 use Rattle.std.specs.List.{flat_map}
 use Rattle.model_formulas.specs.Formulas.{Named}
 use Rattle.model_terms.specs.Stores.{ProgVar}
-use Rattle.model_commands.specs.Commands.{Command, skip, block, assign, create_node, node_name, child_nodes, parent_node, list_item, append_child, remove_child, if_else, while_do, local, call, Block, stop, ◌then◌}
+use Rattle.model_commands.specs.Commands.{Command, skip, block, assign, create_node, node_name, child_nodes, parent_node, list_item, append_child, remove_child, insert_before, if_else, while_do, local, call, Block, stop, ◌then◌}
 use Rattle.model_commands.specs.CommandParts.{commands_in, commands_of, locals, locals_of}
 use Rattle.model_commands.specs.Theories.{ProcedureOf, StepOf}
 use Rattle.model_grammar.specs.Sorts.{Declared, sorted_block, sorted_command}
@@ -23,6 +23,7 @@ module _ (d : Declared) where
     locals_stay (list_item x e f) = refl
     locals_stay (append_child e f) = refl
     locals_stay (remove_child e f) = refl
+    locals_stay (insert_before e f g) = refl
     locals_stay (if_else c a b) =
         flat_map-append locals (commands_of (sorted_block d a)) (commands_of (sorted_block d b))
         ∙ (λ j. block_locals_stay a j ++ block_locals_stay b j)

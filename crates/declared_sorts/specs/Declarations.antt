@@ -1,4 +1,5 @@
--- What is declared, as the program holds it.
+-- Needn't be believed: the program's promise doesn't speak of it. What is declared, as the program
+-- holds it.
 use Rattle.std.specs.Prelude.{List, ◌++◌, map}
 use Rattle.model_terms.specs.Variables.{Var}
 use Rattle.model_terms.specs.Stores.{as_var}

@@ -48,6 +48,7 @@ impl Sorted for Command {
             Command::Item(x, list, place) => set_item(x, list, place, declared),
             Command::Append(parent, child) => set_terms(parent, child, declared),
             Command::Remove(parent, child) => set_terms(parent, child, declared),
+            Command::InsertBefore(parent, child, next) => set_three(parent, child, next, declared),
             Command::Block(block) => set_block(block, declared),
             Command::Local(x, block) => {
                 let is_block_settled = set_block(block, declared);
@@ -97,6 +98,24 @@ fn set_item(x: &mut ProgVar, list: &mut Term, place: &mut Term, declared: &Decla
     let is_x_settled = x.set_sorts(declared);
     let are_terms_settled = set_terms(list, place, declared);
     is_x_settled & are_terms_settled
+}
+
+// The same of three terms.
+fn set_three(first: &mut Term, second: &mut Term, third: &mut Term, declared: &Declared) -> bool
+    requires { Knows declared.now }
+    ensures first { term_of first.new
+        ≡ sorted_term (declared_of declared.now) (term_of first.old) }
+    ensures second { term_of second.new
+        ≡ sorted_term (declared_of declared.now) (term_of second.old) }
+    ensures third { term_of third.new
+        ≡ sorted_term (declared_of declared.now) (term_of third.old) }
+    ensures settled { result ≡ list_all (is_settled (scope_in declared.now))
+        (variables_of_term (term_of first.new)
+        ++ (variables_of_term (term_of second.new) ++ variables_of_term (term_of third.new))) }
+{
+    let is_first_settled = first.set_sorts(declared);
+    let are_others_settled = set_terms(second, third, declared);
+    is_first_settled & are_others_settled
 }
 
 // The same of the results and the arguments of a call.

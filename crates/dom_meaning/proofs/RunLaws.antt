@@ -4,7 +4,7 @@ use Rattle.model_shapes.specs.Trees.{Trees}
 use Rattle.model_terms.specs.Terms.{Term}
 use Rattle.model_terms.specs.TermLimits.{or_else, unless}
 use Rattle.model_terms.specs.Stores.{ProgVar, Store, value_of, text_in}
-use Rattle.model_commands.specs.Commands.{skip, block, assign, create_node, node_name, child_nodes, parent_node, list_item, append_child, remove_child, if_else, while_do, local, call}
+use Rattle.model_commands.specs.Commands.{skip, block, assign, create_node, node_name, child_nodes, parent_node, list_item, append_child, remove_child, insert_before, if_else, while_do, local, call}
 use Rattle.model_commands.specs.Theories.{Procedures}
 use Rattle.model_groves.specs.Picks.{next_pick}
 use Rattle.model_groves.specs.Sizes.{greatest_node, greatest_list}
@@ -57,6 +57,7 @@ module _ (ps : Procedures) (rs : List ProgVar) where
   picked (run (list_item x t u) ∷ rest) store grove = inl (refl, refl)
   picked (run (append_child t u) ∷ rest) store grove = inl (refl, refl)
   picked (run (remove_child t u) ∷ rest) store grove = inl (refl, refl)
+  picked (run (insert_before t u v) ∷ rest) store grove = inl (refl, refl)
   picked (run (if_else c a b) ∷ rest) store grove = inl (refl, refl)
   picked (run (while_do c b) ∷ rest) store grove = inl (refl, refl)
   picked (run (local x b) ∷ rest) store grove = inl (refl, refl)

@@ -7,7 +7,7 @@ use Rattle.model_terms.specs.Terms.{Term}
 use Rattle.model_terms.specs.TermSorts.{evaluates}
 use Rattle.model_terms.specs.Stores.{ProgVar, sort_of}
 use Rattle.model_terms.specs.Conditions.{condition_sorted}
-use Rattle.model_commands.specs.Commands.{Command, skip, block, assign, create_node, node_name, child_nodes, parent_node, list_item, append_child, remove_child, if_else, while_do, local, call}
+use Rattle.model_commands.specs.Commands.{Command, skip, block, assign, create_node, node_name, child_nodes, parent_node, list_item, append_child, remove_child, insert_before, if_else, while_do, local, call}
 use Rattle.model_commands.specs.SortTests.{feeds, receives, call_fits, has_command, callee_known, parts_fit, results_differ, fits_alone, is_sorted}
 use Rattle.model_commands.specs.Theories.{Procedure, Procedures, procedure_named}
 use Rattle.model_commands.specs.Sorting.{Receive}
@@ -78,6 +78,11 @@ module _ (ps : Procedures) where
       both_true (evaluates node_sort e) (evaluates node_sort f) (own (append_child e f) _ h)
   terms_fit (remove_child e f) h =
       both_true (evaluates node_sort e) (evaluates node_sort f) (own (remove_child e f) _ h)
+  terms_fit (insert_before e f g) h =
+      let parts = both_true (evaluates node_sort e) (evaluates node_sort f && evaluates node_sort g)
+      (own (insert_before e f g) _ h) in
+      let others = both_true (evaluates node_sort f) (evaluates node_sort g) parts.1 in
+      (parts.0, others.0, others.1)
   terms_fit (if_else c a b) h =
       first (condition_sorted c) (has_command a && has_command b) (own (if_else c a b) _ h)
   terms_fit (while_do c b) h =

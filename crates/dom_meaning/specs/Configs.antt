@@ -1,5 +1,5 @@
--- The configurations of the machine of the definitions, after PODS 2008, that those of the program
--- stand for.
+-- Needn't be believed: the program's promise doesn't speak of it. The configurations of the machine
+-- of the definitions, after PODS 2008, that those of the program stand for.
 use Rattle.std.specs.Prelude.{ℕ, List, map, reverse}
 use Rattle.model_groves.specs.Picks.{Pick}
 use Rattle.model_machine.specs.Machine as model

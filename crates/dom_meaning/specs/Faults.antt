@@ -1,5 +1,6 @@
--- The faults and limits of the definitions that those of the program stand for, and what an answer
--- reports of a limit. Want of memory is free.
+-- Needn't be believed: the program's promise doesn't speak of it. The faults and limits of the
+-- definitions that those of the program stand for, and what an answer reports of a limit. Want of
+-- memory is free.
 use Rattle.std.specs.Prelude.{◌≡◌, Result, Ok, Err, Option, Some, None}
 use Rattle.model_machine.specs.Machine as machine
 use Rattle.model_limits.specs.Limits as limits
@@ -18,6 +19,7 @@ fault_kind_of k.NoNode = machine.no_node
 fault_kind_of k.NoList = machine.no_list
 fault_kind_of k.Cycle = machine.cycle
 fault_kind_of k.NotChild = machine.not_child
+fault_kind_of k.SelfRef = machine.self_ref
 
 -- the fault of a term as that of a step
 abbrev pub step_fault_of : EvalFault → StepFault

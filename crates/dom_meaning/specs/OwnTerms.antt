@@ -6,7 +6,7 @@ use Rattle.model_terms.specs.Terms.{Term}
 use Rattle.model_terms.specs.TermSorts.{evaluates}
 use Rattle.model_terms.specs.Stores.{ProgVar, sort_of}
 use Rattle.model_terms.specs.Conditions.{condition_sorted}
-use Rattle.model_commands.specs.Commands.{Command, skip, block, assign, create_node, node_name, child_nodes, parent_node, list_item, append_child, remove_child, if_else, while_do, local, call}
+use Rattle.model_commands.specs.Commands.{Command, skip, block, assign, create_node, node_name, child_nodes, parent_node, list_item, append_child, remove_child, insert_before, if_else, while_do, local, call}
 use Rattle.model_commands.specs.Theories.{Procedure, Procedures, procedure_named}
 
 -- each argument evaluates to its parameter's sort
@@ -35,6 +35,9 @@ TermsFit procedures (append_child e f) =
     (evaluates node_sort e ≡ true) × (evaluates node_sort f ≡ true)
 TermsFit procedures (remove_child e f) =
     (evaluates node_sort e ≡ true) × (evaluates node_sort f ≡ true)
+TermsFit procedures (insert_before e f g) =
+    (evaluates node_sort e ≡ true) × (evaluates node_sort f ≡ true)
+    × (evaluates node_sort g ≡ true)
 TermsFit procedures (if_else c a b) = condition_sorted c ≡ true
 TermsFit procedures (while_do c b) = condition_sorted c ≡ true
 TermsFit procedures (local x b) = Unit

@@ -1,4 +1,5 @@
--- How a run comes out, as an outcome of the definitions. Want of memory is free.
+-- Needn't be believed: the program's promise doesn't speak of it. How a run comes out, as an
+-- outcome of the definitions. Want of memory is free.
 use Rattle.std.specs.Prelude.{◌≡◌, ℕ, ◌+◌, List, [], map, nat_le, ◌&&◌, cond, Option, Some, None}
 use Rattle.model_shapes.specs.Trees.{Trees}
 use Rattle.model_terms.specs.Stores.{ProgVar}

@@ -1,4 +1,5 @@
--- The configurations with which procedures begin.
+-- Needn't be believed: the program's promise doesn't speak of it. The configurations with which
+-- procedures begin.
 use Rattle.std.specs.Prelude.{◌≡◌, List, map}
 use Rattle.model_shapes.specs.Trees.{Trees}
 use Rattle.model_shapes.specs.Values.{Value}

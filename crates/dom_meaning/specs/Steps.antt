@@ -1,4 +1,5 @@
--- What one step answers, as that of the machine of the definitions.
+-- Needn't be believed: the program's promise doesn't speak of it. What one step answers, as that of
+-- the machine of the definitions.
 use Rattle.model_machine.specs.Machine as model
 use Rattle.dom_meaning.specs.declared.steps.StepOut.{StepOut}
 use Rattle.dom_meaning.specs.declared.steps.StepOut.TheVariants as o

@@ -16,6 +16,8 @@ pub enum FaultKind {
     Cycle,
     /// The node is no child of the other.
     NotChild,
+    /// The node would stand before itself.
+    SelfRef,
 }
 
 /// Why a step is not taken. The configuration is then as it was.

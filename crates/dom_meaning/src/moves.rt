@@ -10,6 +10,7 @@ ghost use Rattle.model_terms.specs.TermSorts.{evaluates};
 ghost use Rattle.model_commands.specs.Commands as commands;
 ghost use Rattle.model_groves.specs.Groves.{node_at};
 ghost use Rattle.model_machine.specs.Machine.{Piece, run, creating, appending, removing};
+ghost use Rattle.model_machine.specs.Machine.{inserting, inserting_at};
 ghost use Rattle.model_limits.specs.Limits.{standard_limits};
 ghost use Rattle.model_machine.specs.Outcomes.{step_limit};
 ghost use Rattle.model_terms.specs.TermLimits.{terms_limit};
@@ -27,7 +28,9 @@ use crate::plans::{Change, Plan};
 use crate::reads::node_named;
 use dom_terms::limits::NODES;
 use dom_terms::{Copied, LimitKind, List, OutOfMemory, ProgVar, Store, Term, Text, Value, eval};
-use grove_data::{Grove, Tree, has_at_most, has_root, is_within, moved_below, moved_to_roots};
+use grove_data::{
+    Grove, Tree, has_at_most, has_root, is_within, moved_before, moved_below, moved_to_roots,
+};
 use std::alloc::Global;
 
 // The most nodes that a grove may have.
@@ -162,5 +165,88 @@ fn removed(alloc: Global, parent: &Tree, child: &Tree, grove: &Grove) -> Result<
         return Ok(Plan::Faults(FaultKind::NotChild));
     }
     let moved = moved_to_roots(alloc, grove, child)?;
+    Ok(Plan::Becomes(Change::Grove(moved)))
+}
+
+/// The tree of the second node moves to just before the third, a child of the first, or to the end
+/// of the children of the first where the third is null. It faults where a value that isn't null
+/// names no node; else where the second is the third; else where the first stands in the tree of
+/// the second; and else where the third is no child of the first.
+pub(crate) fn inserted(
+    alloc: Global,
+    parent: &Term,
+    child: &Term,
+    next: &Term,
+    store: &Store,
+    grove: &Grove,
+) -> Result<Plan, StepFault>
+    requires parent { evaluates sorts.node_sort (term_of parent.now) ≡ true }
+    requires child { evaluates sorts.node_sort (term_of child.now) ≡ true }
+    requires next { evaluates sorts.node_sort (term_of next.now) ≡ true }
+    requires well_formed { WellFormed (forest_of grove.now) }
+    ensures plan { IfOk result (λ plan. (piece : Piece)
+        → move_of plan piece (store_of store.now) (forest_of grove.now)
+        ≡ inserting_at (value_of (store_of store.now) (term_of next.now))
+        (node_at (value_of (store_of store.now) (term_of parent.now)) (forest_of grove.now))
+        (node_at (value_of (store_of store.now) (term_of child.now)) (forest_of grove.now))
+        (store_of store.now) (forest_of grove.now)) }
+    ensures limit { TellsLimit result (terms_limit standard_limits (store_of store.now)
+        (term_of parent.now ∷ term_of child.now ∷ term_of next.now ∷ [])) }
+{
+    let parent = eval(alloc, parent, store)?;
+    let child = eval(alloc, child, store)?;
+    let next = eval(alloc, next, store)?;
+    match (node_named(&parent, grove), node_named(&child, grove)) {
+        (Some(parent), Some(child)) => Ok(inserted_at(alloc, parent, child, &next, grove)?),
+        _ => Ok(Plan::Faults(FaultKind::NoNode)),
+    }
+}
+
+// The child goes before the node that the value names, or behind all where it is null.
+fn inserted_at(
+    alloc: Global,
+    parent: &Tree,
+    child: &Tree,
+    next: &Value,
+    grove: &Grove,
+) -> Result<Plan, OutOfMemory>
+    requires { WellFormed (forest_of grove.now) }
+    ensures { IfOk result (λ plan. (piece : Piece) (store : stores.Store)
+        → move_of plan piece store (forest_of grove.now) ≡ inserting_at (value_seen next.now)
+        (tree_of parent.now) (tree_of child.now) store (forest_of grove.now)) }
+{
+    if matches!(next, Value::NullNode) {
+        return appended(alloc, parent, child, grove);
+    }
+    match node_named(next, grove) {
+        Some(next) => inserted_before(alloc, parent, child, next, grove),
+        None => Ok(Plan::Faults(FaultKind::NoNode)),
+    }
+}
+
+// The child goes before the next, where that is another node and one of the parent's, unless the
+// parent stands in the child's tree.
+fn inserted_before(
+    alloc: Global,
+    parent: &Tree,
+    child: &Tree,
+    next: &Tree,
+    grove: &Grove,
+) -> Result<Plan, OutOfMemory>
+    ensures { IfOk result (λ plan. (piece : Piece) (store : stores.Store)
+        → move_of plan piece store (forest_of grove.now) ≡ inserting (tree_of parent.now)
+        (tree_of child.now) (tree_of next.now) store (forest_of grove.now)) }
+{
+    if child.id == next.id {
+        return Ok(Plan::Faults(FaultKind::SelfRef));
+    }
+    let is_cycle = is_within(child, parent.id);
+    if is_cycle {
+        return Ok(Plan::Faults(FaultKind::Cycle));
+    }
+    if !has_root(&parent.kids, next.id) {
+        return Ok(Plan::Faults(FaultKind::NotChild));
+    }
+    let moved = moved_before(alloc, grove, child, next.id)?;
     Ok(Plan::Becomes(Change::Grove(moved)))
 }

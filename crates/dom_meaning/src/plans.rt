@@ -18,7 +18,7 @@ ghost use Rattle.dom_meaning.specs.Plans.{move_of};
 use crate::configurations::{Pending, Pieces};
 use crate::faults::{FaultKind, StepFault};
 use crate::flow::{assigned, called, chosen, given_back, opened, repeated, restored};
-use crate::moves::{Place, created, moved};
+use crate::moves::{Place, created, inserted, moved};
 use crate::reads::{Read, item_read, node_read};
 use dom_terms::{ProgVar, Store, Value};
 use grove_data::{Grove, Tree};
@@ -117,6 +117,9 @@ fn command_planned(
             moved(alloc, Place::Children, parent, child, store, grove)
         }
         Command::Remove(parent, child) => moved(alloc, Place::Roots, parent, child, store, grove),
+        Command::InsertBefore(parent, child, next) => {
+            inserted(alloc, parent, child, next, store, grove)
+        }
         Command::If(cond, first, second) => chosen(alloc, cond, first, second, store),
         Command::While(cond, block) => repeated(alloc, cond, block, store),
         Command::Local(x, block) => Ok(opened(alloc, x, block, store)?),

@@ -9,17 +9,18 @@ use Rattle.model_commands.specs.Commands.{Command}
 use Rattle.model_commands.specs.CommandParts.{commands_in, commands_of_judgement}
 use Rattle.model_commands.specs.SortTests.{callee_known, parts_fit, results_apart}
 use Rattle.model_commands.specs.Theories.{StepOf}
-use Rattle.model_files.specs.FileFaults.{spares}
+use Rattle.model_files.specs.FileFaults.{is_of_version, spares}
 use Rattle.dom_syntax.specs.declared.scopes.Scope.{Scope}
-use Rattle.dom_syntax.specs.Scopes.{callees_in, procedure_in}
+use Rattle.dom_syntax.specs.Scopes.{callees_in, procedure_in, theory_in}
 
--- a command whose callee is there, with fitting parts, which sets no parameter and whose results
--- are apart
+-- a command of the version whose callee is there, with fitting parts, which sets no parameter and
+-- whose results are apart
 abbrev pub is_apt : Scope → Command → Bool
 is_apt scope c =
-    callee_known (callees_in scope.names.now) c
+    is_of_version (theory_in scope.names.now).version c
+    && (callee_known (callees_in scope.names.now) c
     && (parts_fit (callees_in scope.names.now) c
-    && (spares (procedure_in scope).params c && results_apart c))
+    && (spares (procedure_in scope).params c && results_apart c)))
 
 -- where it is sure, those of the body are
 abbrev pub HeadApt : Bool → Scope → Type 0

@@ -1,5 +1,6 @@
--- The kinds of file faults that those of the program stand for, and what an answer of the checks of
--- a theory reports: the fault that there is, with its place and its kind. Want of memory is free.
+-- Needn't be believed: the program's promise doesn't speak of it. The kinds of file faults that
+-- those of the program stand for, and what an answer of the checks of a theory reports: the fault
+-- that there is, with its place and its kind. Want of memory is free.
 use Rattle.std.specs.Prelude.{◌≡◌, ℕ, Result, Ok, Err, Option, Some, None}
 use Rattle.model_files.specs.FileFaults as model
 use Rattle.dom_syntax.specs.declared.kinds.FileKind.{FileKind}

@@ -1,7 +1,7 @@
 /// What is at fault in a file that reads and isn't well formed.
 #[derive(Clone, Copy, Debug, PartialEq, Eq)]
 pub enum FileKind {
-    /// The version of the language isn't 1.
+    /// The version is none of the language, or it doesn't have a command that stands there.
     Version,
     /// A logic variable is declared twice, two procedures have one name, or a name is declared
     /// twice among the parameters, results and locals of a procedure.
@@ -17,7 +17,7 @@ pub enum FileKind {
     /// The requires has a program variable that isn't a parameter, or the ensures has one that is
     /// neither a parameter nor a result.
     Scope,
-    /// A step names no rule.
+    /// A step names no rule of the version.
     Rule,
     /// The number of a step isn't its place in its proof, counted from 1.
     Number,

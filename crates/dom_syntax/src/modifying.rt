@@ -28,8 +28,8 @@ struct Found<'a> {
 }
 
 /// The variables that the command modifies: those that it assigns or sets as results, those in a
-/// local block without its own variable. Each is there once, in the order of first occurrences.
-/// OutOfMemory comes only where memory is refused.
+/// local block without its own variable. Each is there once. OutOfMemory comes only where memory is
+/// refused.
 pub fn modified(alloc: Global, command: &Command) -> Result<Vars, OutOfMemory>
     ensures modified { IfOk result (λ vars. (x : stores.ProgVar)
         → (Among (map prog_var_of vars) x ↔ Modifies (command_of command.now) x)) }
@@ -123,7 +123,10 @@ fn add_modified<'a>(
         Command::Local(x, block) => {
             add_in_block(alloc, block, &Shadows::Local(&*x, &*over), found)
         }
-        Command::Skip | Command::Append(_, _) | Command::Remove(_, _) => Ok(()),
+        Command::Skip
+        | Command::Append(_, _)
+        | Command::Remove(_, _)
+        | Command::InsertBefore(_, _, _) => Ok(()),
     }
 }
 

@@ -44,6 +44,9 @@ fn all_own_variables<T: VariableTest>(test: &T, command: &Command) -> bool
         Command::Append(parent, child) | Command::Remove(parent, child) => {
             all_in_term(test, parent) && all_in_term(test, child)
         }
+        Command::InsertBefore(parent, child, next) => {
+            all_in_term(test, parent) && all_in_term(test, child) && all_in_term(test, next)
+        }
         Command::If(cond, _, _) | Command::While(cond, _) => all_in_cond(test, cond),
         Command::Call(results, _, arguments) => {
             all_variables(test, results.as_slice()) && all_in_terms(test, arguments.as_slice())

@@ -1,5 +1,5 @@
-// Tests of a command by itself: a procedure that it calls is there, its parts fit, it sets no
-// parameter, and the results of a call are apart.
+// Tests of a command by itself: the version has it, a procedure that it calls is there, its parts
+// fit, it sets no parameter, and the results of a call are apart.
 ghost use Rattle.std.specs.Prelude.{◌≡◌, ◌&&◌, true, not, map, [], IfOk};
 ghost use Rattle.std.specs.Bool.{OnTrue};
 ghost use Rattle.std.specs.List.{flat_map, list_all};
@@ -30,6 +30,25 @@ use crate::variable_tests::{VariableTest, all_in_terms};
 use dom_terms::{LogicVar, OutOfMemory, ProgVar, Term, ValueSort, evaluates, same_value_sort};
 use std::alloc::Global;
 use theory_syntax::{Command, Procedure};
+
+/// Whether the version of a theory has a command.
+#[derive(Drop)]
+pub(crate) struct OfVersion {
+    pub(crate) version: u32,
+}
+
+impl CommandTest for OfVersion {
+    ghost ready = { λ _. Unit };
+
+    ghost test = { λ of command. files.is_of_version of.version command };
+
+    fn takes(&self, command: &Command) -> Result<bool, OutOfMemory> {
+        match command {
+            Command::InsertBefore(_, _, _) => Ok(self.version == 2),
+            _ => Ok(true),
+        }
+    }
+}
 
 /// Whether the procedure that a call names is there.
 #[derive(Drop)]
@@ -92,6 +111,11 @@ fn do_parts_fit(names: &Names, command: &Command) -> bool
         }
         Command::Append(parent, child) | Command::Remove(parent, child) => {
             evaluates(parent, ValueSort::Node) && evaluates(child, ValueSort::Node)
+        }
+        Command::InsertBefore(parent, child, next) => {
+            evaluates(parent, ValueSort::Node)
+                && evaluates(child, ValueSort::Node)
+                && evaluates(next, ValueSort::Node)
         }
         Command::If(cond, first, second) => {
             is_condition_sorted(cond) && has_command(first) && has_command(second)
@@ -268,8 +292,10 @@ impl<'a> CommandTest for Apt<'a> {
 
     fn takes(&self, command: &Command) -> Result<bool, OutOfMemory> {
         let names = self.scope.names;
+        let version = names.theory.version;
         Ok(
-            CalleeKnown(names).takes(command)?
+            OfVersion { version }.takes(command)?
+                && CalleeKnown(names).takes(command)?
                 && PartsFit(names).takes(command)?
                 && Spares(self.scope).takes(command)?
                 && ResultsApart { alloc: self.alloc }.takes(command)?,

@@ -25,8 +25,8 @@ ghost use Rattle.model_files.specs.Sizes.{IsSmall, JudgementIsSmall};
 
 use crate::contents::Contents;
 use crate::kinds::FileKind;
-use crate::part_tests::{Apt, CalleeKnown, PartsFit, ResultsApart, Spares};
-use crate::rule_names::is_rule_name;
+use crate::part_tests::{Apt, CalleeKnown, OfVersion, PartsFit, ResultsApart, Spares};
+use crate::rule_names::is_rule_of_version;
 use crate::scope_tests::{AsDeclared, Known, OnlyAmong};
 use crate::scopes::{Names, Scope};
 use crate::sort_tests::{is_sort, is_step_argument};
@@ -49,28 +49,32 @@ const KINDS: [FileKind; 9] = [
     FileKind::Number,
 ];
 
-/// A place of a theory, which is tested for each kind.
-pub(crate) trait Place {
+/// A place of a theory, which is tested for each kind. What stands there is handed in: a type that
+/// pointed at a step besides the names would reach more fields than a type may.
+pub(crate) trait Place<T> {
     // the tests may be asked
-    ghost ready: { Self → Type 0 };
+    ghost ready: { Self → T → Type 0 };
 
     // there is no fault of the kind
-    ghost tests: { Self → model.FileKind → Bool };
+    ghost tests: { Self → T → model.FileKind → Bool };
 
     /// Whether there is no fault of the kind.
-    fn passes(&self, kind: FileKind) -> Result<bool, OutOfMemory>
-        requires { ready self.now }
-        ensures { IfOk result (λ b. b ≡ tests self.now (kind_of kind)) };
+    fn passes(&self, there: &T, kind: FileKind) -> Result<bool, OutOfMemory>
+        requires { ready self.now there.now }
+        ensures { IfOk result (λ b. b ≡ tests self.now there.now (kind_of kind)) };
 }
 
 /// The first kind of which there is a fault at the place.
-pub(crate) fn first_kind<P: Place>(place: &P) -> Result<Option<FileKind>, OutOfMemory>
-    requires { P.ready place.now }
+pub(crate) fn first_kind<T, P: Place<T>>(
+    place: &P,
+    there: &T,
+) -> Result<Option<FileKind>, OutOfMemory>
+    requires { P.ready place.now there.now }
     ensures { IfOk result
-        (λ kind. option_map kind_of kind ≡ model.first_kind (P.tests place.now)) }
+        (λ kind. option_map kind_of kind ≡ model.first_kind (P.tests place.now there.now)) }
 {
     for kind in KINDS {
-        if !place.passes(kind)? {
+        if !place.passes(there, kind)? {
             return Ok(Some(kind));
         }
     }
@@ -147,6 +151,10 @@ fn passes_inside(
         takes_unknown: true,
     };
     match kind {
+        FileKind::Version => {
+            let version = scope.names.theory.version;
+            contents.all_fit(&OfVersion { version }, sure.are_apt)
+        }
         FileKind::Unknown => Ok(
             contents.all_pass(&Known(scope), sure.are_settled)?
                 && contents.all_fit(&CalleeKnown(scope.names), sure.are_apt)?,
@@ -181,31 +189,37 @@ fn are_logic_sorts(variables: &[LogicVar]) -> bool
     true
 }
 
-/// The version and the logic declarations.
+// Whether it is a version of the language.
+fn is_version(version: u32) -> bool
+    ensures { result ≡ model.is_version version }
+{
+    version == 1 || version == 2
+}
+
+/// The version and the logic declarations of the theory that the names are of.
 #[derive(Drop)]
-pub(crate) struct Declarations<'a>(pub(crate) &'a Names<'a>);
+pub(crate) struct Declarations;
 
-impl<'a> Place for Declarations<'a> {
-    ghost ready = { λ place. HasNames place.0.now };
+impl<'a> Place<Names<'a>> for Declarations {
+    ghost ready = { λ _ there. HasNames there };
 
-    ghost tests = { λ place kind. model.declarations (theory_in place.0.now) kind };
+    ghost tests = { λ _ there kind. model.declarations (theory_in there) kind };
 
     #[tactic(auto, using(crate::proofs::PlaceLaws::place_rules))]
-    fn passes(&self, kind: FileKind) -> Result<bool, OutOfMemory> {
+    fn passes(&self, there: &Names<'a>, kind: FileKind) -> Result<bool, OutOfMemory> {
         match kind {
-            FileKind::Version => Ok(self.0.theory.version == 1),
-            FileKind::Twice => Ok(!self.0.logic.repeats),
-            FileKind::Sort => Ok(are_logic_sorts(self.0.theory.logic.as_slice())),
+            FileKind::Version => Ok(is_version(there.theory.version)),
+            FileKind::Twice => Ok(!there.logic.repeats),
+            FileKind::Sort => Ok(are_logic_sorts(there.theory.logic.as_slice())),
             _ => Ok(true),
         }
     }
 }
 
-/// The header and the body of a procedure, whose name is new or not.
+/// The header and the body of the procedure of a scope, whose name is new or not.
 #[derive(Drop)]
-pub(crate) struct Header<'a> {
+pub(crate) struct Header {
     pub(crate) alloc: Global,
-    pub(crate) scope: &'a Scope<'a>,
     pub(crate) is_new: bool,
     pub(crate) sure: Sure,
     /// Both formulas may be judged at its sort; where not, that isn't known.
@@ -279,42 +293,41 @@ fn is_head_in_scope(scope: &Scope) -> bool
     all_in_formula(&before, &scope.procedure.pre) && all_in_formula(&after, &scope.procedure.post)
 }
 
-impl<'a> Place for Header<'a> {
-    ghost ready = { λ head. IsScope head.scope.now
-        × IsSmall (procedure_in head.scope.now).pre
-        × IsSmall (procedure_in head.scope.now).post
-        × HeadSettled head.sure.are_settled head.scope.now
-        × HeadApt head.sure.are_apt head.scope.now
-        × HeadJudged head.is_judged (procedure_in head.scope.now) };
+impl<'a> Place<Scope<'a>> for Header {
+    ghost ready = { λ head there. IsScope there
+        × IsSmall (procedure_in there).pre
+        × IsSmall (procedure_in there).post
+        × HeadSettled head.sure.are_settled there
+        × HeadApt head.sure.are_apt there
+        × HeadJudged head.is_judged (procedure_in there) };
 
-    ghost tests = { λ head kind. model.header (theory_in head.scope.now.names.now)
-        (earlier_for head.is_new (procedure_in head.scope.now)) (procedure_in head.scope.now)
-        kind };
+    ghost tests = { λ head there kind. model.header (theory_in there.names.now)
+        (earlier_for head.is_new (procedure_in there)) (procedure_in there) kind };
 
     #[tactic(auto, using(crate::proofs::PlaceLaws::place_rules))]
-    fn passes(&self, kind: FileKind) -> Result<bool, OutOfMemory> {
+    fn passes(&self, there: &Scope<'a>, kind: FileKind) -> Result<bool, OutOfMemory> {
         match kind {
-            FileKind::Twice => Ok(self.is_new && !self.scope.variables.repeats),
+            FileKind::Twice => Ok(self.is_new && !there.variables.repeats),
             FileKind::Sort => Ok(
-                (self.is_judged || is_head_judged(self.scope)) && self.passes_inside(kind)?,
+                (self.is_judged || is_head_judged(there)) && self.passes_inside(there, kind)?,
             ),
-            FileKind::Scope => Ok(is_settled_head_in_scope(self.scope, self.sure.are_settled)),
-            _ => self.passes_inside(kind),
+            FileKind::Scope => Ok(is_settled_head_in_scope(there, self.sure.are_settled)),
+            _ => self.passes_inside(there, kind),
         }
     }
 }
 
-impl<'a> Header<'a> {
+impl Header {
     // Whether there is no fault of the kind among its variables and commands.
-    fn passes_inside(&self, kind: FileKind) -> Result<bool, OutOfMemory>
-        requires scope { IsScope self.now.scope.now }
-        requires settled { HeadSettled self.now.sure.are_settled self.now.scope.now }
-        requires apt { HeadApt self.now.sure.are_apt self.now.scope.now }
-        ensures { IfOk result (λ b. b ≡ model.inside_head (theory_in self.now.scope.now.names.now)
-            (procedure_in self.now.scope.now) (kind_of kind)) }
+    fn passes_inside(&self, scope: &Scope, kind: FileKind) -> Result<bool, OutOfMemory>
+        requires scope { IsScope scope.now }
+        requires settled { HeadSettled self.now.sure.are_settled scope.now }
+        requires apt { HeadApt self.now.sure.are_apt scope.now }
+        ensures { IfOk result (λ b. b ≡ model.inside_head (theory_in scope.now.names.now)
+            (procedure_in scope.now) (kind_of kind)) }
     {
-        let contents = Contents::of_head(self.scope.procedure);
-        passes_inside(self.alloc, self.scope, &contents, self.sure, kind)
+        let contents = Contents::of_head(scope.procedure);
+        passes_inside(self.alloc, scope, &contents, self.sure, kind)
     }
 }
 
@@ -357,23 +370,22 @@ fn are_arguments_sorted(reason: &Reason) -> bool
     }
 }
 
-// Whether the rule has a name, if there is one.
-fn is_rule_known(reason: &Reason) -> bool
-    ensures { result ≡ model.rule_known (reason_of reason.now) }
+// Whether the rule is one of the version, if there is one.
+fn is_rule_known(version: u32, reason: &Reason) -> bool
+    ensures { result ≡ model.rule_known version (reason_of reason.now) }
 {
     match reason {
         Reason::Auto => true,
-        Reason::Rule { name, .. } => is_rule_name(name),
+        Reason::Rule { name, .. } => is_rule_of_version(version, name),
     }
 }
 
-/// A step, at this place of its proof.
+/// A step of the procedure of the scope, at this place of its proof.
 #[derive(Drop)]
 pub(crate) struct ProofStep<'a> {
     pub(crate) alloc: Global,
     pub(crate) scope: &'a Scope<'a>,
     pub(crate) place: u32,
-    pub(crate) step: &'a Step,
     pub(crate) sure: Sure,
     /// The formulas of its judgement may be judged at its sort; where not, that isn't known.
     pub(crate) is_judged: bool,
@@ -381,41 +393,40 @@ pub(crate) struct ProofStep<'a> {
 
 impl<'a> ProofStep<'a> {
     // Whether there is no fault of the kind among its variables and commands.
-    fn passes_inside(&self, kind: FileKind) -> Result<bool, OutOfMemory>
+    fn passes_inside(&self, step: &Step, kind: FileKind) -> Result<bool, OutOfMemory>
         requires scope { IsScope self.now.scope.now }
         requires settled { StepSettled self.now.sure.are_settled self.now.scope.now
-            (step_of self.now.step.now) }
-        requires apt { StepApt self.now.sure.are_apt self.now.scope.now
-            (step_of self.now.step.now) }
+            (step_of step.now) }
+        requires apt { StepApt self.now.sure.are_apt self.now.scope.now (step_of step.now) }
         ensures { IfOk result (λ b. b ≡ model.inside_step (theory_in self.now.scope.now.names.now)
-            (procedure_in self.now.scope.now) (step_of self.now.step.now) (kind_of kind)) }
+            (procedure_in self.now.scope.now) (step_of step.now) (kind_of kind)) }
     {
-        let contents = Contents::of_step(self.step);
+        let contents = Contents::of_step(step);
         passes_inside(self.alloc, self.scope, &contents, self.sure, kind)
     }
 }
 
-impl<'a> Place for ProofStep<'a> {
-    ghost ready = { λ at. IsScope at.scope.now
-        × JudgementIsSmall (judgement_of at.step.now.judgement)
-        × StepSettled at.sure.are_settled at.scope.now (step_of at.step.now)
-        × StepApt at.sure.are_apt at.scope.now (step_of at.step.now)
+impl<'a> Place<Step> for ProofStep<'a> {
+    ghost ready = { λ at there. IsScope at.scope.now
+        × JudgementIsSmall (judgement_of there.judgement)
+        × StepSettled at.sure.are_settled at.scope.now (step_of there)
+        × StepApt at.sure.are_apt at.scope.now (step_of there)
         × OnTrue at.is_judged
-        (model.judgement_sorted (judgement_of at.step.now.judgement) ≡ true) };
+        (model.judgement_sorted (judgement_of there.judgement) ≡ true) };
 
-    ghost tests = { λ at kind. model.proof_step (theory_in at.scope.now.names.now)
-        (procedure_in at.scope.now) at.place (step_of at.step.now) kind };
+    ghost tests = { λ at there kind. model.proof_step (theory_in at.scope.now.names.now)
+        (procedure_in at.scope.now) at.place (step_of there) kind };
 
-    fn passes(&self, kind: FileKind) -> Result<bool, OutOfMemory> {
+    fn passes(&self, there: &Step, kind: FileKind) -> Result<bool, OutOfMemory> {
         match kind {
             FileKind::Sort => Ok(
-                (self.is_judged || is_judgement_sorted(&self.step.judgement))
-                    && are_arguments_sorted(&self.step.reason)
-                    && self.passes_inside(kind)?,
+                (self.is_judged || is_judgement_sorted(&there.judgement))
+                    && are_arguments_sorted(&there.reason)
+                    && self.passes_inside(there, kind)?,
             ),
-            FileKind::Rule => Ok(is_rule_known(&self.step.reason)),
-            FileKind::Number => Ok(self.step.number == self.place),
-            _ => self.passes_inside(kind),
+            FileKind::Rule => Ok(is_rule_known(self.scope.names.theory.version, &there.reason)),
+            FileKind::Number => Ok(there.number == self.place),
+            _ => self.passes_inside(there, kind),
         }
     }
 }

@@ -104,11 +104,10 @@ fn check_step_at(
         alloc,
         scope,
         place,
-        step,
         sure,
         is_judged: told.are_judged,
     };
-    verdict(procedure, place, first_kind(&at)?)
+    verdict(procedure, place, first_kind(&at, step)?)
 }
 
 // Whether each step of the procedure's proof is well formed. What is known of them may be told.
@@ -158,12 +157,11 @@ fn check_header(
     )?;
     let head = Header {
         alloc,
-        scope,
         is_new,
         sure,
         is_judged: told.are_judged,
     };
-    verdict(procedure, 0, first_kind(&head)?)
+    verdict(procedure, 0, first_kind(&head, scope)?)
 }
 
 // Whether the procedure of the scope, whose name is new or not, and the steps of its proof are well
@@ -242,7 +240,7 @@ fn check_declarations(names: &Names) -> Result<(), ProgramFault>
     ensures { Reports result
         (step_fault 0 0 (model.first_kind (model.declarations (theory_in names.now)))) }
 {
-    verdict(0, 0, first_kind(&Declarations(names))?)
+    verdict(0, 0, first_kind(&Declarations, names)?)
 }
 
 /// Whether the theory is well formed. The error is the first place at fault, in the order of the

@@ -1,12 +1,13 @@
 // The names of the rules.
 ghost use Rattle.std.specs.Prelude.{◌≡◌, bytes_eq};
 ghost use Rattle.std.specs.List.{list_any};
+ghost use Rattle.model_files.specs.FileFaults as files;
 ghost use Rattle.model_files.specs.RuleNames as model;
 
 use dom_terms::Text;
 
 // Most steps cite a rule for triples, so those are asked first.
-const TRIPLE_RULES: [&str; 22] = [
+const TRIPLE_RULES: [&str; 24] = [
     "skip",
     "assign",
     "seq",
@@ -29,7 +30,12 @@ const TRIPLE_RULES: [&str; 22] = [
     "create",
     "append",
     "remove",
+    "insert_before",
+    "insert_last",
 ];
+
+// Those of the axioms of insertBefore, which version 1 doesn't have.
+const SECOND_VERSION_RULES: [&str; 2] = ["insert_before", "insert_last"];
 
 const ENTAILMENT_RULES: [&str; 120] = [
     "id",
@@ -161,10 +167,17 @@ fn is_among(words: &[&str], word: &str) -> bool
     words.iter().any(|other| word == *other)
 }
 
-/// Whether a rule has the name.
-pub(crate) fn is_rule_name(name: &Text) -> bool
+// Whether a rule has the name.
+fn is_rule_name(name: &Text) -> bool
     ensures { result ≡ model.is_rule_name name.now }
 {
     let name = name.as_str();
     is_among(&TRIPLE_RULES, name) || is_among(&ENTAILMENT_RULES, name)
+}
+
+/// Whether the version has a rule of the name.
+pub(crate) fn is_rule_of_version(version: u32, name: &Text) -> bool
+    ensures { result ≡ files.is_rule_of_version version name.now }
+{
+    is_rule_name(name) && (version == 2 || !is_among(&SECOND_VERSION_RULES, name.as_str()))
 }

@@ -1,4 +1,5 @@
--- The conditions of the definitions that those of the program stand for.
+-- Needn't be believed: the program's promise doesn't speak of it. The conditions of the definitions
+-- that those of the program stand for.
 use Rattle.model_terms.specs.Conditions as model
 use Rattle.dom_terms.specs.declared.conditions.Cond.{Cond}
 use Rattle.dom_terms.specs.declared.conditions.Cond.TheVariants as c

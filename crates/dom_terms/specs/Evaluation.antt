@@ -1,5 +1,6 @@
--- When the evaluation of a term is refused: at the first subterm that passes a limit, from left to
--- right and inner ones first; the limits are the language's own. Want of memory is free.
+-- Needn't be believed: the program's promise doesn't speak of it. When the evaluation of a term is
+-- refused: at the first subterm that passes a limit, from left to right and inner ones first; the
+-- limits are the language's own. Want of memory is free.
 use Rattle.std.specs.Prelude.{◌≡◌, Result, Ok, Err, Option, Some, None}
 use Rattle.model_limits.specs.Limits.{LimitKind, number_limit, text_limit}
 use Rattle.dom_terms.specs.declared.verdicts.EvalFault.{EvalFault}

@@ -1,4 +1,5 @@
--- What a list ends as, where its items or the last of them were lent to be changed.
+-- Needn't be believed: the program's promise doesn't speak of it. What a list ends as, where its
+-- items or the last of them were lent to be changed.
 use Rattle.std.specs.Prelude.{List, length, take, drop, ◌++◌, ◌-◌, slice_set, Option}
 use Rattle.std.specs.Borrow.{Lends, LendsIf, Fml, RattleType, MutBor, Array}
 use Rattle.dom_terms.specs.contracts.list.List.{the_row}

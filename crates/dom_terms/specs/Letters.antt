@@ -1,4 +1,4 @@
--- What a text holds, short or long.
+-- Needn't be believed: the program's promise doesn't speak of it. What a text holds, short or long.
 use Rattle.std.specs.Prelude.{ℕ, List}
 use Rattle.std.specs.String.{string_bytes}
 use Rattle.dom_terms.specs.declared.text.Letters.{Letters}

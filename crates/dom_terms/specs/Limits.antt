@@ -1,5 +1,5 @@
--- The counted quantities of the definitions that those of the program stand for. They are the
--- language's own.
+-- Needn't be believed: the program's promise doesn't speak of it. The counted quantities of the
+-- definitions that those of the program stand for. They are the language's own.
 use Rattle.std.specs.Prelude.{◌≡◌, Option, Some, None}
 use Rattle.model_limits.specs.Limits as limits
 use Rattle.dom_terms.specs.declared.limits.LimitKind.{LimitKind}

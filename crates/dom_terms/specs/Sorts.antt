@@ -1,5 +1,6 @@
--- The sorts of the definitions that the program's sorts stand for. Data sorts and contexts are
--- those of POPL 2005 and PODS 2008; the value sorts are the language's own.
+-- Needn't be believed: the program's promise doesn't speak of it. The sorts of the definitions that
+-- the program's sorts stand for. Data sorts and contexts are those of POPL 2005 and PODS 2008; the
+-- value sorts are the language's own.
 use Rattle.model_shapes.specs.Sorts as model
 use Rattle.dom_terms.specs.declared.sorts.ValueSort.{ValueSort}
 use Rattle.dom_terms.specs.declared.sorts.ValueSort.TheVariants as v

@@ -1,5 +1,6 @@
--- The stores of the definitions that the program's stores stand for: finite maps from program
--- variables to values, as in PODS 2008.
+-- Needn't be believed: the program's promise doesn't speak of it. The stores of the definitions
+-- that the program's stores stand for: finite maps from program variables to values, as in PODS
+-- 2008.
 use Rattle.std.specs.Prelude.{List, [], ◌∷◌, Option, Some, None, Bool, cond}
 use Rattle.model_shapes.specs.Values as values
 use Rattle.model_terms.specs.Stores as model

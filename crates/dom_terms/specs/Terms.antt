@@ -1,5 +1,6 @@
--- The variables and terms of the definitions that those of the program stand for. Terms are those
--- of PODS 2008, with sums, differences and texts; a variable is its name and its sort.
+-- Needn't be believed: the program's promise doesn't speak of it. The variables and terms of the
+-- definitions that those of the program stand for. Terms are those of PODS 2008, with sums,
+-- differences and texts; a variable is its name and its sort.
 use Rattle.model_shapes.specs.Values as values
 use Rattle.model_terms.specs.Variables as model
 use Rattle.model_terms.specs.Terms as terms

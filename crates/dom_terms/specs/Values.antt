@@ -1,5 +1,6 @@
--- The values of the definitions that the program's values stand for. Node numbers and list numbers
--- are the identifiers of PODS 2008.
+-- Needn't be believed: the program's promise doesn't speak of it. The values of the definitions
+-- that the program's values stand for. Node numbers and list numbers are the identifiers of PODS
+-- 2008.
 use Rattle.model_shapes.specs.Values as model
 use Rattle.dom_terms.specs.declared.values.Value.{Value}
 use Rattle.dom_terms.specs.declared.values.Value.TheVariants as v

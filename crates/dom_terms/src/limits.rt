@@ -16,7 +16,7 @@ pub const VARIABLES: usize = 64;
 pub const PROOF_STEPS: usize = 65_535;
 
 /// The most nodes of a document or a grove.
-pub const NODES: usize = 1000;
+pub const NODES: usize = 100_000;
 
 /// The greatest number of a node or a children list.
 pub const IDENTIFIER: u32 = 4_294_967_295;

@@ -2,6 +2,7 @@
 ghost use Rattle.std.specs.Prelude.{◌≡◌, ◌≤◌, ◌↔◌, [], ◌++◌, length, slice_get, option_copied, bytes_eq};
 ghost use Rattle.std.specs.Prelude.{IsNone, IfOk, OnOk, OnErr, MatchBool};
 ghost use Rattle.std.specs.Char.{encode_utf8};
+ghost use Rattle.std.specs.Prelude.{IsUtf8};
 ghost use Rattle.dom_terms.specs.Letters.{letters_bytes};
 
 use crate::copied::Copied;
@@ -144,6 +145,13 @@ impl Text {
             (Letters::Short(left), Letters::Short(right)) => left.is_same(right),
             _ => self.as_str() == other.as_str(),
         }
+    }
+
+    /// Does nothing: it states that the bytes of a text are UTF-8.
+    pub fn is_utf8(&self)
+        ensures { ∥ IsUtf8 self.now ∥₁ }
+    {
+        let _characters = self.as_str();
     }
 
     /// The characters of the text.

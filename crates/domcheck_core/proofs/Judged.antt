@@ -9,9 +9,9 @@ use Rattle.model_answers.specs.Words.{Request, check, run, make, trial}
 use Rattle.model_text.specs.Lexemes.{Lexeme}
 use Rattle.model_limits.specs.Limits.{LimitKind, file_limit}
 use Rattle.model_answers.specs.Texts.{IsFile}
-use Rattle.domcheck_core.specs.Answers.{Books, Answer, limit_answer, Unread, over_limit, Verdict, says_yes, has_gap, step_fails, has_no_proof, CheckAnswer, no_file, judged, DocumentAnswer, IsCalled, NotCalled, RunAnswer, not_run, not_called, is_called, IsAnswer, checked, ran, IsToldBook, IsTold}
+use Rattle.domcheck_core.specs.Answers.{Books, Answer, limit_answer, Unread, over_limit, CheckVerdict, says_yes, has_gap, step_fails, has_no_proof, CheckAnswer, no_file, judged, DocumentAnswer, IsCalled, NotCalled, RunAnswer, not_run, not_called, is_called, IsAnswer, checked, ran, IsToldBook, IsTold}
 use Rattle.domcheck_core.specs.Books.{IsReply}
-use Rattle.domcheck_core.specs.Clauses.{OfFile, IsProved, ExactlyWhere, BadWordsExactly, IsAnswered, Wrote}
+use Rattle.domcheck_core.specs.Clauses.{OfFile, IsSoundFile, ExactlyWhere, BadWordsExactly, Says, IsAnswered, Wrote}
 use Rattle.outside_io.specs.Pieces.{Took}
 use Rattle.domcheck_core.proofs.Tested.{large_text}
 use Rattle.domcheck_core.proofs.OneAnswer.{not_file, not_both_called, told_of, one_answer}
@@ -29,7 +29,7 @@ too_large Spells most bad_line bytes s output long e =
 
 -- a yes is a proof
 sound_verdict : (bytes : List ℕ) (theory : Theory) (s : Status) (output : List ℕ)
-    → IsFile bytes theory → Verdict theory s output → s ≡ status.Done → IsProved bytes
+    → IsFile bytes theory → CheckVerdict theory s output → s ≡ status.Done → IsSoundFile bytes
 sound_verdict bytes t s output file (says_yes x) q =
     (t, file, accepted_theories_hold t file.well_formed x)
 sound_verdict bytes t s output file (has_gap n m f x a h d) q = absurd cc
@@ -50,7 +50,7 @@ no_yes_bad : IsNoYes status.BadText
 no_yes_bad e = cc
 
 pub sound : (bytes : List ℕ) (s : Status) (output : List ℕ)
-    → CheckAnswer bytes s output → s ≡ status.Done → IsProved bytes
+    → CheckAnswer bytes s output → s ≡ status.Done → IsSoundFile bytes
 sound bytes s output (no_file a) e =
     absurd (all_no_file IsNoYes no_yes_past no_yes_ill bytes s output no_yes_bad a e)
 sound bytes s output (judged t file v) e = sound_verdict bytes t s output file v e
@@ -119,9 +119,12 @@ module _ (books : Books) where
 
   -- the answer of the definition, where there is one, is the one that was given
   pub same_answer : (r : Option Request) (s : Status) (output : List ℕ) → IsReply r books s output
-      → (t : Status) (other : List ℕ) → IsAnswer books r t other → s ≡ t
-  same_answer r s output a t other b =
-      (one_answer books r s output t other (answer r s output a (told_of books r t other b)) b).0
+      → (before after : Option (List ℕ)) → Took before after output
+      → (t : Status) (other : List ℕ) → IsAnswer books r t other → Says s before after t other
+  same_answer r s output a before after took t other b =
+      let told = told_of books r t other b in
+      let same = one_answer books r s output t other (answer r s output a told) b in
+      (same.0, subst (λ (z : List ℕ). Took before after z) same.1 took)
 
   -- what the sink took is all of the output of the answer
   pub wrote : (r : Option Request) (s : Status) (output : List ℕ) → IsReply r books s output

@@ -17,11 +17,11 @@ use Rattle.model_documents.specs.Grammar.{SpellsGrove}
 use Rattle.model_grammar.specs.Theories.{SpellsTheory}
 use Rattle.model_answers.specs.Words.{Request}
 use Rattle.model_answers.specs.Arguments.{called}
-use Rattle.model_answers.specs.Texts.{text_limit, theory_limit, IsFile}
+use Rattle.model_answers.specs.Texts.{limit_passed, theory_limit, IsFile}
 use Rattle.model_answers.specs.Output.{bad_text_line, bad_document_text_line, fail_line, no_proof_line, gap_line}
 use Rattle.proof_text.proofs.Exact.{one_theory}
 use Rattle.logic_text.proofs.Exact.{at_most_one}
-use Rattle.domcheck_core.specs.Answers.{Books, Answer, limit_answer, fault_answer, Unread, over_limit, spells_nothing, theory_refusal, NoFile, unread, refused, numbered, Verdict, IsBadAt, says_yes, has_gap, step_fails, has_no_proof, CheckAnswer, no_file, judged, grove_answer, DocumentAnswer, no_document, is_document, IsCalled, NotCalled, RunAnswer, not_run, not_called, is_called, IsAnswer, bad_words, checked, ran, made, tried, IsToldBook, IsTold}
+use Rattle.domcheck_core.specs.Answers.{Books, Answer, limit_answer, fault_answer, Unread, over_limit, spells_nothing, theory_refusal, NoFile, unread, refused, item_numbered, CheckVerdict, IsBadAt, says_yes, has_gap, step_fails, has_no_proof, CheckAnswer, no_file, judged, grove_answer, DocumentAnswer, no_document, is_document, IsCalled, NotCalled, RunAnswer, not_run, not_called, is_called, IsAnswer, bad_words, checked, ran, made, tried, IsToldBook, IsTold}
 use Rattle.domcheck_core.specs.declared.status.Status.{Status}
 
 -- values in options
@@ -68,19 +68,19 @@ module _ {A : Type 0} (Spells : A → List Lexeme → Type 0) where
 
   module _ (most : ℕ) (bad_line : ℕ → List ℕ) (bytes : List ℕ) where
     -- a text that is read has no other answer
-    pub not_unread : (s : Status) (o : List ℕ) (a : A) → text_limit most bytes ≡ None
+    pub not_unread : (s : Status) (o : List ℕ) (a : A) → limit_passed most bytes ≡ None
         → Spells a (lexemes_of bytes) → Unread Spells most bad_line bytes s o → ⊥
-    not_unread s o a e spelled (over_limit f) = unlimited (text_limit most bytes) (s, o) e f
+    not_unread s o a e spelled (over_limit f) = unlimited (limit_passed most bytes) (s, o) e f
     not_unread s o a e spelled (spells_nothing token f none fault) = none a spelled
 
     one_unread : (s t : Status) (o p : List ℕ) → Unread Spells most bad_line bytes s o
         → Unread Spells most bad_line bytes t p → Equal s o t p
     one_unread s t o p (over_limit e) (over_limit f) =
-        some_pair s t o p (option_map limit_answer (text_limit most bytes)) e f
+        some_pair s t o p (option_map limit_answer (limit_passed most bytes)) e f
     one_unread s t o p (over_limit e) (spells_nothing k f none fault) =
-        absurd (unlimited (text_limit most bytes) (s, o) f e)
+        absurd (unlimited (limit_passed most bytes) (s, o) f e)
     one_unread s t o p (spells_nothing k e none fault) (over_limit f) =
-        absurd (unlimited (text_limit most bytes) (t, p) e f)
+        absurd (unlimited (limit_passed most bytes) (t, p) e f)
     one_unread s t o p (spells_nothing k e none fault) (spells_nothing l f never other) =
         (refl, ap bad_line (one_fault_token (lexemes_of bytes) k l fault other))
 
@@ -121,9 +121,9 @@ one_no_file bytes s t o p (refused u e spelled f) (refused v d spells g) =
 -- CHECK
 -- one has the number
 one_numbered : {A : Type 0} (n m : ℕ) (items others : List A) (a b : A) → n ≡ m → items ≡ others
-    → numbered n items ≡ Some a → numbered m others ≡ Some b → a ≡ b
+    → item_numbered n items ≡ Some a → item_numbered m others ≡ Some b → a ≡ b
 one_numbered n m items others a b p q d e =
-    let same : numbered n items ≡ numbered m others = λ i. numbered (p i) (q i) in
+    let same : item_numbered n items ≡ item_numbered m others = λ i. item_numbered (p i) (q i) in
     some_same a b (sym d ∙ same ∙ e)
 
 -- a step names one rule
@@ -150,15 +150,15 @@ module _ (theory : Theory) where
 
   -- the procedure and the step of the first bad place
   one_procedure : (n l m k : ℕ) (a b : Fault) (f g : ProcedureOf Named) → IsBadAt theory n l a
-      → IsBadAt theory m k b → numbered n theory.procedures ≡ Some f
-      → numbered m theory.procedures ≡ Some g → f ≡ g
+      → IsBadAt theory m k b → item_numbered n theory.procedures ≡ Some f
+      → item_numbered m theory.procedures ≡ Some g → f ≡ g
   one_procedure n l m k a b f g x y =
       let same : n ≡ m = ap (λ (z : BadPlace). z.procedure) (one-first-bad theory _ _ x y) in
       one_numbered n m theory.procedures theory.procedures f g same refl
 
   one_step : (n l m k : ℕ) (a b : Fault) (f g : ProcedureOf Named) (x y : StepOf Named)
-      → IsBadAt theory n l a → IsBadAt theory m k b → f ≡ g → numbered l f.proof ≡ Some x
-      → numbered k g.proof ≡ Some y → x ≡ y
+      → IsBadAt theory n l a → IsBadAt theory m k b → f ≡ g → item_numbered l f.proof ≡ Some x
+      → item_numbered k g.proof ≡ Some y → x ≡ y
   one_step n l m k a b f g x y h j e =
       let same : l ≡ k = ap (λ (z : BadPlace). z.step) (one-first-bad theory _ _ h j) in
       one_numbered l k f.proof g.proof x y same (ap (λ (z : ProcedureOf Named). z.proof) e)
@@ -173,8 +173,8 @@ fail_lines : (f g : ProcedureOf Named) (x y : StepOf Named) (name other : List �
 fail_lines f g x y name other v w e d n h =
     λ i. fail_line (d i).number (e i).name (d i).line (n i) (h i)
 
-one_verdict : (theory : Theory) (s t : Status) (o p : List ℕ) → Verdict theory s o
-    → Verdict theory t p → Equal s o t p
+one_verdict : (theory : Theory) (s t : Status) (o p : List ℕ) → CheckVerdict theory s o
+    → CheckVerdict theory t p → Equal s o t p
 one_verdict theory s t o p (says_yes x) (says_yes y) = (refl, refl)
 one_verdict theory s t o p (says_yes x) (has_gap m k g y c u v) =
     absurd (accepted-none theory _ x c)
@@ -226,7 +226,7 @@ one_check bytes s t o p (no_file a) (judged u file v) = absurd (not_file bytes s
 one_check bytes s t o p (judged u file v) (no_file b) = absurd (not_file bytes t p u file b)
 one_check bytes s t o p (judged u a v) (judged w b z) =
     one_verdict w s t o p
-    (subst (λ (y : Theory). Verdict y s o) (one_file bytes u w a b) v) z
+    (subst (λ (y : Theory). CheckVerdict y s o) (one_file bytes u w a b) v) z
 
 -- RUN
 one_on_document : (theory : Theory) (f : ProcedureOf Named) (values : List Value) (fuel : ℕ)

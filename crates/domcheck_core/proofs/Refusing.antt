@@ -8,7 +8,7 @@ use Rattle.model_text.specs.Nesting.{lexemes_of}
 use Rattle.model_text.specs.FaultTokens.{AreOfTokens, IsFaultToken}
 use Rattle.model_text.proofs.OfTokens.{text_seen}
 use Rattle.model_grammar.specs.Theories.{SpellsTheory}
-use Rattle.model_answers.specs.Texts.{text_limit, theory_limit, IsFile}
+use Rattle.model_answers.specs.Texts.{limit_passed, theory_limit, IsFile}
 use Rattle.model_answers.specs.Output.{bad_text_line}
 use Rattle.model_limits.specs.FirstOf.{or_else}
 use Rattle.model_files.specs.FileFaults.{FileFault, first_file_fault}
@@ -48,14 +48,14 @@ told_one P r.OutOfMemory s o h e = absurd e
 module _ {A : Type 0} (Spells : A → List Lexeme → Type 0) (most : ℕ) (bad_line : ℕ → List ℕ)
     (bytes : List ℕ) where
   -- one that passes a limit isn't read
-  pub over : (why : Refused) → IsRefusal why (option_map limit_answer (text_limit most bytes))
+  pub over : (why : Refused) → IsRefusal why (option_map limit_answer (limit_passed most bytes))
       → IfAnswer why (Unread Spells most bad_line bytes)
-  over why = weaker (λ s o. option_map limit_answer (text_limit most bytes) ≡ Some (s, o))
+  over why = weaker (λ s o. option_map limit_answer (limit_passed most bytes) ≡ Some (s, o))
       (Unread Spells most bad_line bytes) why (λ s o e. over_limit e)
 
   -- nor one whose tokens spell nothing
   pub nothing : (ts : List Lexeme) (token : ℕ) → ts ≡ lexemes_of bytes
-      → text_limit most bytes ≡ None → ((a : A) → Spells a ts → ⊥)
+      → limit_passed most bytes ≡ None → ((a : A) → Spells a ts → ⊥)
       → (AreOfTokens ts → IsFaultToken Spells ts token)
       → Unread Spells most bad_line bytes status.BadText (bad_line token)
   nothing ts token same passes none fault = spells_nothing token passes
@@ -66,7 +66,7 @@ module _ {A : Type 0} (Spells : A → List Lexeme → Type 0) (most : ℕ) (bad_
 -- what is read of a source to its end is spelled by the text, which passes no limit
 pub record IsRead {A : Type 0} (Spells : A → List Lexeme → Type 0) (most : ℕ) (bytes : List ℕ)
     (a : A) : Type 0 where
-  pub passes : text_limit most bytes ≡ None
+  pub passes : limit_passed most bytes ≡ None
   pub spelled : Spells a (lexemes_of bytes)
 
 pub read_whole : {A : Type 0} (Spells : A → List Lexeme → Type 0)
@@ -74,12 +74,12 @@ pub read_whole : {A : Type 0} (Spells : A → List Lexeme → Type 0)
     → slice_get s place ≡ Some bad_lexeme → ⊥)
     → (most : ℕ) (bytes : List ℕ) (source seen : List Lexeme) → seen ≡ source
     → (((place : ℕ) → slice_get source place ≡ Some bad_lexeme → ⊥)
-    → text_limit most bytes ≡ None)
-    → (text_limit most bytes ≡ None → source ≡ lexemes_of bytes)
+    → limit_passed most bytes ≡ None)
+    → (limit_passed most bytes ≡ None → source ≡ lexemes_of bytes)
     → (a : A) → Spells a seen → IsRead Spells most bytes a
 read_whole Spells no_bad most bytes source seen same passes whole a spelled =
     let here : Spells a source = subst (Spells a) same spelled in
-    let none : text_limit most bytes ≡ None = passes (no_bad a source here) in
+    let none : limit_passed most bytes ≡ None = passes (no_bad a source here) in
     record { passes = none; spelled = subst (Spells a) (whole none) here }
 
 -- FILES
@@ -93,7 +93,8 @@ unread_file bytes why =
 
 -- and neither is one whose theory is refused
 pub refused_file : (bytes : List ℕ) (theory : Theory) (why : Refused)
-    → text_limit standard_limits.file_nesting bytes ≡ None → SpellsTheory theory (lexemes_of bytes)
+    → limit_passed standard_limits.file_nesting bytes ≡ None
+    → SpellsTheory theory (lexemes_of bytes)
     → IsRefusal why (theory_refusal theory) → IfAnswer why (NoFile bytes)
 refused_file bytes theory why read spelled =
     weaker (λ s o. theory_refusal theory ≡ Some (s, o)) (NoFile bytes) why
@@ -110,7 +111,8 @@ no_limit None e = refl
 no_limit (Some kind) e = absurd cc
 
 pub is_file : (bytes : List ℕ) (theory : Theory)
-    → text_limit standard_limits.file_nesting bytes ≡ None → SpellsTheory theory (lexemes_of bytes)
+    → limit_passed standard_limits.file_nesting bytes ≡ None
+    → SpellsTheory theory (lexemes_of bytes)
     → theory_refusal theory ≡ None → IsFile bytes theory
 is_file bytes theory read spelled e =
     let both = no_fault (first_file_fault theory) (option_map limit_answer (theory_limit theory)) e

@@ -17,11 +17,11 @@ use Rattle.dom_terms.specs.declared.limits.LimitKind as own
 use Rattle.model_answers.specs.Output.{range_line, repeat_line}
 use Rattle.model_text.specs.Lexemes.{Lexeme}
 use Rattle.model_files.specs.FileFaults.{FileFault, first_file_fault}
-use Rattle.model_answers.specs.Texts.{text_limit, theory_limit}
-use Rattle.domcheck_core.specs.Answers.{Books, IsAnswer, bad_words, made, tried, Answer, limit_answer, fault_answer, Unread, over_limit, spells_nothing, NoFile, unread, refused, Verdict, says_yes, has_gap, step_fails, has_no_proof, CheckAnswer, no_file, judged, outcome_answer, outcome_on, range_refusal, repeat_refusal, size_refusal, refusal, grove_answer, DocumentAnswer, no_document, is_document, RunAnswer, not_run, not_called, is_called}
+use Rattle.model_answers.specs.Texts.{limit_passed, theory_limit}
+use Rattle.domcheck_core.specs.Answers.{Books, IsAnswer, bad_words, made, tried, Answer, limit_answer, fault_answer, Unread, over_limit, spells_nothing, NoFile, unread, refused, CheckVerdict, says_yes, has_gap, step_fails, has_no_proof, CheckAnswer, no_file, judged, outcome_answer, outcome_on, range_refusal, repeat_refusal, size_refusal, refusal, grove_answer, DocumentAnswer, no_document, is_document, RunAnswer, not_run, not_called, is_called}
 use Rattle.domcheck_core.specs.Clauses.{statuses, ReadRose}
 use Rattle.domcheck_core.specs.Books.{IsReply}
-use Rattle.domcheck_core.specs.Numbers.{number_of}
+use Rattle.domcheck_core.specs.Numbers.{status_number}
 use Rattle.domcheck_core.specs.declared.status.Status.{Status}
 use Rattle.domcheck_core.specs.declared.status.Status.TheVariants as status
 
@@ -45,7 +45,7 @@ module _ (P : Status → Type 0) where
         (bad_line : ℕ → List ℕ) (bytes : List ℕ) (s : Status) (o : List ℕ) → P status.BadText
         → Unread Spells most bad_line bytes s o → P s
     all_unread Spells most bad_line bytes s o bad (over_limit e) =
-        subst (AllOf P) e (all_limits (text_limit most bytes))
+        subst (AllOf P) e (all_limits (limit_passed most bytes))
     all_unread Spells most bad_line bytes s o bad (spells_nothing token e none fault) = bad
 
     module _ (ill : P status.BadFile) where
@@ -147,7 +147,7 @@ Speaks s = speaks s ≡ true
 speaks_no_file : (bytes : List ℕ) (s : Status) (o : List ℕ) → NoFile bytes s o → speaks s ≡ true
 speaks_no_file bytes s o a = all_no_file Speaks (λ kind. refl) refl bytes s o refl a
 
-speaks_verdict : (theory : Theory) (s : Status) (o : List ℕ) → Verdict theory s o
+speaks_verdict : (theory : Theory) (s : Status) (o : List ℕ) → CheckVerdict theory s o
     → speaks s ≡ true
 speaks_verdict theory s o (says_yes x) = refl
 speaks_verdict theory s o (has_gap n m f x a h d) = refl
@@ -198,9 +198,9 @@ no_fault r books s o a (inr e) = let q = reply_speaks r books s o a in cc
 -- the place of the status in the list
 module _ (file : List ℕ) where
   abbrev PossibleCheck : Status → Type 0
-  PossibleCheck s = Contains (statuses (Some (check file))) (number_of s)
+  PossibleCheck s = Contains (statuses (Some (check file))) (status_number s)
 
-  possible_verdict : (theory : Theory) (s : Status) (o : List ℕ) → Verdict theory s o
+  possible_verdict : (theory : Theory) (s : Status) (o : List ℕ) → CheckVerdict theory s o
       → PossibleCheck s
   possible_verdict theory s o (says_yes x) = (0, lit< tt, refl)
   possible_verdict theory s o (has_gap n m f x a h d) = (5, lit< tt, refl)
@@ -216,7 +216,8 @@ module _ (file : List ℕ) where
 
 module _ (file procedure document : List ℕ) (fuel : ℕ) (arguments : List (List ℕ)) where
   abbrev Possible : Status → Type 0
-  Possible s = Contains (statuses (Some (run file procedure document fuel arguments))) (number_of s)
+  Possible s =
+      Contains (statuses (Some (run file procedure document fuel arguments))) (status_number s)
 
   possible_called : (s : Status) → is_of_called s ≡ true → Possible s
   possible_called status.Done e = (0, lit< tt, refl)
@@ -243,19 +244,19 @@ module _ (file procedure document : List ℕ) (fuel : ℕ) (arguments : List (Li
       possible_called s (document_status t f values fuel d s o answer)
 
 possible_words : (books : Books) (s : Status) (o : List ℕ) → IsAnswer books None s o
-    → Contains (statuses None) (number_of s)
+    → Contains (statuses None) (status_number s)
 possible_words books s o bad_words = (0, lit< tt, refl)
 
 possible_made : (n : ℕ) (books : Books) (s : Status) (o : List ℕ)
-    → IsAnswer books (Some (make n)) s o → Contains (statuses (Some (make n))) (number_of s)
+    → IsAnswer books (Some (make n)) s o → Contains (statuses (Some (make n))) (status_number s)
 possible_made n books s o (made m) = (0, lit< tt, refl)
 
 possible_tried : (n : ℕ) (books : Books) (s : Status) (o : List ℕ)
-    → IsAnswer books (Some (trial n)) s o → Contains (statuses (Some (trial n))) (number_of s)
+    → IsAnswer books (Some (trial n)) s o → Contains (statuses (Some (trial n))) (status_number s)
 possible_tried n books s o (tried m) = (0, lit< tt, refl)
 
 pub possible : (r : Option Request) (books : Books) (s : Status) (o : List ℕ)
-    → IsReply r books s o → Contains (statuses r) (number_of s)
+    → IsReply r books s o → Contains (statuses r) (status_number s)
 possible None books s o a = possible_words books s o a
 possible (Some (check file)) books s o a = possible_check file a.0 s o a.1
 possible (Some (run file procedure document fuel arguments)) books s o a =
@@ -264,14 +265,14 @@ possible (Some (make n)) books s o a = possible_made n books s o a
 possible (Some (trial n)) books s o a = possible_tried n books s o a
 
 -- where the call gives up
-pub no_memory : (r : Option Request) → Contains (statuses r) (number_of status.OutOfMemory)
+pub no_memory : (r : Option Request) → Contains (statuses r) (status_number status.OutOfMemory)
 no_memory None = (1, lit< tt, refl)
 no_memory (Some (check file)) = (6, lit< tt, refl)
 no_memory (Some (run file procedure document fuel arguments)) = (8, lit< tt, refl)
 no_memory (Some (make n)) = (1, lit< tt, refl)
 no_memory (Some (trial n)) = (1, lit< tt, refl)
 
-pub no_sink : (r : Option Request) → Contains (statuses r) (number_of status.WriteFault)
+pub no_sink : (r : Option Request) → Contains (statuses r) (status_number status.WriteFault)
 no_sink None = (2, lit< tt, refl)
 no_sink (Some (check file)) = (8, lit< tt, refl)
 no_sink (Some (run file procedure document fuel arguments)) = (10, lit< tt, refl)
@@ -279,7 +280,7 @@ no_sink (Some (make n)) = (2, lit< tt, refl)
 no_sink (Some (trial n)) = (2, lit< tt, refl)
 
 pub no_book : (r : Option Request) (books : Books) (rose : List ℕ → Type 0)
-    → ReadRose r books rose → Contains (statuses r) (number_of status.ReadFault)
+    → ReadRose r books rose → Contains (statuses r) (status_number status.ReadFault)
 no_book None books rose h = absurd h
 no_book (Some (check file)) books rose h = (7, lit< tt, refl)
 no_book (Some (run file procedure document fuel arguments)) books rose h = (9, lit< tt, refl)

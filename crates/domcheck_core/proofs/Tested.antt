@@ -5,7 +5,7 @@ use Rattle.model_limits.specs.Limits.{LimitKind, file_limit, standard_limits}
 use Rattle.model_limits.specs.FirstOf.{or_else, unless}
 use Rattle.model_text.specs.Lexemes.{Lexeme}
 use Rattle.model_text.specs.Nesting.{lexemes_of, token_limit}
-use Rattle.model_answers.specs.Texts.{text_limit}
+use Rattle.model_answers.specs.Texts.{limit_passed}
 use Rattle.model_answers.specs.Output.{limit_line}
 use Rattle.dom_terms.specs.declared.limits.LimitKind as own
 use Rattle.dom_terms.specs.declared.limits.LimitKind.TheVariants as l
@@ -15,13 +15,13 @@ use Rattle.domcheck_core.specs.declared.status.Status.TheVariants as status
 
 -- a text with more bytes than the most passes that limit
 pub large_text : (most : ℕ) (bytes : List ℕ) → standard_limits.file_bytes < length bytes
-    → text_limit most bytes ≡ Some file_limit
+    → limit_passed most bytes ≡ Some file_limit
 large_text most bytes long = ap (λ (b : Bool). or_else (unless b file_limit)
     (token_limit most 0 (lexemes_of bytes))) (lt-leb _ _ long)
 
 -- one with no more passes the limit that its tokens do
 pub few_text : (most : ℕ) (bytes : List ℕ) → length bytes ≤ standard_limits.file_bytes
-    → text_limit most bytes ≡ token_limit most 0 (lexemes_of bytes)
+    → limit_passed most bytes ≡ token_limit most 0 (lexemes_of bytes)
 few_text most bytes small =
     ap (λ (b : Bool). or_else (unless b file_limit) (token_limit most 0 (lexemes_of bytes)))
     (le-leb _ _ small)
@@ -31,9 +31,9 @@ module _ (most : ℕ) (bytes : List ℕ) (seen : List Lexeme) (named : Option ow
     (names : NamesLimit named (token_limit most 0 seen))
     (read : seen ≡ lexemes_of bytes) where
   -- one with no more passes no other limit than its tokens do
-  pub limit_of_tokens : NamesLimit named (text_limit most bytes)
+  pub limit_of_tokens : NamesLimit named (limit_passed most bytes)
   limit_of_tokens =
-      let few : text_limit most bytes ≡ token_limit most 0 seen =
+      let few : limit_passed most bytes ≡ token_limit most 0 seen =
       few_text most bytes small ∙ ap (λ (z : List Lexeme). token_limit most 0 z) (sym read) in
       subst (NamesLimit named) (sym few) names
 

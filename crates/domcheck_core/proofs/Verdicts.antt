@@ -15,7 +15,7 @@ use Rattle.theory_syntax.specs.Judgements.{reason_of, step_of}
 use Rattle.theory_syntax.specs.Theories.{procedure_of, theory_of}
 use Rattle.cited_steps.specs.Earlier.{steps_in}
 use Rattle.hoare_kernel.proofs.BadPlaces.{ProcedureThere, procedure-there, StepThere, step-there}
-use Rattle.domcheck_core.specs.Answers.{numbered, IsBadAt, Verdict, has_gap, step_fails, has_no_proof}
+use Rattle.domcheck_core.specs.Answers.{item_numbered, IsBadAt, CheckVerdict, has_gap, step_fails, has_no_proof}
 use Rattle.domcheck_core.specs.Stands.{HasProcedure, HasStep, NamesRule}
 use Rattle.domcheck_core.specs.declared.status.Status.TheVariants as status
 
@@ -24,14 +24,14 @@ some_same a b e = cc
 
 -- the one with the number, by its place
 at-place : {A : Type 0} (items : List A) (n k : ℕ) (a : A) → n ≡ 1 + k
-    → slice_get items k ≡ Some a → numbered n items ≡ Some a
+    → slice_get items k ≡ Some a → item_numbered n items ≡ Some a
 at-place items n k a e there =
     let turned : suc k ≡ n = omega (arith, e) in
-    subst (λ (m : ℕ). numbered m items ≡ Some a) turned there
+    subst (λ (m : ℕ). item_numbered m items ≡ Some a) turned there
 
 -- the same of what is seen
-seen : {A B : Type 0} (f : A → B) (items : List A) (n : ℕ) (a : A) → numbered n items ≡ Some a
-    → numbered n (map f items) ≡ Some (f a)
+seen : {A B : Type 0} (f : A → B) (items : List A) (n : ℕ) (a : A) → item_numbered n items ≡ Some a
+    → item_numbered n (map f items) ≡ Some (f a)
 seen f items zero a e = absurd cc
 seen f items (suc k) a e = slice_get-map f items k ∙ ap (option_map f) e
 
@@ -48,7 +48,7 @@ has-procedure theory bad h =
 -- and that has its step, unless the place is the end
 pub has-step : (theory : Theory) (bad : BadPlace) (f : Procedure)
     → IsFirstBad (theory_of theory) bad → (bad.fault ≡ no_proof → ⊥)
-    → numbered bad.procedure theory.procedures ≡ Some f → HasStep f bad.step
+    → item_numbered bad.procedure theory.procedures ≡ Some f → HasStep f bad.step
 has-step theory bad f h n e =
     let a : ProcedureThere theory bad = procedure-there theory bad h in
     let same : a.procedure ≡ f = some_same a.procedure f
@@ -103,7 +103,7 @@ not-left-open ps f earlier (y ∷ steps) at bad (suc k) v x h n there e = ⊎_el
 -- by its number
 not-open-at : (ps : model.Procedures) (f : model.Procedure) (steps : List Step) (bad : ℕ)
     (v : verdicts.Verdict) (x : Step) → FirstBadStep ps f [] (steps_in steps) 1 bad (fails v)
-    → numbered bad steps ≡ Some x → reason_of x.reason ≡ auto → ⊥
+    → item_numbered bad steps ≡ Some x → reason_of x.reason ≡ auto → ⊥
 not-open-at ps f steps zero v x h e d = absurd cc
 not-open-at ps f steps (suc k) v x h e d =
     not-left-open ps f [] steps 1 (suc k) k v x h (omega arith) e d
@@ -111,7 +111,7 @@ not-open-at ps f steps (suc k) v x h e d =
 -- so it names a rule
 pub has-rule : (theory : Theory) (procedure place : ℕ) (v : verdicts.Verdict) (f : Procedure)
     (x : Step) → IsBadAt (theory_of theory) procedure place (fails v)
-    → numbered procedure theory.procedures ≡ Some f → numbered place f.proof ≡ Some x
+    → item_numbered procedure theory.procedures ≡ Some f → item_numbered place f.proof ≡ Some x
     → reason_of x.reason ≡ auto → ⊥
 has-rule theory procedure place v f x h e d q =
     let bad = bad-place procedure place (fails v) in
@@ -125,8 +125,8 @@ has-rule theory procedure place v f x h e d q =
 -- the gap, as it is read
 pub gap-verdict : (theory : Theory) (procedure place : ℕ) (f : Procedure) (x : Step)
     → IsBadAt (theory_of theory) procedure place gap
-    → numbered procedure theory.procedures ≡ Some f → numbered place f.proof ≡ Some x
-    → Verdict (theory_of theory) status.GapLeft (gap_line x.number f.name x.line)
+    → item_numbered procedure theory.procedures ≡ Some f → item_numbered place f.proof ≡ Some x
+    → CheckVerdict (theory_of theory) status.GapLeft (gap_line x.number f.name x.line)
 gap-verdict theory procedure place f x first e d =
     has_gap procedure place (procedure_of f) (step_of x) first
     (seen procedure_of theory.procedures procedure f e) (seen step_of f.proof place x d)
@@ -135,9 +135,9 @@ gap-verdict theory procedure place f x first e d =
 pub fail-verdict : (theory : Theory) (procedure place : ℕ) (f : Procedure) (x : Step)
     (name : List ℕ) (v : verdicts.Verdict)
     → IsBadAt (theory_of theory) procedure place (fails v)
-    → numbered procedure theory.procedures ≡ Some f → numbered place f.proof ≡ Some x
+    → item_numbered procedure theory.procedures ≡ Some f → item_numbered place f.proof ≡ Some x
     → NamesRule (reason_of x.reason) name
-    → Verdict (theory_of theory) status.StepFails (fail_line x.number f.name x.line name v)
+    → CheckVerdict (theory_of theory) status.StepFails (fail_line x.number f.name x.line name v)
 fail-verdict theory procedure place f x name v first e d named =
     step_fails procedure place (procedure_of f) (step_of x) name named.citations named.arguments v
     first (seen procedure_of theory.procedures procedure f e) (seen step_of f.proof place x d)
@@ -146,8 +146,8 @@ fail-verdict theory procedure place f x name v first e d named =
 -- the end without the procedure's own triple
 pub end-verdict : (theory : Theory) (procedure place : ℕ) (f : Procedure)
     → IsBadAt (theory_of theory) procedure place no_proof
-    → numbered procedure theory.procedures ≡ Some f
-    → Verdict (theory_of theory) status.StepFails (no_proof_line f.name)
+    → item_numbered procedure theory.procedures ≡ Some f
+    → CheckVerdict (theory_of theory) status.StepFails (no_proof_line f.name)
 end-verdict theory procedure place f first e =
     has_no_proof procedure place (procedure_of f) first
     (seen procedure_of theory.procedures procedure f e)

@@ -25,7 +25,7 @@ use Rattle.model_grammar.specs.Writing.{theory_text}
 use Rattle.model_generator.specs.Generated.{generated_theory}
 use Rattle.model_answers.specs.Words.{Request, check, run, make, trial}
 use Rattle.model_answers.specs.Arguments.{called}
-use Rattle.model_answers.specs.Texts.{text_limit, theory_limit, IsFile}
+use Rattle.model_answers.specs.Texts.{limit_passed, theory_limit, IsFile}
 use Rattle.model_answers.specs.Output.{line, accepted_text, accepted_line, fail_line, no_proof_line, gap_line, bad_words_line, bad_text_line, bad_document_text_line, file_fault_line, range_line, repeat_line, limit_line, fault_line, spent_line, ended_lines}
 use Rattle.dom_terms.specs.declared.limits.LimitKind.{LimitKind}
 use Rattle.dom_terms.specs.declared.limits.LimitKind.TheVariants as l
@@ -57,9 +57,9 @@ limit_answer kind = (status.Limit (limit_named kind), limit_line kind)
 pub data Unread {A : Type 0} (Spells : A → List Lexeme → Type 0) (most : ℕ)
     (bad_line : ℕ → List ℕ) (bytes : List ℕ) : Status → List ℕ → Type 0 where
   over_limit : {s : Status} {output : List ℕ}
-      → option_map limit_answer (text_limit most bytes) ≡ Some (s, output)
+      → option_map limit_answer (limit_passed most bytes) ≡ Some (s, output)
       → Unread Spells most bad_line bytes s output
-  spells_nothing : (token : ℕ) → text_limit most bytes ≡ None
+  spells_nothing : (token : ℕ) → limit_passed most bytes ≡ None
       → ((a : A) → Spells a (lexemes_of bytes) → ⊥) → IsFaultToken Spells (lexemes_of bytes) token
       → Unread Spells most bad_line bytes status.BadText (bad_line token)
 
@@ -78,15 +78,15 @@ pub data NoFile (bytes : List ℕ) : Status → List ℕ → Type 0 where
       → Unread SpellsTheory standard_limits.file_nesting bad_text_line bytes s output
       → NoFile bytes s output
   refused : (theory : Theory) {s : Status} {output : List ℕ}
-      → text_limit standard_limits.file_nesting bytes ≡ None
+      → limit_passed standard_limits.file_nesting bytes ≡ None
       → SpellsTheory theory (lexemes_of bytes) → theory_refusal theory ≡ Some (s, output)
       → NoFile bytes s output
 
 -- CHECK
 -- the one with the number, counted from 1
-abbrev pub numbered : {A : Type 0} → ℕ → List A → Option A
-numbered zero items = None
-numbered (suc n) items = slice_get items n
+abbrev pub item_numbered : {A : Type 0} → ℕ → List A → Option A
+item_numbered zero items = None
+item_numbered (suc n) items = slice_get items n
 
 -- the first bad place is at this step of this procedure, each counted from 1, and has this fault
 abbrev pub IsBadAt : Theory → ℕ → ℕ → Fault → Type 0
@@ -94,27 +94,27 @@ IsBadAt theory procedure step fault =
     IsFirstBad theory (record { procedure = procedure; step = step; fault = fault })
 
 -- the answer of `check` on the theory of a file
-pub data Verdict (theory : Theory) : Status → List ℕ → Type 0 where
-  says_yes : IsAccepted theory → Verdict theory status.Done (accepted_line theory)
+pub data CheckVerdict (theory : Theory) : Status → List ℕ → Type 0 where
+  says_yes : IsAccepted theory → CheckVerdict theory status.Done (accepted_line theory)
   has_gap : (procedure place : ℕ) (f : ProcedureOf Named) (step : StepOf Named)
       → IsBadAt theory procedure place gap
-      → numbered procedure theory.procedures ≡ Some f → numbered place f.proof ≡ Some step
-      → Verdict theory status.GapLeft (gap_line step.number f.name step.line)
+      → item_numbered procedure theory.procedures ≡ Some f → item_numbered place f.proof ≡ Some step
+      → CheckVerdict theory status.GapLeft (gap_line step.number f.name step.line)
   step_fails : (procedure place : ℕ) (f : ProcedureOf Named) (step : StepOf Named)
       (name citations : List ℕ) (arguments : List Term) (verdict : verdicts.Verdict)
       → IsBadAt theory procedure place (fails verdict)
-      → numbered procedure theory.procedures ≡ Some f → numbered place f.proof ≡ Some step
+      → item_numbered procedure theory.procedures ≡ Some f → item_numbered place f.proof ≡ Some step
       → step.reason ≡ by_rule name citations arguments
-      → Verdict theory status.StepFails (fail_line step.number f.name step.line name verdict)
+      → CheckVerdict theory status.StepFails (fail_line step.number f.name step.line name verdict)
   has_no_proof : (procedure place : ℕ) (f : ProcedureOf Named)
-      → IsBadAt theory procedure place no_proof → numbered procedure theory.procedures ≡ Some f
-      → Verdict theory status.StepFails (no_proof_line f.name)
+      → IsBadAt theory procedure place no_proof → item_numbered procedure theory.procedures ≡ Some f
+      → CheckVerdict theory status.StepFails (no_proof_line f.name)
 
 -- and on bytes
 pub data CheckAnswer (bytes : List ℕ) : Status → List ℕ → Type 0 where
   no_file : {s : Status} {output : List ℕ} → NoFile bytes s output → CheckAnswer bytes s output
   judged : (theory : Theory) {s : Status} {output : List ℕ} → IsFile bytes theory
-      → Verdict theory s output → CheckAnswer bytes s output
+      → CheckVerdict theory s output → CheckAnswer bytes s output
 
 -- RUN
 -- the answer of an outcome; the last never comes, since the next pick is free
@@ -162,7 +162,7 @@ pub data DocumentAnswer (theory : Theory) (f : ProcedureOf Named) (values : List
       → Unread SpellsGrove standard_limits.document_nesting bad_document_text_line bytes s output
       → DocumentAnswer theory f values fuel bytes s output
   is_document : (document : Trees) {s : Status} {output : List ℕ}
-      → text_limit standard_limits.document_nesting bytes ≡ None
+      → limit_passed standard_limits.document_nesting bytes ≡ None
       → SpellsGrove document (lexemes_of bytes)
       → grove_answer theory f values fuel document ≡ Some (s, output)
       → DocumentAnswer theory f values fuel bytes s output

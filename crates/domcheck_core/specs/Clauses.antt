@@ -23,14 +23,18 @@ OfFile r books P = Unit
 
 -- The bytes are a file of a theory, and each of its procedures, started in any context round data
 -- that meets its requires, faults in no number of steps and ends with data that meets its ensures.
-abbrev pub IsProved : List ℕ → Type 0
-IsProved bytes =
+abbrev pub IsSoundFile : List ℕ → Type 0
+IsSoundFile bytes =
     (theory : Theory) × IsFile bytes theory
     × Each (MeetsItsSpecification (procedures_of theory)) (procedures_of theory)
 
 -- the three statuses that may come for any file: want of memory, and a fault of library or sink
 abbrev pub GivesUp : Status → Type 0
 GivesUp s = (s ≡ status.OutOfMemory) ⊎ ((s ≡ status.ReadFault) ⊎ (s ≡ status.WriteFault))
+
+-- the call ends with this status, and the sink took all of this output
+abbrev pub Says : Status → Option (List ℕ) → Option (List ℕ) → Status → List ℕ → Type 0
+Says s before after wanted output = (s ≡ wanted) × Took before after output
 
 -- the answer is that of the definition, or the call gives up
 abbrev pub IsAnswered : Option Request → Books → Status → Type 0

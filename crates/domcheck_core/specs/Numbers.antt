@@ -3,17 +3,17 @@ use Rattle.std.specs.Prelude.{ℕ}
 use Rattle.domcheck_core.specs.declared.status.Status.{Status}
 use Rattle.domcheck_core.specs.declared.status.Status.TheVariants as status
 
-abbrev pub number_of : Status → ℕ
-number_of status.Done = 0
-number_of status.StepFails = 1
-number_of status.BadWords = 2
-number_of status.BadText = 3
-number_of status.BadFile = 4
-number_of status.BadDocument = 5
-number_of status.Faulted = 6
-number_of status.FuelSpent = 7
-number_of (status.Limit kind) = 8
-number_of status.GapLeft = 9
-number_of status.OutOfMemory = 10
-number_of status.ReadFault = 11
-number_of status.WriteFault = 12
+abbrev pub status_number : Status → ℕ
+status_number status.Done = 0
+status_number status.StepFails = 1
+status_number status.BadWords = 2
+status_number status.BadText = 3
+status_number status.BadFile = 4
+status_number status.BadDocument = 5
+status_number status.Faulted = 6
+status_number status.FuelSpent = 7
+status_number (status.Limit kind) = 8
+status_number status.GapLeft = 9
+status_number status.OutOfMemory = 10
+status_number status.ReadFault = 11
+status_number status.WriteFault = 12

@@ -6,16 +6,16 @@ use Rattle.model_commands.specs.Theories.{Reason, by_rule}
 use Rattle.theory_syntax.specs.declared.steps.Step.{Step}
 use Rattle.theory_syntax.specs.declared.theories.Procedure.{Procedure}
 use Rattle.theory_syntax.specs.declared.theories.Theory.{Theory}
-use Rattle.domcheck_core.specs.Answers.{numbered}
+use Rattle.domcheck_core.specs.Answers.{item_numbered}
 
 -- counted from 1
 pub record HasProcedure (theory : Theory) (number : ℕ) : Type 0 where
   pub procedure : Procedure
-  pub there : numbered number theory.procedures ≡ Some procedure
+  pub there : item_numbered number theory.procedures ≡ Some procedure
 
 pub record HasStep (f : Procedure) (number : ℕ) : Type 0 where
   pub step : Step
-  pub there : numbered number f.proof ≡ Some step
+  pub there : item_numbered number f.proof ≡ Some step
 
 -- the reason names this rule
 pub record NamesRule (reason : Reason) (name : List ℕ) : Type 0 where

@@ -9,8 +9,8 @@ ghost use Rattle.row_patterns.specs.Verdicts.{verdict_in};
 ghost use Rattle.theory_syntax.specs.Judgements.{reason_of};
 ghost use Rattle.theory_syntax.specs.Theories.{theory_of};
 ghost use Rattle.cited_steps.specs.Held.{EachHolds};
-ghost use Rattle.domcheck_core.specs.Answers.{CheckAnswer, IsBadAt, Verdict, numbered};
-ghost use Rattle.domcheck_core.specs.Clauses.{IsProved};
+ghost use Rattle.domcheck_core.specs.Answers.{CheckAnswer, IsBadAt, CheckVerdict, item_numbered};
+ghost use Rattle.domcheck_core.specs.Clauses.{IsSoundFile};
 ghost use Rattle.domcheck_core.specs.Stands.{HasProcedure, HasStep, NamesRule};
 
 use crate::file::read_file;
@@ -28,7 +28,7 @@ use theory_syntax::{Procedure, Reason, Step, Theory};
 // The procedure of the number, counted from 1.
 fn procedure_at<'a>(theory: &'a Theory, number: u32) -> &'a Procedure
     requires { HasProcedure theory.now number }
-    ensures { numbered number theory.now.procedures ≡ Some result.now }
+    ensures { item_numbered number theory.now.procedures ≡ Some result.now }
 {
     let Some(procedure) = theory.procedures.get(number as usize - 1) else {
         unreachable!();
@@ -39,7 +39,7 @@ fn procedure_at<'a>(theory: &'a Theory, number: u32) -> &'a Procedure
 // A step of the procedure, counted from 1.
 fn step_at<'a>(procedure: &'a Procedure, number: u32) -> &'a Step
     requires { HasStep procedure.now number }
-    ensures { numbered number procedure.now.proof ≡ Some result.now }
+    ensures { item_numbered number procedure.now.proof ≡ Some result.now }
 {
     let Some(step) = procedure.proof.get(number as usize - 1) else {
         unreachable!();
@@ -61,7 +61,7 @@ fn rule_at<'a>(step: &'a Step) -> &'a Text
 // The answer where the first bad place is a gap: that step of that procedure, each counted from 1.
 fn gap(alloc: Global, theory: &Theory, procedure: u32, step: u32) -> Result<Reply, OutOfMemory>
     requires { IsBadAt (theory_of theory.now) procedure step bad.gap }
-    ensures { IfOk result (λ r. Verdict (theory_of theory.now) r.status r.output) }
+    ensures { IfOk result (λ r. CheckVerdict (theory_of theory.now) r.status r.output) }
 {
     let procedure = procedure_at(theory, procedure);
     let step = step_at(procedure, step);
@@ -82,7 +82,7 @@ fn failure(
     verdict: dom_terms::Verdict,
 ) -> Result<Reply, OutOfMemory>
     requires { IsBadAt (theory_of theory.now) procedure step (bad.fails (verdict_in verdict)) }
-    ensures { IfOk result (λ r. Verdict (theory_of theory.now) r.status r.output) }
+    ensures { IfOk result (λ r. CheckVerdict (theory_of theory.now) r.status r.output) }
 {
     let procedure = procedure_at(theory, procedure);
     let step = step_at(procedure, step);
@@ -99,7 +99,7 @@ fn failure(
 // The answer where it is the end of the proof of a procedure.
 fn no_proof(alloc: Global, theory: &Theory, procedure: u32) -> Result<Reply, OutOfMemory>
     requires { (step : ℕ) × IsBadAt (theory_of theory.now) procedure step bad.no_proof }
-    ensures { IfOk result (λ r. Verdict (theory_of theory.now) r.status r.output) }
+    ensures { IfOk result (λ r. CheckVerdict (theory_of theory.now) r.status r.output) }
 {
     let procedure = procedure_at(theory, procedure).name.copy(alloc)?;
     reported(alloc, Status::StepFails, Report::NoProof { procedure })
@@ -111,7 +111,7 @@ fn verdict(alloc: Global, read: &ReadTheory) -> Result<Reply, OutOfMemory>
     requires formed { IsWellFormedTheory (theory_of read.now.theory) }
     requires told { OnTrue read.now.are_instances
         (EachHolds (procedures_of (theory_of read.now.theory))) }
-    ensures { IfOk result (λ r. Verdict (theory_of read.now.theory) r.status r.output) }
+    ensures { IfOk result (λ r. CheckVerdict (theory_of read.now.theory) r.status r.output) }
 {
     let theory = &read.theory;
     match check_told_theory(alloc, theory, read.are_instances) {
@@ -170,7 +170,7 @@ pub fn check_bytes(alloc: Global, bytes: &[u8]) -> Result<Reply, OutOfMemory>
         → IfOk result (λ r. (r.status ≡ s) × (r.output ≡ output)) }
 
     // A yes is a proof.
-    ensures soundness_of_yes { IfOk result (λ r. r.status ≡ Status.Done → IsProved bytes.now) }
+    ensures soundness_of_yes { IfOk result (λ r. r.status ≡ Status.Done → IsSoundFile bytes.now) }
 {
     check_until(alloc, bytes, Ending::GiveBack)
 }

@@ -4,7 +4,7 @@ ghost use Rattle.model_limits.specs.Limits.{standard_limits};
 ghost use Rattle.model_text.specs.Nesting.{lexemes_of};
 ghost use Rattle.model_documents.specs.Grammar.{SpellsGrove};
 ghost use Rattle.model_answers.specs.Output.{bad_document_text_line};
-ghost use Rattle.model_answers.specs.Texts.{text_limit};
+ghost use Rattle.model_answers.specs.Texts.{limit_passed};
 ghost use Rattle.logic_text.specs.RawGroves.{raw_forest_of};
 ghost use Rattle.domcheck_core.specs.Answers.{Unread};
 ghost use Rattle.domcheck_core.specs.Refusals.{IfAnswer};
@@ -21,7 +21,7 @@ use token_readers::TextFault;
 /// The grove that the bytes of a document spell, whatever its numbers.
 pub fn read_document(alloc: Global, bytes: &[u8]) -> Result<RawGrove, Refused>
     ensures reads { IfOk result
-        (λ g. text_limit standard_limits.document_nesting bytes.now ≡ None) }
+        (λ g. limit_passed standard_limits.document_nesting bytes.now ≡ None) }
     ensures spelled { IfOk result (λ g. SpellsGrove (raw_forest_of g) (lexemes_of bytes.now)) }
     ensures told { IfErr result (λ e. IfAnswer e
         (Unread SpellsGrove standard_limits.document_nesting bad_document_text_line bytes.now)) }

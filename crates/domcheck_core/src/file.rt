@@ -3,7 +3,7 @@ ghost use Rattle.std.specs.Prelude.{◌≡◌, ℕ, List, None, true, IfOk, IfEr
 ghost use Rattle.std.specs.Bool.{OnTrue};
 ghost use Rattle.model_text.specs.Nesting.{lexemes_of};
 ghost use Rattle.model_grammar.specs.Theories.{SpellsTheory};
-ghost use Rattle.model_answers.specs.Texts.{IsFile, text_limit};
+ghost use Rattle.model_answers.specs.Texts.{IsFile, limit_passed};
 ghost use Rattle.model_answers.specs.Output.{bad_text_line};
 ghost use Rattle.model_files.specs.Sizes.{TheoryIsSmall};
 ghost use Rattle.model_limits.specs.Limits.{standard_limits};
@@ -28,7 +28,7 @@ use token_readers::TextFault;
 
 // The theory that the bytes spell, whether a file may have it or not, and what reading it told.
 fn spelled_theory<J: StepJudge>(alloc: Global, bytes: &[u8]) -> Result<ReadTheory, Refused>
-    ensures reads { IfOk result (λ t. text_limit standard_limits.file_nesting bytes.now ≡ None) }
+    ensures reads { IfOk result (λ t. limit_passed standard_limits.file_nesting bytes.now ≡ None) }
     ensures spelled { IfOk result (λ t. SpellsTheory (theory_of t.theory) (lexemes_of bytes.now)) }
     ensures small { IfOk result (λ t. TheoryIsSmall (theory_of t.theory)) }
     ensures settled { IfOk result (λ t. t.are_settled ≡ theory_settled (theory_of t.theory)) }

@@ -8,8 +8,8 @@
 ghost use Rattle.std.specs.Prelude.{◌≡◌, ◌≤◌, ◌⊎◌, ℕ, List, Contains, None, Some};
 ghost use Rattle.outside_io.specs.Causes.{Rose, Told};
 ghost use Rattle.domcheck_core.specs.Answers.{IsAnswer};
-ghost use Rattle.domcheck_core.specs.Clauses.{asked, OfFile, IsProved, BadWordsExactly, GivesUp, IsAnswered, statuses, ReadRose, Wrote};
-ghost use Rattle.domcheck_core.specs.Numbers.{number_of};
+ghost use Rattle.domcheck_core.specs.Clauses.{asked, OfFile, IsSoundFile, BadWordsExactly, GivesUp, Says, IsAnswered, statuses, ReadRose, Wrote};
+ghost use Rattle.domcheck_core.specs.Numbers.{status_number};
 
 mod answers;
 mod books;
@@ -49,13 +49,13 @@ pub fn domcheck<L: Library, S: Sink>(
 ) -> Status
     // A yes is a proof.
     ensures soundness_of_yes { OfFile (asked words.now) (L.book library.old)
-        (λ bytes. result ≡ Status.Done → IsProved bytes) }
+        (λ bytes. result ≡ Status.Done → IsSoundFile bytes) }
 
-    // The answer to each request is the one that is defined, and no other.
+    // The answer to each request is the one that is defined, status and output, and no other.
     ensures answered { IsAnswered (asked words.now) (L.book library.old) result }
     ensures exactly { (s : Status) (output : List ℕ)
         → IsAnswer (L.book library.old) (asked words.now) s output
-        → (result ≡ s) ⊎ GivesUp result }
+        → Says result (S.taken sink.old) (S.taken sink.new) s output ⊎ GivesUp result }
 
     // It is given where nothing failed, but for want of memory.
     ensures complete { (s : Status) (output : List ℕ)
@@ -63,11 +63,12 @@ pub fn domcheck<L: Library, S: Sink>(
         → (ReadRose (asked words.now) (L.book library.old) (λ name.
         Rose (L.faults library.old name) (L.faults library.new name)) → ⊥)
         → (Rose (S.faults sink.old) (S.faults sink.new) → ⊥)
-        → (result ≡ s) ⊎ (result ≡ Status.OutOfMemory) }
+        → Says result (S.taken sink.old) (S.taken sink.new) s output
+        ⊎ (result ≡ Status.OutOfMemory) }
 
     // Whatever is told, a request has no other status than its own, and bad words of a run that is
     // called come nowhere.
-    ensures possible { Contains (statuses (asked words.now)) (number_of result) }
+    ensures possible { Contains (statuses (asked words.now)) (status_number result) }
     ensures bad_words_exactly { BadWordsExactly (asked words.now) (L.book library.old) result }
 
     // Faults come only where their counts rose.

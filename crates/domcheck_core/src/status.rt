@@ -1,6 +1,6 @@
 // How a call of the program ends.
 ghost use Rattle.std.specs.Prelude.{◌≡◌};
-ghost use Rattle.domcheck_core.specs.Numbers.{number_of};
+ghost use Rattle.domcheck_core.specs.Numbers.{status_number};
 
 use dom_terms::LimitKind;
 
@@ -40,7 +40,7 @@ pub enum Status {
 impl Status {
     /// The exit status of the program, by which scripts tell how it ended.
     pub fn number(&self) -> u8
-        ensures { result ≡ number_of self.now }
+        ensures { result ≡ status_number self.now }
     {
         match self {
             Status::Done => 0,

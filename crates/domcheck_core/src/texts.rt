@@ -3,7 +3,7 @@ ghost use Rattle.std.specs.Prelude.{◌≡◌, ◌≤◌, ℕ, None, Some, lengt
 ghost use Rattle.model_limits.specs.Limits.{standard_limits};
 ghost use Rattle.model_text.specs.Lexemes.{bad_lexeme};
 ghost use Rattle.model_text.specs.Nesting.{lexemes_of};
-ghost use Rattle.model_answers.specs.Texts.{text_limit};
+ghost use Rattle.model_answers.specs.Texts.{limit_passed};
 ghost use Rattle.text_tokens.specs.Sources.{lexemes_from};
 ghost use Rattle.domcheck_core.specs.Answers.{limit_answer};
 ghost use Rattle.domcheck_core.specs.Refusals.{IsRefusal};
@@ -27,13 +27,13 @@ pub fn past(kind: LimitKind) -> Refused
 /// many brackets that may be open, a reader meets a bad token, and so reads nothing.
 pub fn source_of(alloc: Global, bytes: &[u8], nesting: u32) -> Result<Source, Refused>
     ensures small { IfOk result (λ source. length bytes.now ≤ standard_limits.file_bytes) }
-    ensures whole { IfOk result (λ source. text_limit nesting bytes.now ≡ None
+    ensures whole { IfOk result (λ source. limit_passed nesting bytes.now ≡ None
         → lexemes_from source ≡ lexemes_of bytes.now) }
     ensures passes { IfOk result (λ source. ((place : ℕ)
         → slice_get (lexemes_from source) place ≡ Some bad_lexeme → ⊥)
-        → text_limit nesting bytes.now ≡ None) }
+        → limit_passed nesting bytes.now ≡ None) }
     ensures told { IfErr result
-        (λ e. IsRefusal e (option_map limit_answer (text_limit nesting bytes.now))) }
+        (λ e. IsRefusal e (option_map limit_answer (limit_passed nesting bytes.now))) }
 {
     if bytes.len() > MOST_BYTES {
         return Err(past(LimitKind::File));
@@ -45,9 +45,9 @@ pub fn source_of(alloc: Global, bytes: &[u8], nesting: u32) -> Result<Source, Re
 /// Nothing where the bytes pass no limit; asked of bytes that spell nothing, since a limit is told
 /// before any other fault.
 pub fn pass_no_limit(alloc: Global, bytes: &[u8], nesting: u32) -> Result<(), Refused>
-    ensures passes { IfOk result (λ _. text_limit nesting bytes.now ≡ None) }
+    ensures passes { IfOk result (λ _. limit_passed nesting bytes.now ≡ None) }
     ensures told { IfErr result
-        (λ e. IsRefusal e (option_map limit_answer (text_limit nesting bytes.now))) }
+        (λ e. IsRefusal e (option_map limit_answer (limit_passed nesting bytes.now))) }
 {
     if bytes.len() > MOST_BYTES {
         return Err(past(LimitKind::File));

@@ -1,4 +1,5 @@
--- Steps that judge entailments by rules of entailment, and the verdicts on them.
+-- Needn't be believed: the program's promise doesn't speak of it. Steps that judge entailments by
+-- rules of entailment, and the verdicts on them.
 use Rattle.std.specs.Prelude.{◌≡◌, List, true, bytes_eq}
 use Rattle.std.specs.List.{list_any}
 use Rattle.model_commands.specs.Theories.{Judgement, Reason, auto, by_rule, Step}

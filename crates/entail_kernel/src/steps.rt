@@ -11,6 +11,8 @@ ghost use Rattle.row_matching.specs.Choices.{judged};
 ghost use Rattle.rule_rows.specs.Names.{name_of};
 ghost use Rattle.cited_steps.specs.Earlier.{AreCitable, steps_in};
 ghost use Rattle.entail_rules.specs.Premises.{Cites, IsSmallEntailment, IsWellSorted};
+ghost use Rattle.entailment_laws.specs.Judgements.{entailments_alone};
+ghost use Rattle.entailment_laws.specs.Steps.{IsSoundStep};
 ghost use Rattle.entail_kernel.specs.Citing.{CitesOne};
 ghost use Rattle.entail_kernel.specs.Steps.{EntailmentVerdict, IsEntailmentStep};
 
@@ -71,7 +73,8 @@ pub fn entailment_by(
 }
 
 /// The verdict on a step that names a rule of entailment and judges an entailment, over the steps
-/// before it. OutOfMemory comes only where memory is refused.
+/// before it. An instance holds where what it cites are entailments that hold. OutOfMemory comes
+/// only where memory is refused.
 pub fn check_entailment(
     alloc: Global,
     earlier: &[Step],
@@ -79,9 +82,12 @@ pub fn check_entailment(
 ) -> Result<Verdict, OutOfMemory>
     requires earlier { AreCitable earlier.now }
     requires step { IsEntailmentStep step.now }
-    ensures { IfOk result (λ v. EntailmentVerdict (steps_in earlier.now)
+    ensures exact { IfOk result (λ v. EntailmentVerdict (steps_in earlier.now)
         (reason_of step.now.reason) (nameless_judgement (judgement_of step.now.judgement))
         (verdict_in v)) }
+    ensures sound { IfOk result (λ v. v ≡ Verdict.Instance → IsSoundStep entailments_alone
+        (steps_in earlier.now) (reason_of step.now.reason)
+        (nameless_judgement (judgement_of step.now.judgement))) }
 {
     let Judgement::Entails(conclusion) = &step.judgement else {
         unreachable!();

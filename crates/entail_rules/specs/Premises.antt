@@ -1,4 +1,5 @@
--- What a step cites, and what is written at it.
+-- Needn't be believed: the program's promise doesn't speak of it. What a step cites, and what is
+-- written at it.
 use Rattle.std.specs.Prelude.{◌≡◌, ◌<◌, Bool, true, false, List, [], ◌∷◌, Option, Some, None, map}
 use Rattle.model_commands.specs.Theories.{Judgement, entails}
 use Rattle.model_formulas.specs.Parts.{parts}

@@ -10,10 +10,9 @@ use Rattle.model_formulas.specs.Satisfaction.{Entails}
 use Rattle.model_shapes.proofs.Tests.{same_value-refl}
 use Rattle.entailment_laws.specs.Judgements.{Reading}
 use Rattle.rule_table.specs.Letters.{as_logic}
-use Rattle.rule_table.specs.Equations as Te
-use Rattle.rule_table.specs.Equations.{different_literals}
+use Rattle.rule_table.specs.Entailments.{different_literals, equations}
 use Rattle.rule_table.proofs.SomeLetters.{◌&◌}
-use Rattle.entailment_laws.proofs.SoundRows.{SoundRow, SoundEntries, term-stands}
+use Rattle.entailment_laws.proofs.SoundRows.{SoundEntries, term-stands}
 use Rattle.entailment_laws.proofs.Plain as Pl
 use Rattle.entailment_laws.proofs.Quantified as Qu
 use Rattle.entailment_laws.proofs.Linear as Li
@@ -32,35 +31,15 @@ different (literal v) (literal w) s h = Pl.distinct v w s (literals-differ v w h
 different a b s h = absurd (false≢true {P = ⊥} h)
 
 module _ (reading : Reading) where
-  eq_refl : SoundRow reading Te.eq_refl
-  eq_refl l so w c h = Pl.eq_refl l.P l.E l.s
-
-  eq_subst : SoundRow reading Te.eq_subst
-  eq_subst l so w c h = Qu.eq_subst (as_logic l.x) l.P l.E l.F l.s
-
-  distinct : SoundRow reading Te.distinct
-  distinct l so w c h = different l.E l.F l.s c.0
-
-  int_total : SoundRow reading Te.int_total
-  int_total l so w c h = Pl.int_total l.P l.E l.F l.s
-
-  linear_order : SoundRow reading Te.linear_order
-  linear_order l so w c h = Li.linear_order l.W l.s c.0 l.E l.F c.1.0
-
-  linear_false : SoundRow reading Te.linear_false
-  linear_false l so w c h = Li.linear_false l.W l.s c.0 c.1.0
-
-  linear_equation : SoundRow reading Te.linear_equation
-  linear_equation l so w c h =
-      Li.linear_equation l.W l.s c.0 l.E l.F (term-stands (value int_sort) l.E w.0)
-      (term-stands (value int_sort) l.F w.1.0) c.1.0
-
-  concat : SoundRow reading Te.concat
-  concat l so w c h =
-      Tx.concat l.P l.E l.F l.s (term-stands (value str_sort) l.E w.0)
-      (term-stands (value str_sort) l.F w.1.0) c.0
-
-  pub sound : SoundEntries reading Te.entries
+  pub sound : SoundEntries reading equations
   sound =
-      (eq_refl & tt) & (eq_subst & tt) & (distinct & tt) & (int_total & tt)
-      & (linear_order & linear_equation & linear_false & tt) & (concat & tt) & tt
+      ((λ l so w c h. Pl.eq_refl l.P l.E l.s) & tt)
+      & ((λ l so w c h. Qu.eq_subst (as_logic l.x) l.P l.E l.F l.s) & tt)
+      & ((λ l so w c h. different l.E l.F l.s c.0) & tt)
+      & ((λ l so w c h. Pl.int_total l.P l.E l.F l.s) & tt)
+      & ((λ l so w c h. Li.linear_order l.W l.s c.0 l.E l.F c.1.0)
+      & (λ l so w c h. Li.linear_equation l.W l.s c.0 l.E l.F
+      (term-stands (value int_sort) l.E w.0) (term-stands (value int_sort) l.F w.1.0) c.1.0)
+      & (λ l so w c h. Li.linear_false l.W l.s c.0 c.1.0) & tt)
+      & ((λ l so w c h. Tx.concat l.P l.E l.F l.s (term-stands (value str_sort) l.E w.0)
+      (term-stands (value str_sort) l.F w.1.0) c.0) & tt) & tt

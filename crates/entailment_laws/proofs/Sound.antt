@@ -2,7 +2,8 @@
 use Rattle.std.proofs.Common.{List, [], ◌∷◌}
 use Rattle.std.specs.List.{flat_map}
 use Rattle.rule_table.specs.Entries.{Entry}
-use Rattle.rule_table.specs.Table.{groups, entailments}
+use Rattle.rule_table.specs.Entailments.{groups}
+use Rattle.rule_table.specs.Table.{entailments}
 use Rattle.entailment_laws.specs.Judgements.{Reading}
 use Rattle.rule_table.proofs.SomeLetters.{◌&◌}
 use Rattle.entailment_laws.proofs.SoundRows.{SoundEntries, sound-append}

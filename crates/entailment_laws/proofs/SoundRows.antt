@@ -11,7 +11,6 @@ use Rattle.model_formulas.specs.WellSorted.{variable_at}
 use Rattle.model_formulas.proofs.SortedTerms.{term-fits}
 use Rattle.rule_table.specs.Letters.{Letters}
 use Rattle.rule_table.specs.Conditions.{TermAt}
-use Rattle.rule_table.specs.Lines.{Line}
 use Rattle.rule_table.specs.Entries.{Row, Entry}
 use Rattle.rule_table.specs.Verdicts.{AllMet, AllHold}
 use Rattle.entailment_laws.specs.Judgements.{Reading, Fitting, JudgementHolds, AllProved}
@@ -43,10 +42,6 @@ module _ (reading : Reading) where
   SoundRow row = (l : Letters) → Fitting reading (row l).conclusion → AllMet (row l).requirements
       → AllHold (row l).conditions → AllProved reading (row l).premises
       → JudgementHolds reading (row l).conclusion
-
-  -- from left to right, and from right to left
-  abbrev pub SoundWays : (Letters → Line × Line) → Type 0
-  SoundWays row = SoundRow (λ l. (row l).0) × SoundRow (λ l. (row l).1)
 
   -- each row of a list is sound
   abbrev pub SoundRows : List Row → Type 0

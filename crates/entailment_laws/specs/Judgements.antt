@@ -1,5 +1,5 @@
--- When a judgement holds, by how triples are read: an entailment holds as ever, and a triple as
--- the reading says.
+-- Needn't be believed: the program's promise doesn't speak of it. When a judgement holds, by how
+-- triples are read: an entailment holds as ever, and a triple as the reading says.
 use Rattle.std.specs.Prelude.{List, [], ◌∷◌}
 use Rattle.model_shapes.specs.Sorts.{DataSort}
 use Rattle.model_formulas.specs.Formulas.{Formula}

@@ -18,6 +18,7 @@ pub fn fault_name(kind: FaultKind) -> &'static str
         FaultKind::NoList => "NoList",
         FaultKind::Cycle => "Cycle",
         FaultKind::NotChild => "NotChild",
+        FaultKind::SelfRef => "SelfRef",
     }
 }
 

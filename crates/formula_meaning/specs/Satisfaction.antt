@@ -1,5 +1,5 @@
--- Satisfaction of the formulas of the program: that of POPL 2005 and PODS 2008, of the formulas
--- that they stand for.
+-- Needn't be believed: the program's promise doesn't speak of it. Satisfaction of the formulas of
+-- the program: that of POPL 2005 and PODS 2008, of the formulas that they stand for.
 use Rattle.model_shapes.specs.Sorts.{Sort}
 use Rattle.model_shapes.specs.Trees.{Trees}
 use Rattle.model_formulas.specs.Nameless.{nameless}

@@ -1,5 +1,6 @@
--- The binders that a walk down a formula has passed. A variable is named by the number of binders
--- between it and its binder, as the nameless form of a formula has it.
+-- Needn't be believed: the program's promise doesn't speak of it. The binders that a walk down a
+-- formula has passed. A variable is named by the number of binders between it and its binder, as
+-- the nameless form of a formula has it.
 use Rattle.std.specs.Prelude.{List, [], ◌∷◌}
 use Rattle.model_terms.specs.Variables.{Var}
 use Rattle.dom_terms.specs.Terms.{logic_var_of}

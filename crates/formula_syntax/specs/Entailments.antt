@@ -1,4 +1,5 @@
--- The entailments of the definitions that those of the program stand for.
+-- Needn't be believed: the program's promise doesn't speak of it. The entailments of the
+-- definitions that those of the program stand for.
 use Rattle.model_formulas.specs.Formulas.{Named}
 use Rattle.model_formulas.specs.Entailments.{EntailmentOf}
 use Rattle.dom_terms.specs.Sorts.{sort_of}

@@ -1,5 +1,6 @@
--- The formulas of the definitions, those of POPL 2005 and PODS 2008 with the names that they are
--- written with, that the formulas of the program stand for; and its variables and pairs.
+-- Needn't be believed: the program's promise doesn't speak of it. The formulas of the definitions,
+-- those of POPL 2005 and PODS 2008 with the names that they are written with, that the formulas of
+-- the program stand for; and its variables and pairs.
 use Rattle.model_shapes.specs.Sorts.{forest, grove}
 use Rattle.model_terms.specs.Variables.{Var}
 use Rattle.model_terms.specs.Terms as terms

@@ -1,5 +1,6 @@
--- The free variables of a formula in order: what stands in it from left to right, without what a
--- quantifier binds, each once. A law says that they are the free ones of the nameless formula.
+-- Needn't be believed: the program's promise doesn't speak of it. The free variables of a formula
+-- in order: what stands in it from left to right, without what a quantifier binds, each once. A law
+-- says that they are the free ones of the nameless formula.
 use Rattle.std.specs.Prelude.{Bool, not, List, [], ◌∷◌, ◌++◌}
 use Rattle.std.specs.List.{filter, list_any}
 use Rattle.model_terms.specs.VariableTests.{same_var}

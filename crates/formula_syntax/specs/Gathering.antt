@@ -1,5 +1,5 @@
--- What a walk down a formula has found so far, and what binders leave of it.
--- Nothing here is to be believed: it divides the list of the free variables into steps.
+-- Needn't be believed: it divides the list of the free variables into steps. What a walk down a
+-- formula has found so far, and what binders leave of it.
 use Rattle.std.specs.Prelude.{◌≡◌, ℕ, Bool, false, cond, List, [], ◌∷◌, ◌++◌, None, bytes_eq}
 use Rattle.std.specs.List.{list_any}
 use Rattle.model_terms.specs.Variables.{Var, prog, logic, bound}

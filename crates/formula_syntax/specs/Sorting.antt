@@ -1,5 +1,5 @@
--- What a formula itself, its parts apart, must meet to be judged at a sort: the first argument of
--- `own` in `first_fault`. Nothing here is to be believed: the sort test is stated by `first_fault`.
+-- Needn't be believed: the sort test is stated by `first_fault`. What a formula itself, its parts
+-- apart, must meet to be judged at a sort: the first argument of `own` in `first_fault`.
 use Rattle.std.specs.Prelude.{Bool, ◌&&◌}
 use Rattle.model_shapes.specs.Tests.{same_sort}
 use Rattle.model_shapes.specs.Sorts.{Sort, shape, context, node_sort, list_sort, int_sort, str_sort, tree, forest, grove, is_sort, outer, with_outer}

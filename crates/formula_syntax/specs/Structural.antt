@@ -1,5 +1,5 @@
--- The formulas that speak of data itself, which context logic (POPL 2005) adds to predicate logic.
--- Nothing here is to be believed: it divides the walk down two formulas in two.
+-- Needn't be believed: it divides the walk down two formulas in two. The formulas that speak of
+-- data itself, which context logic (POPL 2005) adds to predicate logic.
 use Rattle.std.specs.Prelude.{Bool, true, false}
 use Rattle.model_formulas.specs.Formulas.{Named, truth, falsity, conjunction, disjunction, implication, negation, existential, universal, equality, at_most, value_meets}
 

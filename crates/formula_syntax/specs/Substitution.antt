@@ -1,5 +1,6 @@
--- The simultaneous substitution of terms for variables that a list of pairs says, in the nameless
--- formulas of the definitions, where nothing can be captured; and what it is below binders.
+-- Needn't be believed: the program's promise doesn't speak of it. The simultaneous substitution of
+-- terms for variables that a list of pairs says, in the nameless formulas of the definitions, where
+-- nothing can be captured; and what it is below binders.
 use Rattle.std.specs.Prelude.{◌≡◌, List, [], ◌∷◌, map, Bool, true, false, not, ◌&&◌}
 use Rattle.std.specs.List.{list_all}
 use Rattle.model_shapes.specs.Sorts.{Sort, value}

@@ -1,5 +1,5 @@
--- What a walk of the substitution answers, below the binders that it has passed.
--- Nothing here is to be believed: the substitution itself is stated without it.
+-- Needn't be believed: the substitution itself is stated without it. What a walk of the
+-- substitution answers, below the binders that it has passed.
 use Rattle.std.specs.Prelude.{◌≡◌, map}
 use Rattle.model_terms.specs.Terms.{Term, Substitution, term_with}
 use Rattle.model_formulas.specs.Formulas.{Named}

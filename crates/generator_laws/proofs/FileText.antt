@@ -125,27 +125,27 @@ module _ (k : ℕ) (small : k ≤ most_makers) where
   short_text = let few = few_digits k small in grind (arith, nat_tests)
 
   maker_short : (rest : List (List Lexeme))
-      → are_short (procedure_lines (maker k) ++ rest) ≡ are_short rest
+      → are_short (procedure_lines 1 (maker k) ++ rest) ≡ are_short rest
   unfolding reserved_words
   maker_short rest = rw (short_name, short_text) refl
 
 makers_short : (first n : ℕ) → first + n ≤ suc most_makers
-    → are_short (procedures_lines (makers first n)) ≡ true
+    → are_short (procedures_lines 1 (makers first n)) ≡ true
 makers_short first zero small = refl
 makers_short first (suc n) small =
-    maker_short first (omega arith) (procedures_lines (makers (first + 1) n))
+    maker_short first (omega arith) (procedures_lines 1 (makers (first + 1) n))
     ∙ makers_short (first + 1) n (omega arith)
 
 maker_counted : (k : ℕ) (rest : List (List Lexeme))
-    → counted (procedure_lines (maker k) ++ rest) ≤ counted rest + 600
+    → counted (procedure_lines 1 (maker k) ++ rest) ≤ counted rest + 600
 maker_counted k rest = omega arith
 
-makers_counted : (first n : ℕ) → counted (procedures_lines (makers first n)) ≤ 600 * n
+makers_counted : (first n : ℕ) → counted (procedures_lines 1 (makers first n)) ≤ 600 * n
 makers_counted first zero = omega arith
 makers_counted first (suc n) =
-    let here : counted (procedures_lines (makers first (suc n)))
-    ≤ counted (procedures_lines (makers (first + 1) n)) + 600 =
-    maker_counted first (procedures_lines (makers (first + 1) n)) in
+    let here : counted (procedures_lines 1 (makers first (suc n)))
+    ≤ counted (procedures_lines 1 (makers (first + 1) n)) + 600 =
+    maker_counted first (procedures_lines 1 (makers (first + 1) n)) in
     let rest = makers_counted (first + 1) n in
     omega arith
 
@@ -156,8 +156,8 @@ few_bytes n small =
     let lines : List (List Lexeme) = theory_lines (generated_theory n) in
     let short : are_short lines ≡ true = makers_short 1 n (omega arith) in
     let size : length (text_of_lines lines) ≤ 13 * counted lines = text_length lines short in
-    let head : counted lines ≤ counted (procedures_lines (makers 1 n)) + 20 = omega arith in
-    let rest : counted (procedures_lines (makers 1 n)) ≤ 600 * n = makers_counted 1 n in
+    let head : counted lines ≤ counted (procedures_lines 1 (makers 1 n)) + 20 = omega arith in
+    let rest : counted (procedures_lines 1 (makers 1 n)) ≤ 600 * n = makers_counted 1 n in
     within (length (text_of_lines lines)) (omega arith)
   where
     within : (size : ℕ) → size ≤ standard_limits.file_bytes

@@ -1,6 +1,9 @@
 -- The generated theory can be written, has the sorts of its declarations, and literals of UTF-8.
-use Rattle.std.proofs.Common.{◌≡◌, ℕ, zero, suc, ◌+◌, ◌≤◌, List, [], ◌∷◌, ◌++◌, map, codes, refl, arith}
+use Rattle.std.proofs.Common.{◌≡◌, ℕ, zero, suc, ◌+◌, ◌≤◌, Bool, true, false, not, ◌&&◌, cond, bytes_eq, List, [], ◌∷◌, ◌++◌, map, codes, refl, arith}
+use Rattle.std.specs.List.{list_all}
 use Rattle.std.specs.Fmt.{decimal}
+use Rattle.model_shapes.proofs.Truth.{both_true}
+use Rattle.model_text.specs.Versions.{insert_word, IsOfVersion}
 use Rattle.std.specs.Str.{IsUtf8}
 use Rattle.model_terms.specs.Terms.{Term, variable}
 use Rattle.model_formulas.specs.Formulas.{Named}
@@ -10,9 +13,10 @@ use Rattle.model_text.specs.Lexemes.{Lexeme, terminal, step_word, name_lexeme, l
 use Rattle.model_text.proofs.Computing.{lexing}
 use Rattle.model_grammar.specs.Sorts.{sorted_procedure, with_sorts}
 use Rattle.model_grammar.specs.Terms.{in_formula}
-use Rattle.model_grammar.specs.Writing.{Each, IsName, IsLogicName, IsWritableTerm, IsWritable, IsWritableCommand, procedures_lines, theory_lines}
+use Rattle.model_grammar.specs.Writing.{Each, IsName, IsLogicName, IsWritableTerm, IsWritable, IsWritableCommand, procedure_lines, procedures_lines, theory_lines}
 use Rattle.model_round_trip.specs.Writable.{IsWord, IsNumeral, IsWritableReason, IsWritableJudgement, IsWritableStep, IsWritableProcedure, IsWritableTheory}
 use Rattle.model_round_trip.specs.Literals.{LiteralsAreUtf8}
+use Rattle.model_round_trip.proofs.Versions.{plain}
 use Rattle.rule_table.proofs.SomeLetters.{◌&◌}
 use Rattle.model_generator.specs.Generated.{x_term, some_node, some_list, beginning, new_root, some_root, nothing_yet, creation, body, proof, maker, makers, most_makers, generated_theory}
 use Rattle.generator_laws.proofs.FileNames.{name_is_name, text_is_utf8}
@@ -130,6 +134,89 @@ makers_writable first zero small = tt
 makers_writable first (suc n) small =
     (maker_writable first (omega arith), makers_writable (first + 1) n (omega arith))
 
+-- THE WORDS of the file are those of version 1, by computing
+abbrev is_of_first : Lexeme → Bool
+is_of_first (terminal text) = not (bytes_eq text insert_word)
+is_of_first lexeme = true
+
+and_false : (b : Bool) → (b && false) ≡ false
+and_false true = refl
+and_false false = refl
+
+tested_word : (lexeme : Lexeme) → is_of_first lexeme ≡ true → IsOfVersion 1 lexeme
+tested_word (terminal text) e = by_test (bytes_eq text insert_word) e
+  where
+    by_test : (b : Bool) → not b ≡ true → (b && true) ≡ false
+    by_test true e = absurd cc
+    by_test false e = refl
+tested_word (name_lexeme name) e = and_false (bytes_eq name insert_word)
+tested_word (step_word line) e = tt
+tested_word (logic_lexeme name) e = tt
+tested_word (number_lexeme n) e = tt
+tested_word (literal_lexeme text) e = tt
+tested_word bad_lexeme e = tt
+
+tested_line : (line : List Lexeme) → list_all is_of_first line ≡ true
+    → Each (IsOfVersion 1) line
+tested_line [] e = tt
+tested_line (x ∷ line) e =
+    let h = both_true (is_of_first x) (list_all is_of_first line) e in
+    (tested_word x h.0, tested_line line h.1)
+
+tested_lines : (lines : List (List Lexeme)) → list_all (list_all is_of_first) lines ≡ true
+    → Each (Each (IsOfVersion 1)) lines
+tested_lines [] e = tt
+tested_lines (line ∷ lines) e =
+    let h = both_true (list_all is_of_first line) (list_all (list_all is_of_first) lines) e in
+    (tested_line line h.0, tested_lines lines h.1)
+
+maker_words : (k : ℕ) (rest : List (List Lexeme)) → list_all (list_all is_of_first) rest ≡ true
+    → list_all (list_all is_of_first) (procedure_lines 1 (maker k) ++ rest) ≡ true
+unfolding reserved_words
+maker_words k rest e = e
+
+makers_words : (first n : ℕ)
+    → list_all (list_all is_of_first) (procedures_lines 1 (makers first n)) ≡ true
+makers_words first zero = refl
+makers_words first (suc n) =
+    maker_words first (procedures_lines 1 (makers (first + 1) n)) (makers_words (first + 1) n)
+
+file_words : (n : ℕ)
+    → list_all (list_all is_of_first) (theory_lines (generated_theory n)) ≡ true
+file_words n = makers_words 1 n
+
+-- so they are plain
+one_plain : (lexeme : Lexeme) → is_of_first lexeme ≡ true → plain lexeme ≡ lexeme
+one_plain (terminal text) e = by_test (bytes_eq text insert_word) e
+  where
+    by_test : (b : Bool) → not b ≡ true
+        → cond b (name_lexeme text) (terminal text) ≡ terminal text
+    by_test true e = absurd cc
+    by_test false e = refl
+one_plain (name_lexeme name) e = refl
+one_plain (step_word line) e = refl
+one_plain (logic_lexeme name) e = refl
+one_plain (number_lexeme n) e = refl
+one_plain (literal_lexeme text) e = refl
+one_plain bad_lexeme e = refl
+
+plain_line : (line : List Lexeme) → list_all is_of_first line ≡ true → map plain line ≡ line
+plain_line [] e = refl
+plain_line (x ∷ line) e =
+    let h = both_true (is_of_first x) (list_all is_of_first line) e in
+    λ j. one_plain x h.0 j ∷ plain_line line h.1 j
+
+plain_lines : (lines : List (List Lexeme)) → list_all (list_all is_of_first) lines ≡ true
+    → map (map plain) lines ≡ lines
+plain_lines [] e = refl
+plain_lines (line ∷ lines) e =
+    let h = both_true (list_all is_of_first line) (list_all (list_all is_of_first) lines) e in
+    λ j. plain_line line h.0 j ∷ plain_lines lines h.1 j
+
+pub file_plain : (n : ℕ) → map (map plain) (theory_lines (generated_theory n))
+    ≡ theory_lines (generated_theory n)
+file_plain n = plain_lines (theory_lines (generated_theory n)) (file_words n)
+
 pub theory_writable : (n : ℕ) → 1 ≤ n → n ≤ most_makers → IsWritableTheory (generated_theory n)
 theory_writable zero some small = absurd (omega arith)
 theory_writable (suc n) some small = record {
@@ -137,6 +224,7 @@ theory_writable (suc n) some small = record {
   logic = ((m_is_logic, refl), ((n_is_logic, refl), tt));
   some = tt;
   procedures = makers_writable 1 (suc n) (omega arith);
+  words = tested_lines (theory_lines (generated_theory (suc n))) (file_words (suc n));
 }
 
 -- THE SORTS are those that are declared
@@ -202,11 +290,11 @@ each_copy zero text more h others = others
 each_copy (suc n) text more h others = (h, each_copy n text more h others)
 
 makers_texts : (first n : ℕ) → first + n ≤ suc most_makers
-    → Each IsUtf8 (texts_in (procedures_lines (makers first n)))
+    → Each IsUtf8 (texts_in (procedures_lines 1 (makers first n)))
 unfolding reserved_words
 makers_texts first zero small = tt
 makers_texts first (suc n) small =
-    each_copy 18 (codes "t" ++ decimal first) (texts_in (procedures_lines (makers (first + 1) n)))
+    each_copy 18 (codes "t" ++ decimal first) (texts_in (procedures_lines 1 (makers (first + 1) n)))
     (text_is_utf8 first (omega arith)) (makers_texts (first + 1) n (omega arith))
 
 pub theory_literals : (n : ℕ) → n ≤ most_makers

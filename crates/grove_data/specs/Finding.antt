@@ -1,5 +1,6 @@
--- What is looked for in a grove, and the answer. Only `number_or_null` is to be believed: the
--- contracts of the public calls speak of the tests of the definitions.
+-- Needn't be believed: the program's promise doesn't speak of it. What is looked for in a grove,
+-- and the answer. The contracts of the public calls speak of `number_or_null` and of the tests of
+-- the definitions.
 use Rattle.std.specs.Prelude.{ℕ, Bool, Option, Some, None}
 use Rattle.model_shapes.specs.Values.{Value, null, node_number}
 use Rattle.model_shapes.specs.Trees.{Trees, none, node, hole}

@@ -1,5 +1,5 @@
--- Equality of trees as a test that computes. Nothing here is to be believed: the contract of the
--- call that answers it speaks of sameness.
+-- Needn't be believed: the contract of the call that answers it speaks of sameness. Equality of
+-- trees as a test that computes.
 use Rattle.std.specs.Prelude.{Bool, true, false, ◌&&◌, ◌==◌, bytes_eq}
 use Rattle.model_shapes.specs.Trees.{Trees, none, node, hole}
 

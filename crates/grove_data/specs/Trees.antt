@@ -1,5 +1,5 @@
--- The trees, forests and groves of the definitions, those of PODS 2008, that those of the program
--- stand for.
+-- Needn't be believed: the program's promise doesn't speak of it. The trees, forests and groves of
+-- the definitions, those of PODS 2008, that those of the program stand for.
 use Rattle.std.specs.Prelude.{List, [], ◌∷◌, map}
 use Rattle.model_shapes.specs.Trees.{Trees, none, node, beside}
 use Rattle.grove_data.specs.declared.trees.Tree.{Tree, fold-Tree}

@@ -1,4 +1,5 @@
--- The numbers of a grove as the program holds them, and what the answer of a repeat says.
+-- Needn't be believed: the program's promise doesn't speak of it. The numbers of a grove as the
+-- program holds them, and what the answer of a repeat says.
 use Rattle.std.specs.Prelude.{◌≡◌, ℕ, Bool, Option, Some}
 use Rattle.std.specs.Ordering.{nat_cmp}
 use Rattle.std.specs.BTreeSet.{contains}

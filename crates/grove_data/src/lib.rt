@@ -11,7 +11,7 @@ mod roots;
 mod trees;
 mod unique;
 
-pub use changing::{moved_below, moved_to_roots};
+pub use changing::{moved_before, moved_below, moved_to_roots};
 pub use counting::{greatest_ids, has_at_most};
 pub use finding::{find, find_list, has_list, has_node, has_root, is_within, parent_of};
 pub use roots::{same_sorted, sort_roots};

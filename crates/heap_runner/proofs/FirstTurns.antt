@@ -6,7 +6,7 @@ use Rattle.model_terms.specs.Terms.{Term}
 use Rattle.model_terms.specs.TermLimits.{or_else}
 use Rattle.model_terms.specs.Stores.{ProgVar, Store, set, sort_of, ProperStore}
 use Rattle.model_terms.proofs.StoreLaws.{set-same}
-use Rattle.model_commands.specs.Commands.{skip, block, assign, create_node, node_name, child_nodes, parent_node, list_item, append_child, remove_child, if_else, while_do, local, call}
+use Rattle.model_commands.specs.Commands.{skip, block, assign, create_node, node_name, child_nodes, parent_node, list_item, append_child, remove_child, insert_before, if_else, while_do, local, call}
 use Rattle.model_commands.specs.Theories.{Procedure, Procedures, procedure_named}
 use Rattle.model_groves.specs.Picks.{Pick}
 use Rattle.model_limits.specs.Limits.{standard_limits}
@@ -77,6 +77,7 @@ module _ (ps : Procedures) (p q : Pick) (store : Store) (g h : Trees) where
   moves_alike (run (list_item x t u)) e = absurd cc
   moves_alike (run (append_child t u)) e = absurd cc
   moves_alike (run (remove_child t u)) e = absurd cc
+  moves_alike (run (insert_before t u v)) e = absurd cc
 
   stepped_alike : (rest : List Piece) (m : Move)
       → stepped rest (with_grove h m) ≡ out_with h (stepped rest m)
@@ -115,3 +116,4 @@ limits_alike (run (parent_node x t)) rest store g h e = absurd cc
 limits_alike (run (list_item x t u)) rest store g h e = absurd cc
 limits_alike (run (append_child t u)) rest store g h e = absurd cc
 limits_alike (run (remove_child t u)) rest store g h e = absurd cc
+limits_alike (run (insert_before t u v)) rest store g h e = absurd cc

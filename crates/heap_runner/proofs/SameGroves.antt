@@ -9,7 +9,7 @@ use Rattle.model_shapes.proofs.Shapes.{same-at}
 use Rattle.model_shapes.proofs.Reorders.{same-reordered}
 use Rattle.model_terms.specs.Stores.{Store}
 use Rattle.model_terms.specs.TermLimits.{or_else, unless}
-use Rattle.model_commands.specs.Commands.{skip, block, assign, create_node, node_name, child_nodes, parent_node, list_item, append_child, remove_child, if_else, while_do, local, call}
+use Rattle.model_commands.specs.Commands.{skip, block, assign, create_node, node_name, child_nodes, parent_node, list_item, append_child, remove_child, insert_before, if_else, while_do, local, call}
 use Rattle.model_groves.specs.Picks.{next_pick}
 use Rattle.model_groves.specs.Sizes.{size, greatest_node, greatest_list}
 use Rattle.model_limits.specs.Limits.{nodes_limit, identifier_limit, standard_limits}
@@ -86,6 +86,7 @@ module _ (a b : Trees) (same : SameAt grove a b) where
   same-limit (run (list_item x t u) ∷ rest) store = refl
   same-limit (run (append_child t u) ∷ rest) store = refl
   same-limit (run (remove_child t u) ∷ rest) store = refl
+  same-limit (run (insert_before t u v) ∷ rest) store = refl
   same-limit (run (if_else c d e) ∷ rest) store = refl
   same-limit (run (while_do c d) ∷ rest) store = refl
   same-limit (run (local x d) ∷ rest) store = refl

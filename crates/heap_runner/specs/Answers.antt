@@ -1,5 +1,6 @@
--- How a run on a heap comes out, as an outcome of the definitions, and which grove the heap then
--- stands for. The order of the roots is free, and so is want of memory.
+-- Needn't be believed: the program's promise doesn't speak of it. How a run on a heap comes out, as
+-- an outcome of the definitions, and which grove the heap then stands for. The order of the roots
+-- is free, and so is want of memory.
 use Rattle.std.specs.Prelude.{◌≡◌, ℕ, suc, ◌<◌, ◌≤◌, map, Option, Some, None}
 use Rattle.model_shapes.specs.Sorts.{grove}
 use Rattle.model_shapes.specs.Trees.{Trees}

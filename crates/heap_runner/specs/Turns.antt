@@ -6,7 +6,7 @@ use Rattle.model_shapes.specs.Values.{Name, Value, str, list_number}
 use Rattle.model_terms.specs.Terms.{Term}
 use Rattle.model_terms.specs.Stores.{Store, set}
 use Rattle.model_terms.specs.TermLimits.{or_else, unless, term_limit}
-use Rattle.model_commands.specs.Commands.{Command, create_node, node_name, child_nodes, parent_node, list_item, append_child, remove_child}
+use Rattle.model_commands.specs.Commands.{Command, create_node, node_name, child_nodes, parent_node, list_item, append_child, remove_child, insert_before}
 use Rattle.model_groves.specs.Groves.{nodes_where, parental, first_number}
 use Rattle.model_groves.specs.Sizes.{size, greatest_node, greatest_list}
 use Rattle.model_limits.specs.Limits.{LimitKind, nodes_limit, identifier_limit, standard_limits}
@@ -33,6 +33,7 @@ looks (parent_node x e) = true
 looks (list_item x e f) = true
 looks (append_child e f) = true
 looks (remove_child e f) = true
+looks (insert_before e f g) = true
 looks command = false
 
 -- the piece looks at the grove

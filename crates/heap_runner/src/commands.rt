@@ -7,7 +7,7 @@ ghost use Rattle.model_commands.specs.Theories.{Procedures};
 ghost use Rattle.model_groves.specs.Groves.{node_at};
 ghost use Rattle.model_groves.specs.Picks.{next_pick};
 ghost use Rattle.model_limits.specs.Limits.{standard_limits};
-ghost use Rattle.model_machine.specs.Machine.{Piece, run, move, creating, configuration};
+ghost use Rattle.model_machine.specs.Machine.{Piece, run, move, creating, inserting_at, configuration};
 ghost use Rattle.model_terms.specs.Stores as stores;
 ghost use Rattle.model_terms.specs.Stores.{value_of, text_in};
 ghost use Rattle.model_terms.specs.TermLimits.{terms_limit};
@@ -16,6 +16,7 @@ ghost use Rattle.dom_terms.specs.Stores.{store_of};
 ghost use Rattle.dom_terms.specs.Terms.{prog_var_of, term_of};
 ghost use Rattle.dom_terms.specs.Values.{value_seen};
 ghost use Rattle.theory_syntax.specs.Commands.{command_of};
+ghost use Rattle.grove_data.specs.Finding.{number_or_null};
 ghost use Rattle.dom_meaning.specs.Faults.{TellsLimit};
 ghost use Rattle.dom_meaning.specs.OwnTerms.{TermsFit};
 ghost use Rattle.node_heap.specs.Answers.{Did};
@@ -76,6 +77,9 @@ pub(crate) fn asked(
         Command::Item(x, list, place) => item_read(alloc, x, list, place, store, heap),
         Command::Append(parent, child) => moved(alloc, Place::Children, parent, child, store, heap),
         Command::Remove(parent, child) => moved(alloc, Place::Roots, parent, child, store, heap),
+        Command::InsertBefore(parent, child, next) => {
+            inserted(alloc, parent, child, next, store, heap)
+        }
         _ => Ok(Turn::Elsewhere),
     }
 }
@@ -163,5 +167,54 @@ fn moved_to(place: Place, parent: u32, child: u32, heap: &mut NodeHeap) -> Resul
     match place {
         Place::Children => heap.append(parent, child),
         Place::Roots => heap.remove(parent, child),
+    }
+}
+
+// Moves the tree of the second node to just before the third, a child of the first, or to the end
+// of the children of the first where the third is null.
+#[tactic(auto, using(crate::proofs::Moves::inserting_rules))]
+fn inserted(
+    alloc: Global,
+    parent: &Term,
+    child: &Term,
+    next: &Term,
+    store: &Store,
+    heap: &mut NodeHeap,
+) -> Result<Turn, StepFault>
+    requires parent { evaluates sorts.node_sort (term_of parent.now) ≡ true }
+    requires child { evaluates sorts.node_sort (term_of child.now) ≡ true }
+    requires next { evaluates sorts.node_sort (term_of next.now) ≡ true }
+    ensures came { Came true (inserting_at (value_of (store_of store.now) (term_of next.now))
+        (node_at (value_of (store_of store.now) (term_of parent.now)) heap.old.grove)
+        (node_at (value_of (store_of store.now) (term_of child.now)) heap.old.grove)
+        (store_of store.now) heap.old.grove)
+        (store_of store.now) heap.old.grove heap.new.grove result }
+    ensures limit { TellsLimit result (terms_limit standard_limits (store_of store.now)
+        (term_of parent.now ∷ term_of child.now ∷ term_of next.now ∷ [])) }
+{
+    let parent = eval(alloc, parent, store)?;
+    let child = eval(alloc, child, store)?;
+    let next = number(eval(alloc, next, store)?);
+    let Value::Node(parent) = parent else {
+        return Ok(Turn::Fault(FaultKind::NoNode));
+    };
+    let Value::Node(child) = child else {
+        return Ok(Turn::Fault(FaultKind::NoNode));
+    };
+    match heap.insert_before(parent, child, next) {
+        Ok(()) => Ok(Turn::Moved),
+        Err(kind) => Ok(Turn::Fault(kind)),
+    }
+}
+
+// The number of the node that a value names: none where it is null.
+fn number(value: Value) -> Option<u32>
+    requires { FitsValue sorts.node_sort (value_seen value) }
+    ensures { number_or_null result ≡ value_seen value }
+{
+    match value {
+        Value::NullNode => None,
+        Value::Node(number) => Some(number),
+        _ => unreachable!(),
     }
 }

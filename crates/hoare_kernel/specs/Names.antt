@@ -1,4 +1,5 @@
--- The names of the rules for triples.
+-- Needn't be believed: the program's promise doesn't speak of it. The names of the rules for
+-- triples.
 use Rattle.std.specs.Prelude.{codes}
 use Rattle.model_shapes.specs.Values.{Name}
 use Rattle.hoare_kernel.specs.declared.names.TripleRule.{TripleRule}

@@ -1,4 +1,4 @@
--- Why a theory is refused.
+-- Needn't be believed: the program's promise doesn't speak of it. Why a theory is refused.
 use Rattle.std.specs.Prelude.{ℕ}
 use Rattle.rule_table.specs.Accepted.{Fault, fails, gap, no_proof, IsFirstBad}
 use Rattle.row_patterns.specs.Verdicts.{verdict_in}

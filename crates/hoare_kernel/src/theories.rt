@@ -5,6 +5,7 @@ ghost use Rattle.model_commands.specs.Theories.{nameless_procedure, procedures_o
 ghost use Rattle.model_files.specs.FileFaults.{IsWellFormedTheory};
 ghost use Rattle.model_files.specs.FileLimits.{step_count};
 ghost use Rattle.model_files.specs.Sizes.{ProcedureIsSmall, TheoryIsSmall};
+ghost use Rattle.model_machine.specs.LocalTriples.{MeetsItsSpecification};
 ghost use Rattle.rule_table.specs.Accepted.{Each, IsAccepted, IsProved};
 ghost use Rattle.theory_syntax.specs.Theories.{procedure_of, theory_of};
 ghost use Rattle.cited_steps.specs.Earlier.{steps_in};
@@ -91,12 +92,16 @@ fn count_steps(procedures: &[Procedure]) -> u32
 
 /// Whether the theory is accepted: each step is an instance of the rule that it names over the
 /// steps before it, and each proof ends in its procedure's own triple. Formulas are compared up to
-/// the names of bound variables. The theory is well formed. The error tells the first bad place and
-/// why it is bad. OutOfMemory comes only where memory is refused.
+/// the names of bound variables. The theory is well formed. Each procedure of an accepted one meets
+/// its specification. The error tells the first bad place and why it is bad. OutOfMemory comes only
+/// where memory is refused.
 pub fn check_theory(alloc: Global, theory: &Theory) -> Result<Accepted, Refusal>
     requires small { TheoryIsSmall (theory_of theory.now) }
     requires formed { IsWellFormedTheory (theory_of theory.now) }
     ensures accepted { OnOk result (IsAccepted (theory_of theory.now)) }
+    ensures sound { OnOk result
+        (Each (MeetsItsSpecification (procedures_of (theory_of theory.now)))
+        (procedures_of (theory_of theory.now))) }
     ensures counts { IfOk result (λ counts.
         (counts.procedures ≡ length theory.now.procedures)
         × (counts.steps ≡ step_count (theory_of theory.now).procedures)) }
@@ -116,6 +121,9 @@ pub fn check_told_theory(
     requires formed { IsWellFormedTheory (theory_of theory.now) }
     requires told { OnTrue are_instances (EachHolds (procedures_of (theory_of theory.now))) }
     ensures accepted { OnOk result (IsAccepted (theory_of theory.now)) }
+    ensures sound { OnOk result
+        (Each (MeetsItsSpecification (procedures_of (theory_of theory.now)))
+        (procedures_of (theory_of theory.now))) }
     ensures counts { IfOk result (λ counts.
         (counts.procedures ≡ length theory.now.procedures)
         × (counts.steps ≡ step_count (theory_of theory.now).procedures)) }

@@ -9,6 +9,7 @@ ghost use Rattle.theory_syntax.specs.Judgements.{judgement_of, reason_of};
 ghost use Rattle.theory_syntax.specs.Theories.{theory_of};
 ghost use Rattle.row_patterns.specs.Verdicts.{verdict_in};
 ghost use Rattle.cited_steps.specs.Earlier.{AreCitable, steps_in};
+ghost use Rattle.triple_laws.specs.Steps.{HoldsBySteps};
 ghost use Rattle.triple_rules.specs.Callees.{AreReady};
 ghost use Rattle.triple_rules.specs.Procedures.{procedures_in};
 
@@ -94,7 +95,8 @@ pub(crate) fn step_verdict(
 }
 
 /// The verdict on the step, which is no gap, over the steps before it. A name of no rule has the
-/// verdict of a conclusion that doesn't fit. OutOfMemory comes only where memory is refused.
+/// verdict of a conclusion that doesn't fit. An instance holds by the number of steps, where what it
+/// cites does. OutOfMemory comes only where memory is refused.
 pub fn check_step(
     alloc: Global,
     theory: &Theory,
@@ -106,9 +108,12 @@ pub fn check_step(
     requires small { JudgementIsSmall (judgement_of step.now.judgement) }
     requires sorted { judgement_sorted (judgement_of step.now.judgement) ≡ true }
     requires reason { reason_of step.now.reason ≡ auto → ⊥ }
-    ensures { IfOk result (λ v. VerdictBy (procedures_of (theory_of theory.now))
+    ensures exact { IfOk result (λ v. VerdictBy (procedures_of (theory_of theory.now))
         (reason_of step.now.reason) (steps_in earlier.now)
         (nameless_judgement (judgement_of step.now.judgement)) (verdict_in v)) }
+    ensures sound { IfOk result (λ v. v ≡ Verdict.Instance → HoldsBySteps (theory_of theory.now)
+        (steps_in earlier.now) (reason_of step.now.reason)
+        (nameless_judgement (judgement_of step.now.judgement))) }
 {
     let callees = Callees {
         procedures: theory.procedures.as_slice(),

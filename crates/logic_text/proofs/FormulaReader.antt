@@ -9,10 +9,9 @@ use Rattle.model_formulas.specs.Formulas.{Named, whole, hole_left, hole_right, t
 use Rattle.model_text.specs.Lexemes.{Lexeme, terminal, logic_lexeme}
 use Rattle.model_grammar.specs.Words.{the}
 use Rattle.model_grammar.specs.Terms.{used_logic, in_formula, SpellsLogicName, a_logic_name, SpellsTerm, program_variable, logic_variable, text_literal, number_literal, negative_literal, constant, operation, null_word, nolist_word, yes_word, no_word, plus_sign, minus_sign, append_sign}
-use Rattle.model_text.specs.FaultTokens.{AreOfTokens}
 use Rattle.model_grammar.specs.Formulas as g
 use Rattle.model_grammar.specs.Formulas.{SpellsWord, true_word, false_word, empty_forest, empty_grove, tree_hole, forest_hole, grove_hole, SpellsComparison, equal_sign, at_most_sign, SpellsQuantifier, exists_word, forall_word, SpellsConnective, SpellsFormula, a_word, shape_variable, comparison, node, a_tree, a_root, quantified, is, joined}
-use Rattle.model_text.proofs.OfTokens.{is_seen}
+use Rattle.model_text.proofs.Usual.{AreUsual, is_seen}
 use Rattle.token_readers.specs.Reading.{Read, ret, then, leaf, is_terminal}
 use Rattle.logic_text.specs.TermReaders.{term_at}
 use Rattle.logic_text.specs.FormulaReaders.{leaf_word, leaf_joining, leaf_connective, quantified_at, joined_at, joined_or_is, bracket_at, lone_variable, node_at, compared_at, formula_at, ends_formula}
@@ -160,7 +159,7 @@ bracket_sound n formula S =
     (s_then _ S λ p s lp. joined_or_is_sound n formula S p s lp)))
 
 lone_sound : (n : ℕ) (a : Term) (s : List Lexeme) → SpellsTerm in_formula a s
-    → (p : Named) (t : List Lexeme) → SpellsFormula p (s ++ t) → AreOfTokens t
+    → (p : Named) (t : List Lexeme) → SpellsFormula p (s ++ t) → AreUsual t
     → Sound n (lone_variable a) (Behind s SpellsFormula)
 lone_sound n a s (logic_variable name) p t lp seen = s_ret n
     (same_as (variable (used_logic name))) _ (shape_variable (a_logic_name name))

@@ -3,7 +3,8 @@ use Rattle.std.proofs.Common.{◌≡◌, ℕ, zero, suc, ◌≤◌, true, List, 
 use Rattle.std.specs.List.{list_any}
 use Rattle.model_shapes.specs.Trees.{Trees, none, node, hole, beside}
 use Rattle.model_text.specs.Lexemes.{Lexeme, terminal, number_lexeme, literal_lexeme}
-use Rattle.model_text.proofs.OfTokens.{terminals, is_seen, literal_seen, number_seen}
+use Rattle.model_text.proofs.OfTokens.{terminals}
+use Rattle.model_text.proofs.Usual.{is_seen, literal_seen, number_seen}
 use Rattle.model_documents.specs.Grammar.{one, SpellsTree, tree, SpellsForest, empty_forest, some_trees, SpellsTrees, last_tree, more_trees, SpellsRoots, last_root, more_roots, SpellsGrove, empty_grove, some_roots}
 use Rattle.grove_data.specs.Trees.{trees_with}
 use Rattle.token_readers.specs.Reading.{Read, ret, when, expect, leaf, not_next}

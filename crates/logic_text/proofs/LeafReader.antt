@@ -4,7 +4,7 @@ use Rattle.model_text.specs.Lexemes.{Lexeme, terminal, logic_lexeme}
 use Rattle.token_readers.specs.Reading.{Answer, leaf, leaf_or, is_terminal}
 use Rattle.token_readers.proofs.TerminalTests.{is_terminal_is}
 use Rattle.model_grammar.specs.Terms.{SpellsLogicName, a_logic_name}
-use Rattle.model_text.proofs.OfTokens.{logic_seen}
+use Rattle.model_text.proofs.Usual.{logic_seen}
 use Rattle.logic_text.specs.FormulaReaders.{where_is, leaf_logic}
 use Rattle.token_readers.proofs.Sound.{Sound, s_leaf}
 use Rattle.token_readers.proofs.Only.{Only, OrDeep, read, Prefix_free}

@@ -10,3 +10,6 @@ pub mod LeafReader
 pub mod TermReader
 pub mod FormulaReader
 pub mod LeafFirst
+pub mod PrintableLemmas
+pub mod Utf8Lemmas
+pub mod WrittenFormulas

@@ -8,7 +8,7 @@ use Rattle.grove_data.specs.Trees.{tree_step, tree_of, forest_of}
 use Rattle.logic_text.proofs.ListLemmas.{drop_item}
 use Rattle.logic_text.specs.Marks.{inner_text, marked_text}
 
-tree_is : (t : Tree) → tree_of t ≡ node (out-Tree t).name (out-Tree t).id
+pub tree_is : (t : Tree) → tree_of t ≡ node (out-Tree t).name (out-Tree t).id
     (forest_of (out-Tree t).kids) (out-Tree t).list none
 tree_is t = fold_out-Tree Trees tree_step t
 

@@ -9,7 +9,7 @@ use Rattle.model_terms.specs.Variables.{prog}
 use Rattle.model_terms.specs.Terms.{Term, literal, variable, sum, difference, appended}
 use Rattle.model_text.specs.Lexemes.{Lexeme, terminal, name_lexeme, logic_lexeme, number_lexeme, literal_lexeme}
 use Rattle.model_grammar.specs.Terms.{used_logic, Place, in_formula, in_command, SpellsOperator, plus_sign, minus_sign, append_sign, null_word, nolist_word, yes_word, no_word, SpellsTerm, program_variable, logic_variable, text_literal, number_literal, negative_literal, constant, operation}
-use Rattle.model_text.proofs.OfTokens.{is_seen, number_seen}
+use Rattle.model_text.proofs.Usual.{is_seen, number_seen}
 use Rattle.token_readers.specs.Reading.{Read, leaf}
 use Rattle.logic_text.specs.TermReaders.{logic_at, leaf_term, negated, leaf_negative, operator_at, operation_at, word_at, term_at}
 use Rattle.token_readers.proofs.Sound.{Sound, After, s_ret, s_fail, s_then, s_when, s_case, s_leaf, s_deep, s_close}

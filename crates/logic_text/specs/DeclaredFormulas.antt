@@ -1,6 +1,6 @@
--- Formulas that are spelled where a list of variables is declared: each variable of the formula has
--- the sort of the first of the list that is of its kind and has its name, and sort node where none
--- is.
+-- Needn't be believed: the program's promise doesn't speak of it. Formulas that are spelled where a
+-- list of variables is declared: each variable of the formula has the sort of the first of the list
+-- that is of its kind and has its name, and sort node where none is.
 use Rattle.std.specs.Prelude.{◌≡◌, List, [], ◌∷◌}
 use Rattle.std.specs.List.{flat_map}
 use Rattle.model_terms.specs.Variables.{Var}

@@ -1,5 +1,5 @@
--- The text of trees between marks, of which those of forests and groves are made. The definition of
--- printed documents says what the text is; nothing here is to be believed.
+-- Needn't be believed: the definition of printed documents says what the text is. The text of trees
+-- between marks, of which those of forests and groves are made.
 use Rattle.std.specs.Prelude.{ℕ, List, [], ◌++◌}
 use Rattle.model_shapes.specs.Trees.{Trees, none, node, hole}
 use Rattle.model_documents.specs.Printed.{tree_text, forest_text}

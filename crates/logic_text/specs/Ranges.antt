@@ -1,4 +1,5 @@
--- What is told of the numbers of a grove.
+-- Needn't be believed: the program's promise doesn't speak of it. What is told of the numbers of a
+-- grove.
 use Rattle.std.specs.Prelude.{◌≡◌, ℕ, Option, Some}
 use Rattle.model_documents.specs.Numbers.{Numbered, node_numbered, list_numbered}
 use Rattle.grove_data.specs.declared.trees.IdKind.{IdKind}

@@ -1,4 +1,5 @@
--- The trees, forests and groves of the definitions that those with raw numbers stand for.
+-- Needn't be believed: the program's promise doesn't speak of it. The trees, forests and groves of
+-- the definitions that those with raw numbers stand for.
 use Rattle.std.specs.Prelude.{List, map}
 use Rattle.model_shapes.specs.Trees.{Trees, none, node}
 use Rattle.grove_data.specs.Trees.{trees_with}

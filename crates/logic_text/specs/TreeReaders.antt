@@ -1,6 +1,6 @@
--- The readers of trees, forests and groves on lists of lexemes, each with one lexeme of look-ahead.
--- The grammar says what they read, so nothing here is to be believed; depth bounds the nesting and
--- `most` the length of lists.
+-- Needn't be believed: the grammar says what they read. The readers of trees, forests and groves on
+-- lists of lexemes, each with one lexeme of look-ahead. Depth bounds the nesting and `most` the
+-- length of lists.
 use Rattle.std.specs.Prelude.{ℕ, zero, suc, List, Option, Some, None, Err, codes}
 use Rattle.model_shapes.specs.Trees.{Trees, none, node}
 use Rattle.model_text.specs.Lexemes.{Lexeme, number_lexeme, literal_lexeme}

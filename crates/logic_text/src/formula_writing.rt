@@ -2,13 +2,17 @@
 ghost use Rattle.std.specs.Prelude.{◌≡◌, [], ◌∷◌, ◌++◌, OnOk, IfOk};
 ghost use Rattle.model_formulas.specs.Formulas.{node_formula};
 ghost use Rattle.model_text.specs.Lexemes.{terminal};
+ghost use Rattle.model_text.specs.Nesting.{lexemes_of};
+ghost use Rattle.model_grammar.specs.Sorts.{Declared, sorted_formula};
 ghost use Rattle.model_grammar.specs.Words.{the, ◌⌢◌};
 ghost use Rattle.model_grammar.specs.Writing.{spaced, text_of, term_lexemes, formula_lexemes};
+ghost use Rattle.model_grammar.specs.Writing.{IsWritable};
 ghost use Rattle.model_grammar.specs.Writing.{bracketed, quantified, var_lexemes};
 ghost use Rattle.model_grammar.specs.Writing as words;
 ghost use Rattle.dom_terms.specs.Sorts.{data_sort_of};
 ghost use Rattle.dom_terms.specs.Terms.{logic_var_of, term_of};
 ghost use Rattle.formula_syntax.specs.Formulas.{side_of, formula_of};
+ghost use Rattle.logic_text.specs.DeclaredFormulas.{SpellsFormulaWith};
 ghost use Rattle.logic_text.specs.Signs.{sign_of};
 
 use crate::term_writing::push_term;
@@ -267,11 +271,19 @@ pub fn push_formula(alloc: Global, text: &mut Text, formula: &Formula) -> Result
     }
 }
 
-/// The text of the formula: its tokens with one space between each two.
+/// The text of the formula: its tokens with one space between each two. Where the formula can be
+/// written, and its variables have the sorts that are declared, the text reads back as it.
 pub fn write_formula(alloc: Global, formula: &Formula) -> Result<Text, OutOfMemory>
-    ensures { IfOk result (λ text. text ≡ text_of (formula_lexemes (formula_of formula.now))) }
+    ensures written { IfOk result (λ text.
+        text ≡ text_of (formula_lexemes (formula_of formula.now))) }
+    ensures reads_back { (declared : Declared) → IsWritable (formula_of formula.now)
+        → sorted_formula declared (formula_of formula.now) ≡ formula_of formula.now
+        → IfOk result (λ text.
+        SpellsFormulaWith declared (formula_of formula.now) (lexemes_of text)) }
 {
     let mut text = Text::new(alloc);
     push_formula(alloc, &mut text, formula)?;
+    // so each literal in it is UTF-8, as the law asks that it reads back by
+    text.is_utf8();
     without_space(alloc, &text)
 }

@@ -1,7 +1,11 @@
 // Groves and literals as text.
-ghost use Rattle.std.specs.Prelude.{◌≡◌, ◌∷◌, ◌++◌, encode_utf8, IfOk, OnOk, MatchOption};
+ghost use Rattle.model_limits.specs.Limits.{standard_limits};
+ghost use Rattle.std.specs.Prelude.{◌≡◌, ◌≤◌, ◌∷◌, ◌++◌, encode_utf8, IfOk, OnOk, MatchOption};
 ghost use Rattle.model_text.specs.Tokens.{backslash};
+ghost use Rattle.model_text.specs.Nesting.{lexemes_of};
+ghost use Rattle.model_documents.specs.Grammar.{SpellsGrove};
 ghost use Rattle.model_documents.specs.Printed.{escaped, quoted, forest_text, grove_text};
+ghost use Rattle.model_printing.specs.Printable.{ArePrintableTrees};
 ghost use Rattle.grove_data.specs.Trees.{tree_of, forest_of};
 ghost use Rattle.std.specs.Fmt.{decimal};
 ghost use Rattle.logic_text.specs.Marks.{inner_text, marked_text};
@@ -68,9 +72,10 @@ pub fn push_str(alloc: Global, text: &mut Text, characters: &str) -> Result<(), 
     text.append(&other)
 }
 
-// Puts the digits of the number at the end.
+// Puts the digits of the number at the end; a token can have each number of 32 bits.
 fn push_number(alloc: Global, text: &mut Text, number: u32) -> Result<(), OutOfMemory>
-    ensures { OnOk result (text.new ≡ text.old ++ decimal number) }
+    ensures written { OnOk result (text.new ≡ text.old ++ decimal number) }
+    ensures fits { number ≤ standard_limits.integer }
 {
     let digits = number.to_string(alloc)?;
     push_str(alloc, text, digits.as_str())
@@ -79,8 +84,10 @@ fn push_number(alloc: Global, text: &mut Text, number: u32) -> Result<(), OutOfM
 // Puts the text of the tree at the end, without the marks round it.
 #[cycle(writing)]
 fn push_tree(alloc: Global, text: &mut Text, tree: &Tree) -> Result<(), OutOfMemory>
-    ensures { OnOk result (text.new ≡ text.old ++ inner_text (tree_of tree.now)) }
+    ensures written { OnOk result (text.new ≡ text.old ++ inner_text (tree_of tree.now)) }
+    ensures printable { OnOk result (ArePrintableTrees (tree_of tree.now)) }
 {
+    tree.name.is_utf8();
     push_literal(text, &tree.name)?;
     push_str(alloc, text, "#")?;
     push_number(alloc, text, tree.id)?;
@@ -102,8 +109,9 @@ fn push_trees(
     next_left: &str,
     right: &str,
 ) -> Result<(), OutOfMemory>
-    ensures { OnOk result (text.new ≡
+    ensures written { OnOk result (text.new ≡
         text.old ++ marked_text left.now next_left.now right.now (forest_of trees.now)) }
+    ensures printable { OnOk result (ArePrintableTrees (forest_of trees.now)) }
 {
     let mut mark = left;
     for tree in trees.as_slice() {
@@ -118,7 +126,8 @@ fn push_trees(
 // Puts the text of the forest at the end.
 #[cycle(writing)]
 fn push_forest(alloc: Global, text: &mut Text, forest: &Forest) -> Result<(), OutOfMemory>
-    ensures { OnOk result (text.new ≡ text.old ++ forest_text (forest_of forest.now)) }
+    ensures written { OnOk result (text.new ≡ text.old ++ forest_text (forest_of forest.now)) }
+    ensures printable { OnOk result (ArePrintableTrees (forest_of forest.now)) }
 {
     if forest.is_empty() {
         return push_str(alloc, text, "0f");
@@ -126,9 +135,10 @@ fn push_forest(alloc: Global, text: &mut Text, forest: &Forest) -> Result<(), Ou
     push_trees(alloc, text, forest, "<", " * <", ">")
 }
 
-/// The text of the grove, its roots in the order in which they stand.
+/// The text of the grove, its roots in the order in which they stand. It reads back.
 pub fn write_grove(alloc: Global, grove: &Grove) -> Result<Text, OutOfMemory>
-    ensures { IfOk result (λ text. text ≡ grove_text (forest_of grove.now)) }
+    ensures written { IfOk result (λ text. text ≡ grove_text (forest_of grove.now)) }
+    ensures reads_back { IfOk result (λ text. SpellsGrove (forest_of grove.now) (lexemes_of text)) }
 {
     if grove.is_empty() {
         return Text::from_str(alloc, "0g");

@@ -6,7 +6,7 @@ use Rattle.model_shapes.specs.Values.{Value, null, nolist, node_number, list_num
 use Rattle.model_terms.specs.Stores.{ProgVar, named}
 use Rattle.model_commands.specs.Commands.{Command}
 use Rattle.model_commands.specs.Theories.{Theory}
-use Rattle.model_machine.specs.Machine.{FaultKind, no_node, no_list, cycle, not_child}
+use Rattle.model_machine.specs.Machine.{FaultKind, no_node, no_list, cycle, not_child, self_ref}
 use Rattle.model_limits.specs.Limits.{LimitKind, file_limit, nesting_limit, text_limit, variables_limit, steps_limit, nodes_limit, identifier_limit, number_limit, depth_limit}
 use Rattle.model_text.specs.Tokens.{newline}
 use Rattle.model_documents.specs.Numbers.{Numbered, node_numbered, list_numbered}
@@ -133,6 +133,7 @@ fault_name no_node = codes "NoNode"
 fault_name no_list = codes "NoList"
 fault_name cycle = codes "Cycle"
 fault_name not_child = codes "NotChild"
+fault_name self_ref = codes "SelfRef"
 
 -- ` after K steps`
 abbrev pub after_text : ℕ → List ℕ

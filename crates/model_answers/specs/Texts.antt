@@ -10,8 +10,8 @@ use Rattle.model_grammar.specs.Theories.{SpellsTheory}
 
 -- the limit that a text passes before it is read: that of its bytes, or that of its first token
 -- that passes one, where at most so many brackets may be open
-abbrev pub text_limit : ℕ → List ℕ → Option LimitKind
-text_limit most bytes =
+abbrev pub limit_passed : ℕ → List ℕ → Option LimitKind
+limit_passed most bytes =
     or_else (unless (nat_le (length bytes) standard_limits.file_bytes) file_limit)
     (token_limit most 0 (lexemes_of bytes))
 
@@ -22,7 +22,7 @@ theory_limit theory = or_else (unless (variables_within theory.procedures) varia
 
 -- A FILE: these bytes pass no limit and spell this theory, which is well formed and passes none.
 pub record IsFile (bytes : List ℕ) (theory : Theory) : Type 0 where
-  pub read : text_limit standard_limits.file_nesting bytes ≡ None
+  pub read : limit_passed standard_limits.file_nesting bytes ≡ None
   pub spelled : SpellsTheory theory (lexemes_of bytes)
   pub well_formed : IsWellFormedTheory theory
   pub within : theory_limit theory ≡ None

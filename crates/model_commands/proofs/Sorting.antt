@@ -14,7 +14,7 @@ use Rattle.model_terms.specs.Conditions.{Cond, condition_sorted}
 use Rattle.model_terms.specs.Computing.{Computes}
 use Rattle.model_terms.proofs.StoreLaws.{same_name-refl}
 use Rattle.model_terms.proofs.Computing.{all-append, evaluates-computes, two-compute, condition-tests}
-use Rattle.model_commands.specs.Commands.{Command, skip, block, assign, create_node, node_name, child_nodes, parent_node, list_item, append_child, remove_child, if_else, while_do, local, call, Block, stop, ◌then◌, Among}
+use Rattle.model_commands.specs.Commands.{Command, skip, block, assign, create_node, node_name, child_nodes, parent_node, list_item, append_child, remove_child, insert_before, if_else, while_do, local, call, Block, stop, ◌then◌, Among}
 use Rattle.model_commands.specs.CommandParts.{commands_in, commands_of}
 use Rattle.model_commands.specs.Theories.{Procedure, Procedures, procedure_named}
 use Rattle.model_commands.specs.Sorting.{Feed, Receive, CallFits, Distinct, Sorted, BlockSorted}
@@ -150,6 +150,14 @@ module _ (th : Procedures) where
         two-compute node_sort node_sort e f (first-tested (append_child e f) [] k).fitting
     sorted-command (remove_child e f) k =
         two-compute node_sort node_sort e f (first-tested (remove_child e f) [] k).fitting
+    sorted-command (insert_before e f g) k =
+        let h : (evaluates node_sort e ≡ true)
+        × ((evaluates node_sort f && evaluates node_sort g) ≡ true) =
+        both_true (evaluates node_sort e) (evaluates node_sort f && evaluates node_sort g)
+        (first-tested (insert_before e f g) [] k).fitting in
+        let m : Computes node_sort f × Computes node_sort g =
+        two-compute node_sort node_sort f g h.1 in
+        (evaluates-computes node_sort e h.0, m.0, m.1)
     sorted-command (if_else c a b) k =
         let r = both-tested (commands_of a) (commands_of b)
         (rest-tested (if_else c a b) (commands_of a ++ commands_of b) k) in (

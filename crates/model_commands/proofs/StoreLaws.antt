@@ -9,7 +9,7 @@ use Rattle.model_terms.specs.Variables.{prog, logic, bound}
 use Rattle.model_terms.specs.Terms.{Term, literal, variable, sum, difference, appended}
 use Rattle.model_shapes.specs.Tests.{same_value}
 use Rattle.model_shapes.proofs.Tests.{same_value-refl, same_value-is}
-use Rattle.model_formulas.specs.Satisfaction.{Environment, Meets, meaning_of, number_of, text_of, Proper}
+use Rattle.model_formulas.specs.Satisfaction.{Environment, Meets, meaning_of, number_of, text_meant, Proper}
 use Rattle.model_formulas.specs.Satisfaction.{with_store}
 use Rattle.model_terms.specs.Stores.{ProgVar, named, as_var, sort_of, Store, value_in, lookup, ProperStore, int_in, text_in, value_of}
 use Rattle.model_terms.specs.Conditions.{Cond, cond_true, cond_false, cond_variable, cond_equal, cond_at_most, cond_not, cond_and, cond_or, truth_in, truth_of}
@@ -43,7 +43,7 @@ number-val (int z) = refl
 number-val (str s) = refl
 number-val (boolean b) = refl
 
-text-val : (v : Value) → text_of (val v) ≡ text_in v
+text-val : (v : Value) → text_meant (val v) ≡ text_in v
 text-val null = refl
 text-val nolist = refl
 text-val (node_number n) = refl
@@ -69,8 +69,8 @@ meaning-value s (difference a b) st e c =
     (ap number_of (meaning-value int_sort b st e c.2) ∙ number-val (value_of st b)) i))
 meaning-value s (appended a b) st e c =
     λ i. val
-    (str ((ap text_of (meaning-value str_sort a st e c.1) ∙ text-val (value_of st a)) i ++
-    (ap text_of (meaning-value str_sort b st e c.2) ∙ text-val (value_of st b)) i))
+    (str ((ap text_meant (meaning-value str_sort a st e c.1) ∙ text-val (value_of st a)) i ++
+    (ap text_meant (meaning-value str_sort b st e c.2) ∙ text-val (value_of st b)) i))
 
 number-value : (t : Term) (st : Store) (e : Environment) → Computes int_sort t
     → number_of (meaning_of (with_store (lookup st) e) t) ≡ int_in (value_of st t)

@@ -11,7 +11,7 @@ pub use Rattle.model_terms.specs.Conditions.{terms_of_cond}
 use Rattle.model_formulas.specs.Formulas.{Named}
 use Rattle.model_formulas.specs.Substitution.{gathered}
 use Rattle.model_commands.specs.Theories.{JudgementOf, entails, triple, Reason, auto, by_rule}
-use Rattle.model_commands.specs.Commands.{Command, block, assign, create_node, node_name, child_nodes, parent_node, list_item, append_child, remove_child, if_else, while_do, local, call, Block, stop, ◌then◌}
+use Rattle.model_commands.specs.Commands.{Command, block, assign, create_node, node_name, child_nodes, parent_node, list_item, append_child, remove_child, insert_before, if_else, while_do, local, call, Block, stop, ◌then◌}
 
 -- the command and each command in its blocks, in the order of the text
 abbrev mutual
@@ -53,6 +53,7 @@ terms_of (parent_node x e) = e ∷ []
 terms_of (list_item x e f) = e ∷ f ∷ []
 terms_of (append_child e f) = e ∷ f ∷ []
 terms_of (remove_child e f) = e ∷ f ∷ []
+terms_of (insert_before e f g) = e ∷ f ∷ g ∷ []
 terms_of (if_else c a b) = terms_of_cond c
 terms_of (while_do c b) = terms_of_cond c
 terms_of (call results name arguments) = arguments

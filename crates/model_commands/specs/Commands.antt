@@ -14,6 +14,7 @@ mutual
     create_node node_name child_nodes parent_node : ProgVar → Term → Command
     list_item : ProgVar → Term → Term → Command
     append_child remove_child : Term → Term → Command
+    insert_before : Term → Term → Term → Command
     if_else : Cond → Block → Block → Command
     while_do : Cond → Block → Command
     local : ProgVar → Block → Command

@@ -12,7 +12,7 @@ use Rattle.model_terms.specs.Terms.{Term}
 use Rattle.model_terms.specs.Stores.{ProgVar, as_var, sort_of, same_name}
 pub use Rattle.model_terms.specs.Conditions.{condition_sorted}
 pub use Rattle.model_terms.specs.TermSorts.{is_program, is_plain, evaluates}
-use Rattle.model_commands.specs.Commands.{Command, skip, block, assign, create_node, node_name, child_nodes, parent_node, list_item, append_child, remove_child, if_else, while_do, local, call, Block, stop, ◌then◌}
+use Rattle.model_commands.specs.Commands.{Command, skip, block, assign, create_node, node_name, child_nodes, parent_node, list_item, append_child, remove_child, insert_before, if_else, while_do, local, call, Block, stop, ◌then◌}
 use Rattle.model_commands.specs.CommandParts.{commands_in, variables_of_term}
 use Rattle.model_commands.specs.Theories.{Procedure, Procedures, procedure_named}
 
@@ -55,6 +55,8 @@ parts_fit procedures (list_item x e f) =
     same_value_sort (sort_of x) node_sort && (evaluates list_sort e && evaluates int_sort f)
 parts_fit procedures (append_child e f) = evaluates node_sort e && evaluates node_sort f
 parts_fit procedures (remove_child e f) = evaluates node_sort e && evaluates node_sort f
+parts_fit procedures (insert_before e f g) =
+    evaluates node_sort e && (evaluates node_sort f && evaluates node_sort g)
 parts_fit procedures (if_else c a b) = condition_sorted c && (has_command a && has_command b)
 parts_fit procedures (while_do c b) = condition_sorted c && has_command b
 parts_fit procedures (local x b) = has_command b

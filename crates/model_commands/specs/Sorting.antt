@@ -5,7 +5,7 @@ use Rattle.model_shapes.specs.Sorts.{node_sort, list_sort, int_sort, str_sort}
 use Rattle.model_terms.specs.Terms.{Term}
 use Rattle.model_terms.specs.Stores.{ProgVar, sort_of}
 use Rattle.model_terms.specs.Computing.{Computes, Tests}
-use Rattle.model_commands.specs.Commands.{Command, skip, block, assign, create_node, node_name, child_nodes, parent_node, list_item, append_child, remove_child, if_else, while_do, local, call, Block, stop, ◌then◌, Among}
+use Rattle.model_commands.specs.Commands.{Command, skip, block, assign, create_node, node_name, child_nodes, parent_node, list_item, append_child, remove_child, insert_before, if_else, while_do, local, call, Block, stop, ◌then◌, Among}
 use Rattle.model_commands.specs.Theories.{Procedure, Procedures, procedure_named}
 
 -- the arguments of a call have the sorts and the number of the parameters
@@ -45,6 +45,8 @@ module _ (procedures : Procedures) where
         (sort_of x ≡ node_sort) × Computes list_sort e × Computes int_sort f
     Sorted (append_child e f) = Computes node_sort e × Computes node_sort f
     Sorted (remove_child e f) = Computes node_sort e × Computes node_sort f
+    Sorted (insert_before e f g) =
+        Computes node_sort e × Computes node_sort f × Computes node_sort g
     Sorted (if_else c a b) = Tests c × BlockSorted a × BlockSorted b
     Sorted (while_do c b) = Tests c × BlockSorted b
     Sorted (local x b) = BlockSorted b

@@ -12,7 +12,7 @@ use Rattle.model_formulas.specs.Formulas.{Named, truth, falsity, conjunction, di
 use Rattle.model_formulas.specs.Substitution.{FreeIn}
 use Rattle.model_formulas.specs.Nameless.{nameless, walked, naming, names, name_or}
 use Rattle.model_terms.specs.Stores.{ProgVar, named, as_var, same_name}
-use Rattle.model_commands.specs.Commands.{Command, skip, block, assign, create_node, node_name, child_nodes, parent_node, list_item, append_child, remove_child, if_else, while_do, local, call, Block, stop, ◌then◌, Among, Modifies, BlockModifies}
+use Rattle.model_commands.specs.Commands.{Command, skip, block, assign, create_node, node_name, child_nodes, parent_node, list_item, append_child, remove_child, insert_before, if_else, while_do, local, call, Block, stop, ◌then◌, Among, Modifies, BlockModifies}
 use Rattle.model_commands.specs.CommandParts.{commands_in, commands_of, targets, variables_of_term, variables_of}
 use Rattle.model_commands.specs.SortTests.{distinct_by, is_among, stands_in}
 use Rattle.model_files.specs.FileFaults.{share_name, spares, only_among}
@@ -102,6 +102,7 @@ module _ (ps : List ProgVar) where
     command-spared (list_item y t u) e x m c = alone-spared (list_item y t u) e x m (inl c)
     command-spared (append_child t u) e x m c = c
     command-spared (remove_child t u) e x m c = c
+    command-spared (insert_before t u v) e x m c = c
     command-spared (if_else t a b) e x m (inl c) =
         block-spared a (all-append (spares ps) (commands_of a) (commands_of b)
         (both_true (spares ps (if_else t a b)) _ e).1).0 x m c

@@ -10,7 +10,7 @@ use Rattle.model_terms.specs.Variables.{Var, prog, logic}
 use Rattle.model_formulas.specs.Formulas.{Named, truth, empty, existential, equality}
 use Rattle.model_terms.specs.Stores.{ProgVar, named, same_name}
 use Rattle.model_terms.specs.Conditions.{cond_equal, cond_true}
-use Rattle.model_commands.specs.Commands.{Command, skip, assign, child_nodes, list_item, if_else, while_do, local, call, stop, ◌then◌, Modifies}
+use Rattle.model_commands.specs.Commands.{Command, skip, assign, child_nodes, list_item, insert_before, if_else, while_do, local, call, stop, ◌then◌, Modifies}
 use Rattle.model_commands.specs.Theories.{Theory, ProcedureOf, StepOf, JudgementOf, entails, triple, Reason, auto, by_rule}
 use Rattle.model_files.specs.RuleNames.{entailment_rule_names, triple_rule_names}
 use Rattle.model_files.specs.FileFaults.{FileKind, version_kind, twice_kind, unknown_kind, sort_kind, constant_kind, results_kind, scope_kind, rule_kind, number_kind, FileFault, declared_by, first_file_fault}
@@ -71,12 +71,35 @@ plain params results body proof =
 abbrev skips : StepOf Named
 skips = step 1 (rule (codes "skip")) (triple (empty grove) skip (empty grove) grove)
 
--- a file without a fault, and the same with another version
+-- a file without a fault, and the same with the other versions
 well_formed : first_file_fault (theory 1 [] (plain [] [] skip (skips ∷ []) ∷ [])) ≡ None
 well_formed = refl
 
-version : first_file_fault (theory 2 [] (plain [] [] skip (skips ∷ []) ∷ [])) ≡ at 0 0 version_kind
+second_version : first_file_fault (theory 2 [] (plain [] [] skip (skips ∷ []) ∷ [])) ≡ None
+second_version = refl
+
+version : first_file_fault (theory 3 [] (plain [] [] skip (skips ∷ []) ∷ [])) ≡ at 0 0 version_kind
 version = refl
+
+-- insertBefore in a body and in a step, and its axiom, in version 2 and in version 1
+abbrev inserts : Command
+inserts = insert_before (literal null) (literal null) (literal null)
+
+abbrev inserted : ℕ → Command → Command → Option FileFault
+inserted number body command = first_file_fault (theory number [] (plain [] [] body
+    (step 1 (rule (codes "insert_last")) (triple truth command truth grove) ∷ []) ∷ []))
+
+inserts_well : inserted 2 inserts inserts ≡ None
+inserts_well = refl
+
+inserts_early : inserted 1 inserts inserts ≡ at 1 0 version_kind
+inserts_early = refl
+
+inserts_in_step : inserted 1 skip inserts ≡ at 1 1 version_kind
+inserts_in_step = refl
+
+early_rule : inserted 1 skip skip ≡ at 1 1 rule_kind
+early_rule = refl
 
 -- a file with quantifiers, whose bound names differ between its ensures and its step
 abbrev m : Var
@@ -210,11 +233,11 @@ earlier = refl
 counts_locals : length (declared_by (plain (a ∷ []) (x ∷ []) (local b (skip then stop)) [])) ≡ 3
 counts_locals = refl
 
--- there are 120 rules of entailment, and 13 rules and 9 axioms for triples
+-- there are 120 rules of entailment, and 13 rules and 11 axioms for triples
 entailment_rules : length entailment_rule_names ≡ 120
 entailment_rules = refl
 
-triple_rules : length triple_rule_names ≡ 22
+triple_rules : length triple_rule_names ≡ 24
 triple_rules = refl
 
 -- local b : int { b := 1 ; x := b }

@@ -1,6 +1,6 @@
 -- Where a theory isn't well formed: the first place at fault, and its kind; the language's own. The
 -- places are the version with the logic declarations, then each procedure's header and its steps.
-use Rattle.std.specs.Prelude.{◌≡◌, ℕ, ◌+◌, List, [], ◌∷◌, ◌++◌, map, Bool, true, false, cond, not, ◌&&◌, ◌==◌, Option, Some, None, is_none, bytes_eq}
+use Rattle.std.specs.Prelude.{◌≡◌, ℕ, ◌+◌, List, [], ◌∷◌, ◌++◌, map, Bool, true, false, cond, not, ◌&&◌, ◌||◌, ◌==◌, Option, Some, None, is_none, bytes_eq}
 use Rattle.std.specs.List.{list_all, list_any, find, flat_map}
 use Rattle.model_shapes.specs.Tests.{same_sort}
 use Rattle.model_shapes.specs.Sorts.{Sort, shape}
@@ -10,11 +10,11 @@ use Rattle.model_terms.specs.Stores.{ProgVar, named, as_var}
 use Rattle.model_formulas.specs.Formulas.{Named}
 pub use Rattle.model_formulas.specs.WellSorted.{may_bind}
 use Rattle.model_formulas.specs.WellSorted.{one_sort, first_fault}
-use Rattle.model_commands.specs.Commands.{Command}
+use Rattle.model_commands.specs.Commands.{Command, insert_before}
 use Rattle.model_commands.specs.CommandParts.{commands_in, targets, variables_of_term, variables_of_command, variables_of, variables_of_judgement, commands_of_judgement, arguments_of, locals_of}
 use Rattle.model_commands.specs.Theories.{JudgementOf, entails, triple, Reason, auto, by_rule, StepOf, ProcedureOf, Theory, procedures_of}
 pub use Rattle.model_commands.specs.SortTests.{is_program, is_plain, evaluates, has_command, parts_fit, callee_known, distinct_by, is_among, results_apart}
-use Rattle.model_files.specs.RuleNames.{is_rule_name}
+use Rattle.model_files.specs.RuleNames.{second_version_names, is_rule_name}
 
 -- a kind of fault
 pub data FileKind : Type 0 where
@@ -36,6 +36,20 @@ pub record FileFault : Type 0 where
 -- the first kind whose test fails
 abbrev pub first_kind : (FileKind → Bool) → Option FileKind
 first_kind passes = find (λ kind. not (passes kind)) kinds
+
+-- VERSIONS: those of the language
+abbrev pub is_version : ℕ → Bool
+is_version version = (version == 1) || (version == 2)
+
+-- the version has the command: insertBefore is of version 2
+abbrev pub is_of_version : ℕ → Command → Bool
+is_of_version version (insert_before e f g) = version == 2
+is_of_version version command = true
+
+-- the version has the rule of the name
+abbrev pub is_rule_of_version : ℕ → List ℕ → Bool
+is_rule_of_version version name =
+    is_rule_name name && ((version == 2) || not (list_any (bytes_eq name) second_version_names))
 
 -- NAMES: two program variables, or two logic variables, of one name
 abbrev pub share_name : Var → Var → Bool
@@ -84,20 +98,22 @@ abbrev pub judgement_sorted : JudgementOf Named → Bool
 judgement_sorted (entails p q s) = is_judged_at s p && is_judged_at s q
 judgement_sorted (triple p c q d) = is_judged_at (shape d) p && is_judged_at (shape d) q
 
--- the rule of a step has a name, if it is no gap
-abbrev pub rule_known : Reason → Bool
-rule_known auto = true
-rule_known (by_rule name premises arguments) = is_rule_name name
+-- the rule of a step is one of the version, if it is no gap
+abbrev pub rule_known : ℕ → Reason → Bool
+rule_known version auto = true
+rule_known version (by_rule name premises arguments) = is_rule_of_version version name
 
 -- PLACES, by what the test of each kind is there: the version and the logic declarations
 abbrev pub declarations : Theory → FileKind → Bool
-declarations theory version_kind = theory.version == 1
+declarations theory version_kind = is_version theory.version
 declarations theory twice_kind = distinct_by share_name theory.logic
 declarations theory sort_kind = list_all may_bind theory.logic
 declarations theory kind = true
 
 -- variables and commands that stand in a procedure
 abbrev pub inside : Theory → ProcedureOf Named → List Var → List Command → FileKind → Bool
+inside theory f variables commands version_kind =
+    list_all (is_of_version theory.version) commands
 inside theory f variables commands unknown_kind =
     list_all (is_known (scope_of theory f)) variables
     && list_all (callee_known (procedures_of theory)) commands
@@ -140,7 +156,7 @@ abbrev pub proof_step : Theory → ProcedureOf Named → ℕ → StepOf Named �
 proof_step theory f at step sort_kind =
     (judgement_sorted step.judgement && list_all is_argument (arguments_of step.reason))
     && inside_step theory f step sort_kind
-proof_step theory f at step rule_kind = rule_known step.reason
+proof_step theory f at step rule_kind = rule_known theory.version step.reason
 proof_step theory f at step number_kind = step.number == at
 proof_step theory f at step kind = inside_step theory f step kind
 

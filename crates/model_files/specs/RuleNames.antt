@@ -1,5 +1,5 @@
--- Needn't be believed: the names of the rules that a step of a proof may cite. They are those of
--- the table of rules, in its order (law `the_table_has_the_names` of rule_table).
+-- The names of the rules that a step of a proof may cite. They are those of the table of rules, in
+-- its order (law `the_table_has_the_names` of rule_table).
 use Rattle.std.specs.Prelude.{ℕ, List, [], ◌∷◌, ◌++◌, Bool, bytes_eq, codes}
 use Rattle.std.specs.List.{list_any}
 
@@ -45,7 +45,11 @@ triple_rule_names =
     codes "call" ∷ codes "frame" ∷ codes "consequence" ∷ codes "eliminate" ∷
     codes "disjunction" ∷ codes "absurd" ∷ codes "instance" ∷ codes "name" ∷ codes "children" ∷
     codes "item" ∷ codes "item_none" ∷ codes "parent" ∷ codes "parent_none" ∷ codes "create" ∷
-    codes "append" ∷ codes "remove" ∷ []
+    codes "append" ∷ codes "remove" ∷ codes "insert_before" ∷ codes "insert_last" ∷ []
+
+-- those of the axioms of insertBefore, which version 1 doesn't have
+abbrev pub second_version_names : List (List ℕ)
+second_version_names = codes "insert_before" ∷ codes "insert_last" ∷ []
 
 -- a rule has the name
 abbrev pub is_rule_name : List ℕ → Bool

@@ -1,5 +1,6 @@
--- The sizes that every call may count on: no formula of a theory has as many parts as a number of
--- 32 bits can count, and no theory as many procedures and proof steps.
+-- Needn't be believed: the program's promise doesn't speak of it. The sizes that every call may
+-- count on: no formula of a theory has as many parts as a number of 32 bits can count, and no
+-- theory as many procedures and proof steps.
 use Rattle.std.specs.Prelude.{◌<◌, ◌+◌, length, List}
 use Rattle.model_formulas.specs.Formulas.{Named}
 use Rattle.model_formulas.specs.Parts.{parts}

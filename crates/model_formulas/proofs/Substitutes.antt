@@ -10,7 +10,7 @@ use Rattle.model_formulas.specs.Formulas.{Formula, truth, falsity, conjunction, 
 use Rattle.model_terms.specs.Variables.{Var, prog, logic, bound}
 use Rattle.model_terms.specs.Terms.{Term, literal, variable, sum, difference, appended, raised, raised_var, under_binder, Substitution, term_with, InTerm}
 use Rattle.model_formulas.specs.Substitution.{formula_with, FreeIn}
-use Rattle.model_formulas.specs.Satisfaction.{Environment, Meets, Classically, SomeShape, EachShape, SomeThing, EachThing, Splits, choosing, IfNode, IfTrees, meaning_of, number_of, text_of}
+use Rattle.model_formulas.specs.Satisfaction.{Environment, Meets, Classically, SomeShape, EachShape, SomeThing, EachThing, Splits, choosing, IfNode, IfTrees, meaning_of, number_of, text_meant}
 
 -- a term under one more binder means what it meant
 pub raised-meaning : (e : Environment) (v : Thing) (t : Term)
@@ -24,7 +24,7 @@ raised-meaning e v (sum a b) =
 raised-meaning e v (difference a b) =
     λ i. val (int (number_of (raised-meaning e v a i) -ℤ number_of (raised-meaning e v b i)))
 raised-meaning e v (appended a b) =
-    λ i. val (str (text_of (raised-meaning e v a i) ++ text_of (raised-meaning e v b i)))
+    λ i. val (str (text_meant (raised-meaning e v a i) ++ text_meant (raised-meaning e v b i)))
 
 -- what each variable stands for after a substitution
 abbrev pub after : Substitution → Environment → Environment
@@ -40,7 +40,7 @@ term-with f e (sum a b) =
 term-with f e (difference a b) =
     λ i. val (int (number_of (term-with f e a i) -ℤ number_of (term-with f e b i)))
 term-with f e (appended a b) =
-    λ i. val (str (text_of (term-with f e a i) ++ text_of (term-with f e b i)))
+    λ i. val (str (text_meant (term-with f e a i) ++ text_meant (term-with f e b i)))
 
 under : (f : Substitution) (e : Environment) (v : Thing) (x : Var)
     → after (under_binder f) (choosing v e) x ≡ choosing v (after f e) x
@@ -122,7 +122,7 @@ term-agrees (difference a b) e e' h =
     (term-agrees b e e' (λ x m. h x (inr m)) i)))
 term-agrees (appended a b) e e' h =
     λ i. val
-    (str (text_of (term-agrees a e e' (λ x m. h x (inl m)) i) ++ text_of
+    (str (text_meant (term-agrees a e e' (λ x m. h x (inl m)) i) ++ text_meant
     (term-agrees b e e' (λ x m. h x (inr m)) i)))
 
 agree-under : (p : Formula) (e e' : Environment) (v : Thing)

@@ -32,9 +32,9 @@ number_of (val (int z)) = z
 number_of x = pos 0
 
 -- the text that a thing is, and the empty text where it is none
-abbrev pub text_of : Thing → Text
-text_of (val (str s)) = s
-text_of x = []
+abbrev pub text_meant : Thing → Text
+text_meant (val (str s)) = s
+text_meant x = []
 
 -- what a term stands for
 abbrev pub meaning_of : Environment → Term → Thing
@@ -43,7 +43,7 @@ meaning_of e (variable x) = e x
 meaning_of e (sum a b) = val (int (number_of (meaning_of e a) +ℤ number_of (meaning_of e b)))
 meaning_of e (difference a b) =
     val (int (number_of (meaning_of e a) -ℤ number_of (meaning_of e b)))
-meaning_of e (appended a b) = val (str (text_of (meaning_of e a) ++ text_of (meaning_of e b)))
+meaning_of e (appended a b) = val (str (text_meant (meaning_of e a) ++ text_meant (meaning_of e b)))
 
 -- "or" and "some" are classical: it can't be that none is
 abbrev pub Classically {ℓ} : Type ℓ → Type ℓ

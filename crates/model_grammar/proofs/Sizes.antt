@@ -9,6 +9,7 @@ use Rattle.model_commands.specs.Theories.{JudgementOf, StepOf, ProcedureOf, Theo
 use Rattle.model_files.specs.FileLimits.{step_count}
 use Rattle.model_files.specs.Sizes.{IsSmall, JudgementIsSmall, StepsAreSmall, ProcedureIsSmall, ProceduresAreSmall, TheoryIsSmall}
 use Rattle.model_text.specs.Lexemes.{Lexeme}
+use Rattle.model_text.proofs.Versions.{version_length}
 use Rattle.model_grammar.specs.Words.{the, ◌⌢◌}
 use Rattle.model_grammar.specs.Terms.{used_logic, SpellsLogicName, a_logic_name}
 use Rattle.model_grammar.specs.Formulas as grammar
@@ -249,4 +250,6 @@ raw_small (files.theory {xs = xs} {version = v} {lines = l} {procedures = ps} lv
 
 pub theory_small : {t : Theory} {s : List Lexeme} → SpellsTheory t s → length s < 4294967295
     → TheoryIsSmall t
-theory_small spelled h = subst TheoryIsSmall (sym spelled.sorted) (raw_small spelled.spelled h)
+theory_small {s = s} spelled h =
+    subst TheoryIsSmall (sym spelled.sorted)
+    (raw_small spelled.spelled (omega (arith, version_length s)))

@@ -7,7 +7,7 @@ use Rattle.model_terms.specs.Terms.{Term, literal, variable, sum, difference, ap
 use Rattle.model_terms.specs.Stores.{ProgVar, named}
 use Rattle.model_terms.specs.Conditions.{Cond, cond_true, cond_false, cond_variable, cond_equal, cond_at_most, cond_not, cond_and, cond_or}
 use Rattle.model_formulas.specs.Formulas.{Named, Side, whole, hole_left, hole_right, truth, falsity, conjunction, disjunction, implication, negation, existential, universal, equality, at_most, empty, bare_hole, node_formula, one_tree, one_root, concatenation, grove_sum, grove_sum_hole, application, hole_adjoint, context_adjoint, same_as, length_is, value_meets}
-use Rattle.model_commands.specs.Commands.{Command, skip, block, assign, create_node, node_name, child_nodes, parent_node, list_item, append_child, remove_child, if_else, while_do, local, call, Block, stop, ◌then◌}
+use Rattle.model_commands.specs.Commands.{Command, skip, block, assign, create_node, node_name, child_nodes, parent_node, list_item, append_child, remove_child, insert_before, if_else, while_do, local, call, Block, stop, ◌then◌}
 use Rattle.model_text.specs.Lexemes.{Lexeme}
 use Rattle.model_grammar.specs.Words.{the, ◌⌢◌}
 use Rattle.model_grammar.specs.Terms as t
@@ -156,6 +156,10 @@ two_parts : (a b rest : List Lexeme)
     → a ⌢ the "," ⌢ b ⌢ rest ≡ (a ⌢ the "," ⌢ b ⌢ []) ⌢ rest
 two_parts a b rest = simp (append_assoc, append-nil) refl
 
+three_parts : (a b d rest : List Lexeme)
+    → a ⌢ the "," ⌢ b ⌢ the "," ⌢ d ⌢ rest ≡ (a ⌢ the "," ⌢ b ⌢ the "," ⌢ d ⌢ []) ⌢ rest
+three_parts a b d rest = simp (append_assoc, append-nil) refl
+
 one_part : (a rest : List Lexeme) → a ⌢ rest ≡ (a ⌢ []) ⌢ rest
 one_part a rest = simp append-nil refl
 
@@ -196,6 +200,16 @@ item_spelled x a b h k =
     (two_parts (term_lexemes a) (term_lexemes b) (the ")"))
     (set x (c.to_item (term_spelled in_command a h) (term_spelled in_command b k)))
 
+insertion_spelled : (a b d : Term) → IsWritableTerm in_command a → IsWritableTerm in_command b
+    → IsWritableTerm in_command d → SpellsCommand (sorted_command undeclared (insert_before a b d))
+    (command_lexemes (insert_before a b d))
+insertion_spelled a b d h k l =
+    subst (λ (z : List Lexeme). SpellsCommand (sorted_command undeclared (insert_before a b d))
+    (the "insertBefore" ⌢ the "(" ⌢ z))
+    (three_parts (term_lexemes a) (term_lexemes b) (term_lexemes d) (the ")"))
+    (c.insertion (term_spelled in_command a h) (term_spelled in_command b k)
+    (term_spelled in_command d l))
+
 call_spelled : (xs : List ProgVar) (name : List ℕ) (es : List Term)
     → IsWritableCommand (call xs name es)
     → SpellsCommand (sorted_command undeclared (call xs name es))
@@ -220,6 +234,7 @@ mutual
   command_spelled (list_item x a b) h = item_spelled x a b h.1 h.2
   command_spelled (append_child a b) h = changed c.append_word a b h.0 h.1
   command_spelled (remove_child a b) h = changed c.remove_word a b h.0 h.1
+  command_spelled (insert_before a b d) h = insertion_spelled a b d h.0 h.1 h.2
   command_spelled (if_else d a b) h =
       c.choice (condition_spelled d h.0) (block_spelled a h.1) (block_spelled b h.2)
   command_spelled (while_do d b) h = c.loop (condition_spelled d h.0) (block_spelled b h.1)

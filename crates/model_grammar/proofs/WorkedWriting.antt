@@ -8,7 +8,7 @@ use Rattle.model_terms.specs.Variables.{prog, logic}
 use Rattle.model_terms.specs.Terms.{Term, variable, literal, sum}
 use Rattle.model_terms.specs.Stores.{named}
 use Rattle.model_formulas.specs.Formulas.{grove_sum, empty, one_root, same_as}
-use Rattle.model_commands.specs.Commands.{append_child, remove_child, assign, local, create_node, stop, ◌then◌}
+use Rattle.model_commands.specs.Commands.{append_child, remove_child, insert_before, assign, local, create_node, stop, ◌then◌}
 use Rattle.model_commands.specs.Commands.{skip}
 use Rattle.model_commands.specs.Theories.{triple, by_rule}
 use Rattle.model_text.specs.Lexemes.{reserved_words}
@@ -23,7 +23,7 @@ formula-text : text_of (formula_lexemes (grove_sum (empty grove)
     ≡ codes "( 0g + [ $x ] )"
 formula-text = refl
 
--- the two changes of a document
+-- the three changes of a document
 append-text : text_of (command_lexemes (append_child (node (codes "p")) (node (codes "n"))))
     ≡ codes "appendChild ( p , n )"
 append-text = refl
@@ -31,6 +31,11 @@ append-text = refl
 remove-text : text_of (command_lexemes (remove_child (node (codes "p")) (node (codes "n"))))
     ≡ codes "removeChild ( p , n )"
 remove-text = refl
+
+insert-text : text_of (command_lexemes
+    (insert_before (node (codes "p")) (node (codes "n")) (node (codes "q"))))
+    ≡ codes "insertBefore ( p , n , q )"
+insert-text = refl
 
 -- a block, a literal and a negative number
 block-text : text_of (command_lexemes (local (named (codes "x") node_sort)

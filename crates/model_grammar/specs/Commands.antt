@@ -4,7 +4,7 @@ use Rattle.model_shapes.specs.Sorts.{ValueSort}
 use Rattle.model_terms.specs.Terms.{Term}
 use Rattle.model_terms.specs.Stores.{ProgVar, named}
 use Rattle.model_terms.specs.Conditions.{Cond, cond_true, cond_false, cond_variable, cond_equal, cond_at_most, cond_not, cond_and, cond_or}
-use Rattle.model_commands.specs.Commands.{Command, skip, block, assign, create_node, node_name, child_nodes, parent_node, list_item, append_child, remove_child, if_else, while_do, local, call, Block, stop, ◌then◌}
+use Rattle.model_commands.specs.Commands.{Command, skip, block, assign, create_node, node_name, child_nodes, parent_node, list_item, append_child, remove_child, insert_before, if_else, while_do, local, call, Block, stop, ◌then◌}
 use Rattle.model_text.specs.Lexemes.{Lexeme}
 use Rattle.model_grammar.specs.Words.{the, ◌⌢◌}
 use Rattle.model_grammar.specs.Terms.{used_name, in_command, SpellsName, SpellsValueSort, SpellsTerm}
@@ -80,7 +80,8 @@ pub data SpellsSetting (x : ProgVar) : Command → List Lexeme → Type 0 where
 mutual
   -- C = "skip" | BL | "if" B BL "else" BL | "while" B BL | "local" NAME ":" VSORT BL
   --   | "call" "(" (NAME ("," NAME)*)? ")" ":=" NAME "(" (E ("," E)*)? ")"
-  --   | "appendChild" "(" E "," E ")" | "removeChild" "(" E "," E ")" | NAME ":=" E
+  --   | "appendChild" "(" E "," E ")" | "removeChild" "(" E "," E ")"
+  --   | "insertBefore" "(" E "," E "," E ")" | NAME ":=" E
   --   | NAME ":=" DOM1 "(" E ")" | NAME ":=" "item" "(" E "," E ")"
   -- A local variable has the sort that is written here.
   pub data SpellsCommand : Command → List Lexeme → Type 0 where
@@ -105,6 +106,10 @@ mutual
         → SpellsChange operation word → SpellsTerm in_command a parent
         → SpellsTerm in_command b child → SpellsCommand (operation a b)
         (word ⌢ the "(" ⌢ parent ⌢ the "," ⌢ child ⌢ the ")")
+    insertion : {a b c : Term} {parent child next : List Lexeme}
+        → SpellsTerm in_command a parent → SpellsTerm in_command b child
+        → SpellsTerm in_command c next → SpellsCommand (insert_before a b c)
+        (the "insertBefore" ⌢ the "(" ⌢ parent ⌢ the "," ⌢ child ⌢ the "," ⌢ next ⌢ the ")")
     setting : {x : ProgVar} {c : Command} {word right : List Lexeme} → SpellsVariable x word
         → SpellsSetting x c right → SpellsCommand c (word ⌢ the ":=" ⌢ right)
 

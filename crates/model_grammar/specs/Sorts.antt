@@ -9,7 +9,7 @@ use Rattle.model_terms.specs.Terms.{Term, literal, variable, sum, difference, ap
 use Rattle.model_formulas.specs.Formulas.{Named, truth, falsity, conjunction, disjunction, implication, negation, existential, universal, equality, at_most, empty, bare_hole, node_formula, one_tree, one_root, concatenation, grove_sum, grove_sum_hole, application, hole_adjoint, context_adjoint, same_as, length_is, value_meets}
 use Rattle.model_terms.specs.Stores.{ProgVar, named}
 use Rattle.model_terms.specs.Conditions.{Cond, cond_true, cond_false, cond_variable, cond_equal, cond_at_most, cond_not, cond_and, cond_or}
-use Rattle.model_commands.specs.Commands.{Command, skip, block, assign, create_node, node_name, child_nodes, parent_node, list_item, append_child, remove_child, if_else, while_do, local, call, Block, stop, ◌then◌}
+use Rattle.model_commands.specs.Commands.{Command, skip, block, assign, create_node, node_name, child_nodes, parent_node, list_item, append_child, remove_child, insert_before, if_else, while_do, local, call, Block, stop, ◌then◌}
 use Rattle.model_files.specs.FileFaults.{declared_by}
 use Rattle.model_commands.specs.Theories.{JudgementOf, entails, triple, Reason, auto, by_rule, StepOf, ProcedureOf, Theory}
 
@@ -132,6 +132,8 @@ abbrev mutual
       append_child (sorted_term declared a) (sorted_term declared b)
   sorted_command declared (remove_child a b) =
       remove_child (sorted_term declared a) (sorted_term declared b)
+  sorted_command declared (insert_before a b c) =
+      insert_before (sorted_term declared a) (sorted_term declared b) (sorted_term declared c)
   sorted_command declared (if_else c a b) =
       if_else (sorted_cond declared c) (sorted_block declared a) (sorted_block declared b)
   sorted_command declared (while_do c b) =

@@ -9,6 +9,7 @@ use Rattle.model_terms.specs.Stores.{ProgVar, named}
 use Rattle.model_commands.specs.Commands.{Command}
 use Rattle.model_commands.specs.Theories.{JudgementOf, entails, triple, Reason, auto, by_rule, StepOf, ProcedureOf, Theory}
 use Rattle.model_text.specs.Lexemes.{Lexeme, terminal, step_word, name_lexeme, number_lexeme, is_reserved}
+use Rattle.model_text.specs.Versions.{insert_word, in_its_version}
 use Rattle.model_grammar.specs.Words.{the, ◌⌢◌}
 use Rattle.model_grammar.specs.Terms.{in_formula, SpellsName, SpellsLogicName, SpellsValueSort, SpellsDataSort, SpellsShapeSort, SpellsSort, SpellsTerm}
 use Rattle.model_grammar.specs.Formulas.{SpellsFormula}
@@ -21,6 +22,7 @@ pub data SpellsAnyWord : List ℕ → List Lexeme → Type 0 where
   reserved_word : (word : List ℕ) → is_reserved word ≡ true
       → SpellsAnyWord word (terminal word ∷ [])
   step_itself : (line : ℕ) → SpellsAnyWord (codes "step") (step_word line ∷ [])
+  insert_itself : SpellsAnyWord insert_word (terminal insert_word ∷ [])
 
 -- NUM, of a step, a premise or a version: at most 4,294,967,295
 pub data SpellsNumber : ℕ → List Lexeme → Type 0 where
@@ -122,8 +124,9 @@ pub data SpellsRaw : Theory → List Lexeme → Type 0 where
       → SpellsRaw (record { version = n; logic = xs; procedures = fs })
       (the "domlogic" ⌢ version ⌢ lines ⌢ procedures)
 
--- The lexemes spell the theory: they spell some raw theory, and the theory is that with its sorts.
+-- The lexemes spell the theory: as they are seen in their version they spell some raw theory, and
+-- the theory is that with its sorts.
 pub record SpellsTheory (theory : Theory) (lexemes : List Lexeme) : Type 0 where
   pub raw : Theory
-  pub spelled : SpellsRaw raw lexemes
+  pub spelled : SpellsRaw raw (in_its_version lexemes)
   pub sorted : theory ≡ with_sorts raw

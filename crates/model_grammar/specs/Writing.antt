@@ -11,10 +11,11 @@ use Rattle.model_terms.specs.Stores.{ProgVar, named}
 use Rattle.model_terms.specs.Conditions.{Cond, cond_true, cond_false, cond_variable, cond_equal, cond_at_most, cond_not, cond_and, cond_or}
 use Rattle.model_formulas.specs.Formulas.{Named, Side, whole, hole_left, hole_right, truth, falsity, conjunction, disjunction, implication, negation, existential, universal, equality, at_most, empty, bare_hole, node_formula, one_tree, one_root, concatenation, grove_sum, grove_sum_hole, application, hole_adjoint, context_adjoint, same_as, length_is, value_meets}
 pub use Rattle.model_commands.specs.Each.{Each}
-use Rattle.model_commands.specs.Commands.{Command, skip, block, assign, create_node, node_name, child_nodes, parent_node, list_item, append_child, remove_child, if_else, while_do, local, call, Block, stop, ◌then◌}
+use Rattle.model_commands.specs.Commands.{Command, skip, block, assign, create_node, node_name, child_nodes, parent_node, list_item, append_child, remove_child, insert_before, if_else, while_do, local, call, Block, stop, ◌then◌}
 use Rattle.model_commands.specs.Theories.{JudgementOf, entails, triple, Reason, auto, by_rule, StepOf, ProcedureOf, Theory}
 use Rattle.model_text.specs.Tokens.{newline}
 use Rattle.model_text.specs.Lexemes.{Lexeme, terminal, step_word, name_lexeme, logic_lexeme, number_lexeme, literal_lexeme, bad_lexeme, word_lexeme}
+use Rattle.model_text.specs.Versions.{seen_in}
 use Rattle.model_text.specs.Nesting.{lexemes_of}
 use Rattle.model_documents.specs.Printed.{quoted}
 use Rattle.model_grammar.specs.Words.{the, ◌⌢◌}
@@ -205,6 +206,8 @@ abbrev mutual
       the "appendChild" ⌢ in_brackets (term_lexemes a ∷ term_lexemes b ∷ [])
   command_lexemes (remove_child a b) =
       the "removeChild" ⌢ in_brackets (term_lexemes a ∷ term_lexemes b ∷ [])
+  command_lexemes (insert_before a b c) =
+      the "insertBefore" ⌢ in_brackets (term_lexemes a ∷ term_lexemes b ∷ term_lexemes c ∷ [])
   command_lexemes (if_else c a b) =
       the "if" ⌢ cond_lexemes c ⌢ block_lexemes a ⌢ the "else" ⌢ block_lexemes b
   command_lexemes (while_do c b) = the "while" ⌢ cond_lexemes c ⌢ block_lexemes b
@@ -254,9 +257,9 @@ declaration_lexemes (named name s) = name_lexeme name ∷ [] ⌢ the ":" ⌢ val
 abbrev pub number_lexemes : ℕ → List Lexeme
 number_lexemes n = number_lexeme n ∷ []
 
--- any word, as the name of a rule
-abbrev pub word_lexemes : List ℕ → List Lexeme
-word_lexemes word = word_lexeme word 0 ∷ []
+-- any word, as the name of a rule in a file of the version
+abbrev pub word_lexemes : ℕ → List ℕ → List Lexeme
+word_lexemes version word = seen_in version (word_lexeme word 0 ∷ [])
 
 -- the arguments of a rule
 abbrev pub argument_lexemes : List Term → List Lexeme
@@ -264,10 +267,10 @@ argument_lexemes [] = []
 argument_lexemes (a ∷ rest) = the "with" ⌢ in_brackets (map term_lexemes (a ∷ rest))
 
 -- why a step holds
-abbrev pub reason_lexemes : Reason → List Lexeme
-reason_lexemes auto = the "auto"
-reason_lexemes (by_rule name premises arguments) =
-    the "by" ⌢ word_lexemes name ⌢ in_brackets (map number_lexemes premises)
+abbrev pub reason_lexemes : ℕ → Reason → List Lexeme
+reason_lexemes version auto = the "auto"
+reason_lexemes version (by_rule name premises arguments) =
+    the "by" ⌢ word_lexemes version name ⌢ in_brackets (map number_lexemes premises)
     ⌢ argument_lexemes arguments
 
 -- what it says
@@ -286,30 +289,30 @@ abbrev pub logic_line : Var → List Lexeme
 logic_line x = the "logic" ⌢ sort_lexemes (var_sort x) ⌢ var_lexemes x ⌢ the ";"
 
 -- of a step
-abbrev pub step_line : StepOf Named → List Lexeme
-step_line step = step_word step.line ∷ [] ⌢ number_lexemes step.number
-    ⌢ reason_lexemes step.reason ⌢ the ":" ⌢ judgement_lexemes step.judgement ⌢ the ";"
+abbrev pub step_line : ℕ → StepOf Named → List Lexeme
+step_line version step = step_word step.line ∷ [] ⌢ number_lexemes step.number
+    ⌢ reason_lexemes version step.reason ⌢ the ":" ⌢ judgement_lexemes step.judgement ⌢ the ";"
 
 -- the lines of a procedure
-abbrev pub procedure_lines : ProcedureOf Named → List (List Lexeme)
-procedure_lines f =
+abbrev pub procedure_lines : ℕ → ProcedureOf Named → List (List Lexeme)
+procedure_lines version f =
     (the "proc" ⌢ name_lexeme f.name ∷ [] ⌢ in_brackets (map declaration_lexemes f.params)
     ⌢ the "returns" ⌢ in_brackets (map declaration_lexemes f.results) ⌢ the "sort"
     ⌢ data_sort_lexemes f.sort)
     ∷ (the "requires" ⌢ formula_lexemes f.pre) ∷ (the "ensures" ⌢ formula_lexemes f.post)
     ∷ (the "body" ⌢ command_lexemes f.body) ∷ the "proof"
-    ∷ (map step_line f.proof ++ the "end" ∷ [])
+    ∷ (map (step_line version) f.proof ++ the "end" ∷ [])
 
 -- of the procedures
-abbrev pub procedures_lines : List (ProcedureOf Named) → List (List Lexeme)
-procedures_lines [] = []
-procedures_lines (f ∷ fs) = procedure_lines f ++ procedures_lines fs
+abbrev pub procedures_lines : ℕ → List (ProcedureOf Named) → List (List Lexeme)
+procedures_lines version [] = []
+procedures_lines version (f ∷ fs) = procedure_lines version f ++ procedures_lines version fs
 
 -- of a theory
 abbrev pub theory_lines : Theory → List (List Lexeme)
 theory_lines theory =
     (the "domlogic" ⌢ number_lexemes theory.version)
-    ∷ (map logic_line theory.logic ++ procedures_lines theory.procedures)
+    ∷ (map logic_line theory.logic ++ procedures_lines theory.version theory.procedures)
 
 -- the lexemes of the lines
 abbrev pub all_lexemes : List (List Lexeme) → List Lexeme
@@ -427,6 +430,8 @@ abbrev mutual
       IsWritableTerm in_command a × IsWritableTerm in_command b
   IsWritableCommand (remove_child a b) =
       IsWritableTerm in_command a × IsWritableTerm in_command b
+  IsWritableCommand (insert_before a b c) =
+      IsWritableTerm in_command a × IsWritableTerm in_command b × IsWritableTerm in_command c
   IsWritableCommand (if_else c a b) =
       IsWritableCondition c × IsWritableBlock a × IsWritableBlock b
   IsWritableCommand (while_do c b) = IsWritableCondition c × IsWritableBlock b

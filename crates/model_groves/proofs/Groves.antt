@@ -8,7 +8,7 @@ use Rattle.model_shapes.proofs.Basics.{beside_assoc, holes-beside, width-beside,
 use Rattle.model_shapes.proofs.Sameness.{same-count}
 use Rattle.model_groves.specs.Groves.{is_yes}
 use Rattle.model_groves.proofs.Decided.{is-yes}
-use Rattle.model_groves.specs.Groves.{nodes_where, has_root, numbered, listed, parental, without, adding}
+use Rattle.model_groves.specs.Groves.{nodes_where, has_root, numbered, listed, parental, without, adding, adding_before}
 
 -- beside
 pub those-beside : (t : ℕ → Trees → ℕ → Bool) (a b : Trees)
@@ -48,6 +48,27 @@ adding-beside n t (node s i k l r) b =
     ap (node s i (cond (is_yes (ℕ_discrete n i)) (beside (adding n t k) t) (adding n t k)) l)
     (adding-beside n t r b)
 adding-beside n t (hole r) b = ap hole (adding-beside n t r b)
+
+-- or put before a tree of them
+pub adding_before-beside : (n : ℕ) (t a b : Trees)
+    → adding_before n t (beside a b) ≡ beside (adding_before n t a) (adding_before n t b)
+adding_before-beside n t none b = refl
+adding_before-beside n t (node s i k l r) b =
+    by_test (is_yes (ℕ_discrete n i)) (adding_before-beside n t r b)
+  where
+    by_test : (c : Bool)
+        → adding_before n t (beside r b) ≡ beside (adding_before n t r) (adding_before n t b)
+        → cond c
+        (beside t (node s i (adding_before n t k) l (adding_before n t (beside r b))))
+        (node s i (adding_before n t k) l (adding_before n t (beside r b)))
+        ≡ beside
+        (cond c (beside t (node s i (adding_before n t k) l (adding_before n t r)))
+        (node s i (adding_before n t k) l (adding_before n t r))) (adding_before n t b)
+    by_test true e = ap (λ z. beside t (node s i (adding_before n t k) l z)) e
+        ∙ sym (beside_assoc t (node s i (adding_before n t k) l (adding_before n t r))
+        (adding_before n t b))
+    by_test false e = ap (node s i (adding_before n t k) l) e
+adding_before-beside n t (hole r) b = ap hole (adding_before-beside n t r b)
 
 -- same groves
 pub same-after : (T : Trees → Trees) → ((a b : Trees) → T (beside a b) ≡ beside (T a) (T b))
@@ -194,6 +215,35 @@ module _ (f : Trees → ℕ) (c : ℕ → ℕ → ℕ) (d : ℕ)
             omega (arith, at_node s i (adding n t k) l (adding n t r), at_node s i k l r)
     put-in n t (hole r) = omega (arith, put-in n t r, at_hole (adding n t r), at_hole r)
 
+    -- what is put before is added once for each node of the number
+    pub put-before : (n : ℕ) (t g : Trees) → f (adding_before n t g) ≡ f g + node_uses n g * f t
+    put-before n t none = omega (arith, at_none)
+    put-before n t (node s i k l r) =
+        by_test (ℕ_discrete n i) (put-before n t k) (put-before n t r)
+      where
+        behind : Trees
+        behind = node s i (adding_before n t k) l (adding_before n t r)
+
+        by_test : (b : Dec (n ≡ i)) → f (adding_before n t k) ≡ f k + node_uses n k * f t
+            → f (adding_before n t r) ≡ f r + node_uses n r * f t
+            → f (cond (is_yes b) (beside t behind) behind)
+            ≡ f (node s i k l r) + (one_if b + (node_uses n k + node_uses n r)) * f t
+        by_test (yes e) x y =
+            omega (
+              arith,
+              at_node s i (adding_before n t k) l (adding_before n t r),
+              adds t behind,
+              at_node s i k l r,
+            )
+        by_test (no m) x y =
+            omega (
+              arith,
+              at_node s i (adding_before n t k) l (adding_before n t r),
+              at_node s i k l r,
+            )
+    put-before n t (hole r) =
+        omega (arith, put-before n t r, at_hole (adding_before n t r), at_hole r)
+
     -- what is found counts no more than the whole
     pub those-le : (t : ℕ → Trees → ℕ → Bool) (g : Trees) → f (nodes_where t g) ≤ f g
     those-le t none = omega arith
@@ -217,6 +267,22 @@ module _ (f : Trees → ℕ) (c : ℕ → ℕ → ℕ) (d : ℕ)
             → f (nodes_where (numbered j) g) ≡ f t
             → f (without j g) + f (nodes_where (numbered j) g) ≡ f g
             → f (adding i t (without j g)) ≤ f g
+        by_uses zero le a b c' = omega arith
+        by_uses (suc zero) le a b c' = omega arith
+        by_uses (suc (suc m)) le a b c' = absurd (omega arith)
+
+    -- nor where it is moved before another
+    pub put-le : (i j : ℕ) (t g : Trees) → nodes_where (numbered j) g ≡ t
+        → node_uses i (without j g) ≤ 1 → f (adding_before i t (without j g)) ≤ f g
+    put-le i j t g e u =
+        by_uses (node_uses i (without j g)) u (put-before i t (without j g)) (ap f e)
+        (taken-out j g)
+      where
+        by_uses : (m : ℕ) → m ≤ 1
+            → f (adding_before i t (without j g)) ≡ f (without j g) + m * f t
+            → f (nodes_where (numbered j) g) ≡ f t
+            → f (without j g) + f (nodes_where (numbered j) g) ≡ f g
+            → f (adding_before i t (without j g)) ≤ f g
         by_uses zero le a b c' = omega arith
         by_uses (suc zero) le a b c' = omega arith
         by_uses (suc (suc m)) le a b c' = absurd (omega arith)
@@ -260,6 +326,26 @@ pub holes-moved-le : (i j : ℕ) (t g : Trees) → nodes_where (numbered j) g �
     → node_uses i (without j g) ≤ 1 → holes (adding i t (without j g)) ≤ holes g
 holes-moved-le =
     moved-le holes (λ i l. 0) 1 refl (λ s i k l r. omega arith) (λ r. refl) holes-beside
+
+-- the three counts, when a tree is moved before another
+pub node-put-le : (m i j : ℕ) (t g : Trees) → nodes_where (numbered j) g ≡ t
+    → node_uses i (without j g) ≤ 1 → node_uses m (adding_before i t (without j g)) ≤ node_uses m g
+node-put-le m =
+    put-le (node_uses m) (λ i l. one_if (ℕ_discrete m i)) 0 refl (λ s i k l r. refl)
+    (λ r. omega arith) (node_uses-beside m)
+
+-- of list numbers
+pub list-put-le : (m i j : ℕ) (t g : Trees) → nodes_where (numbered j) g ≡ t
+    → node_uses i (without j g) ≤ 1 → list_uses m (adding_before i t (without j g)) ≤ list_uses m g
+list-put-le m =
+    put-le (list_uses m) (λ i l. one_if (ℕ_discrete m l)) 0 refl (λ s i k l r. refl)
+    (λ r. omega arith) (list_uses-beside m)
+
+-- of holes
+pub holes-put-le : (i j : ℕ) (t g : Trees) → nodes_where (numbered j) g ≡ t
+    → node_uses i (without j g) ≤ 1 → holes (adding_before i t (without j g)) ≤ holes g
+holes-put-le =
+    put-le holes (λ i l. 0) 1 refl (λ s i k l r. omega arith) (λ r. refl) holes-beside
 
 -- of node numbers, in what is found
 pub node-those-le : (m : ℕ) (t : ℕ → Trees → ℕ → Bool) (g : Trees)

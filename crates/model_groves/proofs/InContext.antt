@@ -5,8 +5,8 @@ use Rattle.model_shapes.specs.Trees.{Trees, none, node, hole, beside, fill, node
 use Rattle.model_shapes.specs.Shapes.{holes}
 use Rattle.model_shapes.proofs.Basics.{beside-none, beside_assoc, node_uses-fill, list_uses-fill}
 use Rattle.model_groves.specs.Groves.{is_yes}
-use Rattle.model_groves.specs.Groves.{nodes_where, has_root, numbered, listed, parental, without, adding}
-use Rattle.model_groves.proofs.Groves.{those-beside, without-beside, adding-beside}
+use Rattle.model_groves.specs.Groves.{nodes_where, has_root, numbered, listed, parental, without, adding, adding_before}
+use Rattle.model_groves.proofs.Groves.{those-beside, without-beside, adding-beside, adding_before-beside}
 
 -- the same list, so many times
 abbrev pub copies : ℕ → Trees → Trees
@@ -119,6 +119,21 @@ module _ (n : ℕ) (d : Trees) where
   adding-fill t (hole r) o =
       adding-beside n t d (fill r d) ∙ ap (beside (adding n t d)) (adding-fill t r o)
 
+  -- and what is put before a tree of the data
+  pub adding_before-fill : (t c : Trees) → node_uses n c ≡ 0
+      → adding_before n t (fill c d) ≡ fill c (adding_before n t d)
+  adding_before-fill t none o = refl
+  adding_before-fill t (node s i k l r) o =
+      ap (λ b. cond b
+      (beside t (node s i (adding_before n t (fill k d)) l (adding_before n t (fill r d))))
+      (node s i (adding_before n t (fill k d)) l (adding_before n t (fill r d))))
+      (not-here n i (omega arith))
+      ∙ (λ j. node s i (adding_before-fill t k (omega arith) j) l
+      (adding_before-fill t r (omega arith) j))
+  adding_before-fill t (hole r) o =
+      adding_before-beside n t d (fill r d)
+      ∙ ap (beside (adding_before n t d)) (adding_before-fill t r o)
+
 -- the number stands nowhere
 pub without-none : (n : ℕ) (a : Trees) → node_uses n a ≡ 0 → without n a ≡ a
 without-none n none o = refl
@@ -136,6 +151,16 @@ adding-none n t (node s i k l r) o =
     (not-here n i (omega arith))
     ∙ (λ j. node s i (adding-none n t k (omega arith) j) l (adding-none n t r (omega arith) j))
 adding-none n t (hole r) o = ap hole (adding-none n t r o)
+
+-- nor put before one that isn't there
+pub adding_before-none : (n : ℕ) (t a : Trees) → node_uses n a ≡ 0 → adding_before n t a ≡ a
+adding_before-none n t none o = refl
+adding_before-none n t (node s i k l r) o =
+    ap (λ b. cond b (beside t (node s i (adding_before n t k) l (adding_before n t r)))
+    (node s i (adding_before n t k) l (adding_before n t r))) (not-here n i (omega arith))
+    ∙ (λ j. node s i (adding_before-none n t k (omega arith) j) l
+    (adding_before-none n t r (omega arith) j))
+adding_before-none n t (hole r) o = ap hole (adding_before-none n t r o)
 
 -- the context has none of the numbers of the data
 pub context-apart : (n : ℕ) (c d : Trees) → holes c ≡ 1 → WellFormed (fill c d) → 1 ≤ node_uses n d
@@ -165,3 +190,8 @@ without-inside n c d o w h = without-fill n d c (context-apart n c d o w h)
 pub adding-inside : (n : ℕ) (t c d : Trees) → holes c ≡ 1 → WellFormed (fill c d)
     → 1 ≤ node_uses n d → adding n t (fill c d) ≡ fill c (adding n t d)
 adding-inside n t c d o w h = adding-fill n d t c (context-apart n c d o w h)
+
+-- and what is put before it is put there in the data
+pub adding_before-inside : (n : ℕ) (t c d : Trees) → holes c ≡ 1 → WellFormed (fill c d)
+    → 1 ≤ node_uses n d → adding_before n t (fill c d) ≡ fill c (adding_before n t d)
+adding_before-inside n t c d o w h = adding_before-fill n d t c (context-apart n c d o w h)

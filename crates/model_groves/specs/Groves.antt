@@ -78,6 +78,15 @@ adding n more (node name number kids list rest) =
     (adding n more kids)) list (adding n more rest)
 adding n more (hole rest) = hole (adding n more rest)
 
+-- with these trees just before the tree of the number
+abbrev pub adding_before : ℕ → Trees → Trees → Trees
+adding_before n more none = none
+adding_before n more (node name number kids list rest) =
+    cond (is_yes (ℕ_discrete n number))
+    (beside more (node name number (adding_before n more kids) list (adding_before n more rest)))
+    (node name number (adding_before n more kids) list (adding_before n more rest))
+adding_before n more (hole rest) = hole (adding_before n more rest)
+
 -- the number isn't 0
 abbrev pub positive : ℕ → Bool
 positive zero = false

@@ -8,7 +8,7 @@ ghost use Rattle.model_shapes.specs.Sorts.{context};
 ghost use Rattle.model_shapes.specs.Trees.{Trees, fill, node_uses, WellFormed};
 ghost use Rattle.model_shapes.specs.Shapes.{holes};
 ghost use Rattle.model_groves.specs.Picks.{is_free, next_pick};
-ghost use Rattle.model_groves.specs.Groves.{nodes_where, numbered, without, adding};
+ghost use Rattle.model_groves.specs.Groves.{nodes_where, numbered, without, adding, adding_before};
 
 /// Nodes of the data in a context are found, taken out and added to in the data: the context, which
 /// isn't reached, stays.
@@ -22,6 +22,9 @@ pub fn what_is_not_reached_stays()
     ensures added { (n : ℕ) (more outside piece : Trees) → holes outside ≡ 1
         → WellFormed (fill outside piece) → 1 ≤ node_uses n piece
         → adding n more (fill outside piece) ≡ fill outside (adding n more piece) }
+    ensures added_before { (n : ℕ) (more outside piece : Trees) → holes outside ≡ 1
+        → WellFormed (fill outside piece) → 1 ≤ node_uses n piece
+        → adding_before n more (fill outside piece) ≡ fill outside (adding_before n more piece) }
 {}
 
 /// The next pick of a grove is free.

@@ -8,12 +8,12 @@ use Rattle.model_shapes.specs.Trees.{Trees, none, node, hole, beside, node_uses,
 use Rattle.model_shapes.specs.Shapes.{holes}
 use Rattle.model_shapes.proofs.Basics.{beside-none}
 use Rattle.model_shapes.proofs.Narrow.{no_roots}
-use Rattle.model_groves.specs.Groves.{is_yes, nodes_where, numbered, listed, parental, has_root, without, adding, first_number}
+use Rattle.model_groves.specs.Groves.{is_yes, nodes_where, numbered, listed, parental, has_root, without, adding, adding_before, first_number}
 use Rattle.model_groves.proofs.Decided.{yes-is}
 use Rattle.model_groves.proofs.Groves.{width-numbered, width-listed, width-parental, bit}
-use Rattle.model_groves.proofs.InContext.{without-none, adding-none}
+use Rattle.model_groves.proofs.InContext.{without-none, adding-none, adding_before-none}
 use Rattle.model_heap.specs.Lists.{count}
-use Rattle.model_heap.specs.Entries.{Entry, roots, uses, entry, tree_at, all_but, adopt, kids_of}
+use Rattle.model_heap.specs.Entries.{Entry, roots, uses, entry, tree_at, all_but, adopt, inserted_at, kids_of}
 use Rattle.model_heap.proofs.Moves.{test_yes, test_no, one_here, none_here, or_none, entry_absent, tree_absent}
 use Rattle.model_heap.proofs.Kinship.{kids_use, roots_use, root_parent, kid_up}
 
@@ -97,6 +97,32 @@ adding_is p t (node s i kids l rest) u =
           rw (decided_no p i d, test_no p i d, adding_is p t kids x, adding_is p t rest y) refl
     ]
 adding_is p t (hole rest) u = ap hole (adding_is p t rest u)
+
+-- and put in before another
+pub adding_before_is : (w : ℕ) (t r : Trees) → uses w r ≤ 1 → adding_before w t r ≡ inserted_at w t r
+adding_before_is w t none u = refl
+adding_before_is w t (node s i kids l rest) u =
+    elim (cases_eq w i) [
+      | inl e ↦
+          let x : node_uses w kids ≡ 0 = omega (arith, u, one_here w i e, uses-are w kids) in
+          let y : node_uses w rest ≡ 0 = omega (arith, u, one_here w i e, uses-are w rest) in
+          rw (
+            decided_yes w i e,
+            test_yes w i e,
+            adding_before-none w t kids x,
+            adding_before-none w t rest y,
+          ) refl
+      | inr d ↦
+          let x : uses w kids ≤ 1 = omega (arith, u) in
+          let y : uses w rest ≤ 1 = omega (arith, u) in
+          rw (
+            decided_no w i d,
+            test_no w i d,
+            adding_before_is w t kids x,
+            adding_before_is w t rest y,
+          ) refl
+    ]
+adding_before_is w t (hole rest) u = ap hole (adding_before_is w t rest u)
 
 -- THE NODE of a number that stands somewhere
 pub record NodeOf (found : Trees) (n : ℕ) (e : Entry) : Type 0 where

@@ -135,3 +135,24 @@ depth n (hole rest) = depth n rest
 -- one more root
 abbrev pub created : List ℕ → ℕ → ℕ → Trees → Trees
 created name n list g = beside g (node name n none list none)
+
+-- more roots before the tree of a number
+abbrev pub inserted_at : ℕ → Trees → Trees → Trees
+inserted_at w more none = none
+inserted_at w more (node name number kids list rest) =
+    cond (w == number) (beside more (node name number kids list rest))
+    (node name number (inserted_at w more kids) list (inserted_at w more rest))
+inserted_at w more (hole rest) = hole (inserted_at w more rest)
+
+-- the tree of the second number moved to just before that of the first
+abbrev pub inserted : ℕ → ℕ → Trees → Trees
+inserted w c g = inserted_at w (tree_at c g) (all_but c g)
+
+-- more numbers before the first place of a number
+abbrev pub insert_in : ℕ → List ℕ → List ℕ → List ℕ
+insert_in w cs [] = []
+insert_in w cs (x ∷ xs) = cond (w == x) (cs ++ x ∷ xs) (x ∷ insert_in w cs xs)
+
+-- with more children before one of them
+abbrev pub into : ℕ → List ℕ → Entry → Entry
+into w cs e = record e { kids = insert_in w cs e.kids }

@@ -11,20 +11,20 @@ use Rattle.model_shapes.proofs.Narrow.{no_roots}
 use Rattle.model_shapes.proofs.Truth.{both_true}
 use Rattle.model_terms.specs.Stores.{ProgVar, Store, set, value_in, value_of, ProperStore, sort_of, default, text_in}
 use Rattle.model_terms.specs.Conditions.{truth_of}
-use Rattle.model_commands.specs.Commands.{skip, block, assign, create_node, node_name, child_nodes, parent_node, list_item, append_child, remove_child, if_else, while_do, local, call, Block, stop, ◌then◌}
+use Rattle.model_commands.specs.Commands.{skip, block, assign, create_node, node_name, child_nodes, parent_node, list_item, append_child, remove_child, insert_before, if_else, while_do, local, call, Block, stop, ◌then◌}
 use Rattle.model_commands.specs.Theories.{Procedure, Procedures, procedure_named}
 use Rattle.model_commands.specs.Sorting.{Feed, Receive, CallFits}
 use Rattle.model_commands.specs.SortTests.{is_sorted, call_fits, BodiesSorted}
 use Rattle.model_commands.specs.CommandParts.{commands_in, commands_of}
 use Rattle.model_commands.proofs.Sorting.{Tested, rest-tested, both-tested, sorted-command, receives-received, local-body, loop-body, branches, call-fits-test}
-use Rattle.model_groves.specs.Groves.{nodes_where, has_root, numbered, listed, parental, node_at, list_at, first_number, number_at, item_of, without, adding, positive}
-use Rattle.model_machine.specs.Machine.{FaultKind, no_node, no_list, cycle, not_child, Piece, run, restore, return, Move, becomes, faults, bad_pick, pieces_of, reading, appending, removing, creating, entering, returning, calling, move, Config, configuration, StepOut, next, done, at_fault, at_bad_pick, stepped, step, is_done, running, ended, after_step, runs}
+use Rattle.model_groves.specs.Groves.{nodes_where, has_root, numbered, listed, parental, node_at, list_at, first_number, number_at, item_of, without, adding, adding_before, is_yes, positive}
+use Rattle.model_machine.specs.Machine.{FaultKind, no_node, no_list, cycle, not_child, self_ref, Piece, run, restore, return, Move, becomes, faults, bad_pick, pieces_of, reading, appending, inserting, inserting_at, removing, creating, entering, returning, calling, move, Config, configuration, StepOut, next, done, at_fault, at_bad_pick, stepped, step, is_done, running, ended, after_step, runs}
 use Rattle.model_groves.specs.Picks.{Pick, is_free}
 use Rattle.model_machine.specs.ClassicalTriples.{Ends}
 use Rattle.model_machine.specs.Fitting.{FitsPiece, FitPieces, Fine, FitsConfig}
 use Rattle.model_terms.proofs.StoreLaws.{unset-proper, set-proper, default-fits, value-fits}
 use Rattle.model_commands.proofs.StoreLaws.{not-true}
-use Rattle.model_groves.proofs.Groves.{node-taken-out, list-taken-out, holes-taken-out, node-moved-le, list-moved-le, holes-moved-le, node-those-le, list-those-le, width-numbered, found-number}
+use Rattle.model_groves.proofs.Groves.{node-taken-out, list-taken-out, holes-taken-out, node-moved-le, list-moved-le, holes-moved-le, node-put-le, list-put-le, holes-put-le, node-those-le, list-those-le, width-numbered, found-number}
 
 -- what uses no number more often is well formed too
 pub less-WellFormed : (a b : Trees) → ((n : ℕ) → node_uses n a ≤ node_uses n b)
@@ -83,6 +83,20 @@ appended-shaped i j t g e w = record {
       (λ m. list-moved-le m i j t g e once) w.well_formed;
   width_fits = tt;
   holes_fit = omega (arith, holes-moved-le i j t g e once, w.holes_fit);
+}
+  where
+    once : node_uses i (without j g) ≤ 1
+    once = omega (arith, node-taken-out i j g, w.well_formed.nodes_once i)
+
+-- after insertBefore it is
+pub inserted-shaped : (i j : ℕ) (t g : Trees) → nodes_where (numbered j) g ≡ t
+    → Shaped (shape grove) g → Shaped (shape grove) (adding_before i t (without j g))
+inserted-shaped i j t g e w = record {
+  well_formed =
+      less-WellFormed (adding_before i t (without j g)) g (λ m. node-put-le m i j t g e once)
+      (λ m. list-put-le m i j t g e once) w.well_formed;
+  width_fits = tt;
+  holes_fit = omega (arith, holes-put-le i j t g e once, w.holes_fit);
 }
   where
     once : node_uses i (without j g) ≤ 1
@@ -300,6 +314,47 @@ module _ (th : Procedures) where
   appending-fine v v' (node s i k l r) none st g e e' fine = tt
   appending-fine v v' (node s i k l r) (hole r') st g e e' fine = tt
 
+  either-fine : (c : Bool) (m n : Move) → FineMove m → FineMove n → FineMove (cond c m n)
+  either-fine true m n x y = x
+  either-fine false m n x y = y
+
+  inserting-fine : (v' : Value) (a b c : Trees) (st : Store) (g : Trees) → node_at v' g ≡ b
+      → Fine st g → FineMove (inserting a b c st g)
+  inserting-fine v' none b c st g e fine = tt
+  inserting-fine v' (hole r) b c st g e fine = tt
+  inserting-fine v' (node s i k l r) none c st g e fine = tt
+  inserting-fine v' (node s i k l r) (hole r') c st g e fine = tt
+  inserting-fine v' (node s i k l r) (node s' j k' l' r') none st g e fine = tt
+  inserting-fine v' (node s i k l r) (node s' j k' l' r') (hole r'') st g e fine = tt
+  inserting-fine v' (node s i k l r) (node s' j k' l' r') (node s'' q k'' l'' r'') st g e fine =
+      either-fine (is_yes (ℕ_discrete j q)) (faults self_ref) _ tt
+      (either-fine (positive (node_uses i (node s' j k' l' none))) (faults cycle) _ tt
+      (either-fine (has_root q k) _ (faults not_child) (
+        tt,
+        record {
+          proper = fine.proper;
+          whole = inserted-shaped q j (node s' j k' l' none) g
+              (found-node v' g fine.whole.well_formed s' j k' l' r' e).here fine.whole;
+        },
+      ) tt))
+
+  inserting_at-fine : (u v v' : Value) (st : Store) (g : Trees) → Fine st g
+      → FineMove (inserting_at u (node_at v g) (node_at v' g) st g)
+  inserting_at-fine null v v' st g fine =
+      appending-fine v v' (node_at v g) (node_at v' g) st g refl refl fine
+  inserting_at-fine nolist v v' st g fine =
+      inserting-fine v' (node_at v g) (node_at v' g) none st g refl fine
+  inserting_at-fine (node_number n) v v' st g fine =
+      inserting-fine v' (node_at v g) (node_at v' g) (node_at (node_number n) g) st g refl fine
+  inserting_at-fine (list_number n) v v' st g fine =
+      inserting-fine v' (node_at v g) (node_at v' g) none st g refl fine
+  inserting_at-fine (int n) v v' st g fine =
+      inserting-fine v' (node_at v g) (node_at v' g) none st g refl fine
+  inserting_at-fine (str n) v v' st g fine =
+      inserting-fine v' (node_at v g) (node_at v' g) none st g refl fine
+  inserting_at-fine (boolean n) v v' st g fine =
+      inserting-fine v' (node_at v g) (node_at v' g) none st g refl fine
+
   removing-fine : (v v' : Value) (a b : Trees) (st : Store) (g : Trees) → node_at v g ≡ a
       → node_at v' g ≡ b → Fine st g → FineMove (removing a b st g)
   removing-fine v v' (node s i k l r) (node s' j k' l' r') st g e e' fine = by_test (has_root j k)
@@ -456,6 +511,8 @@ module _ (th : Procedures) where
     move-fine p (run (remove_child e f)) st g s fine =
         removing-fine (value_of st e) (value_of st f) (node_at (value_of st e) g)
         (node_at (value_of st f) g) st g refl refl fine
+    move-fine p (run (insert_before e f q)) st g s fine =
+        inserting_at-fine (value_of st q) (value_of st e) (value_of st f) st g fine
 
     -- what a step makes fits
     abbrev FineStep : StepOut → Type 0

@@ -4,11 +4,12 @@ use Rattle.model_shapes.specs.Trees.{Trees, none, node, hole, beside, node_uses}
 use Rattle.model_shapes.specs.Values.{Value, node_number}
 use Rattle.model_terms.specs.Terms.{Term}
 use Rattle.model_terms.specs.Stores.{ProgVar, Store, set, value_of, text_in}
-use Rattle.model_commands.specs.Commands.{skip, block, assign, create_node, node_name, child_nodes, parent_node, list_item, append_child, remove_child, if_else, while_do, local, call}
+use Rattle.model_commands.specs.Commands.{skip, block, assign, create_node, node_name, child_nodes, parent_node, list_item, append_child, remove_child, insert_before, if_else, while_do, local, call}
 use Rattle.model_commands.specs.Theories.{Procedures, Procedure, procedure_named}
 use Rattle.model_machine.specs.Machine.{Piece, run, restore, return, Move, becomes, faults, bad_pick, move, reading, appending, removing, calling, no_node, no_list, cycle, not_child, FaultKind, Config, configuration, is_done, StepOut, next, done, at_fault, at_bad_pick, stepped, step}
 use Rattle.model_groves.specs.Groves.{positive, has_root, without, adding, node_at, list_at}
 use Rattle.model_groves.proofs.NextPicks.{next-free}
+use Rattle.model_machine.proofs.EachMove.{each-inserting}
 use Rattle.model_groves.specs.Picks.{next_pick}
 use Rattle.model_limits.specs.Limits.{Limits, LimitKind}
 use Rattle.model_machine.specs.Outcomes.{Outcome, spends, no_pick, ends_at, limit_ahead, pick_limit, within, on_step, outcome}
@@ -85,6 +86,9 @@ next-moves th (run (append_child t u)) st g e =
     appending-picks (node_at (value_of st t) g) (node_at (value_of st u) g) st g e
 next-moves th (run (remove_child t u)) st g e =
     removing-picks (node_at (value_of st t) g) (node_at (value_of st u) g) st g e
+next-moves th (run (insert_before t u v)) st g e =
+    each-inserting (λ m. m ≡ bad_pick → ⊥) st g (λ kind q. cc) (λ after q. cc) (value_of st v)
+    (node_at (value_of st t) g) (node_at (value_of st u) g) e
 
 -- nor does a step
 pub next-steps : (th : Procedures) (c : Config) → step th c (next_pick c.grove) ≡ at_bad_pick → ⊥

@@ -2,7 +2,7 @@
 use Rattle.std.proofs.Common.{◌≡◌, List, [], ◌∷◌, ◌++◌, refl, sym, ap, ◌∙◌, subst, ◌⊎◌, inl, inr}
 use Rattle.std.specs.Prelude.{Contains, flat_map}
 use Rattle.std.proofs.lemmas.List.Elements.{Contains-append_left, Contains-append_right, Contains-append_cases}
-use Rattle.model_commands.specs.Commands.{Command, skip, block, assign, create_node, node_name, child_nodes, parent_node, list_item, append_child, remove_child, if_else, while_do, local, call, Block, stop, ◌then◌}
+use Rattle.model_commands.specs.Commands.{Command, skip, block, assign, create_node, node_name, child_nodes, parent_node, list_item, append_child, remove_child, insert_before, if_else, while_do, local, call, Block, stop, ◌then◌}
 use Rattle.model_commands.specs.CommandParts.{commands_in, commands_of}
 use Rattle.model_machine.specs.Parts.{blocks_of, parts_of}
 use Rattle.model_machine.proofs.Members.{first-member, later-member, no-member, which-member, some-source, from-source}
@@ -27,6 +27,7 @@ in-itself (parent_node x t) = refl
 in-itself (list_item x t u) = refl
 in-itself (append_child t u) = refl
 in-itself (remove_child t u) = refl
+in-itself (insert_before t u v) = refl
 in-itself (if_else c a b) = refl
 in-itself (while_do c b) = refl
 in-itself (local x b) = refl
@@ -83,6 +84,7 @@ mutual
   deep-command (list_item x t u) = deep-below (list_item x t u) nothing-deep
   deep-command (append_child t u) = deep-below (append_child t u) nothing-deep
   deep-command (remove_child t u) = deep-below (remove_child t u) nothing-deep
+  deep-command (insert_before t u v) = deep-below (insert_before t u v) nothing-deep
   deep-command (call xs name es) = deep-below (call xs name es) nothing-deep
 
   deep-block : (b : Block) → Deep (commands_of b)

@@ -9,7 +9,7 @@ use Rattle.model_terms.specs.Stores.{ProgVar, Store, value_of, text_in}
 use Rattle.model_terms.specs.Conditions.{truth_of}
 use Rattle.model_terms.specs.TermLimits.{or_else}
 use Rattle.model_limits.specs.Limits.{Limits, LimitKind}
-use Rattle.model_commands.specs.Commands.{Command, skip, block, assign, create_node, node_name, child_nodes, parent_node, list_item, append_child, remove_child, if_else, while_do, local, call, Block, stop, ◌then◌}
+use Rattle.model_commands.specs.Commands.{Command, skip, block, assign, create_node, node_name, child_nodes, parent_node, list_item, append_child, remove_child, insert_before, if_else, while_do, local, call, Block, stop, ◌then◌}
 use Rattle.model_commands.specs.CommandParts.{commands_in, commands_of}
 use Rattle.model_commands.specs.Theories.{Procedure, Procedures, procedure_named}
 use Rattle.model_groves.specs.Groves.{node_at, list_at}
@@ -17,7 +17,7 @@ use Rattle.model_groves.specs.Picks.{Pick, next_pick}
 use Rattle.model_machine.specs.Machine.{FaultKind, no_node, no_list, Piece, run, restore, return, Move, becomes, faults, bad_pick, pieces_of, reading, calling, move, Config, configuration, start, StepOut, next, done, at_fault, at_bad_pick, stepped, step}
 use Rattle.model_machine.specs.Outcomes.{Outcome, has_fault, first_command, limit_ahead, pick_limit, within, on_step, outcome}
 use Rattle.model_machine.specs.Parts.{blocks_of, parts_of, InSomeBody, onward, after_picks}
-use Rattle.model_machine.proofs.EachMove.{each-reading, each-creating, each-appending, each-removing}
+use Rattle.model_machine.proofs.EachMove.{each-reading, each-creating, each-appending, each-removing, each-inserting}
 use Rattle.model_machine.proofs.Members.{first-member, later-member, no-member, which-member}
 use Rattle.model_machine.proofs.Parts.{itself, no-block, block-part, command-part, inside-block}
 
@@ -143,6 +143,9 @@ module _ (ps : Procedures) where
   move-part p (run (remove_child t u)) st g h =
       each-removing PartMove (λ k. tt) tt (λ st g. tt) (node_at (value_of st t) g)
       (node_at (value_of st u) g) st g
+  move-part p (run (insert_before t u v)) st g h =
+      each-inserting PartMove st g (λ k. tt) (λ g. tt) (value_of st v)
+      (node_at (value_of st t) g) (node_at (value_of st u) g)
 
   -- a command that faults is no block, so it is one of the body's commands
   fault-in : (p : Pick) (x : Piece) (rest : List Piece) (st : Store) (g : Trees) (kind : FaultKind)

@@ -1,5 +1,6 @@
 -- Runs on groves that are the same up to the order of roots.
 use Rattle.std.proofs.Common.{◌≡◌, ℕ, List, [], ◌∷◌, ◌++◌, Bool, true, false, cond, not, ◌&&◌, refl, ap, subst, arith, Option, Some, None}
+use Rattle.std.proofs.Math.Decide.{ℕ_discrete}
 use Rattle.model_shapes.specs.Trees.{Trees, none, node, hole, beside, node_uses, WellFormed}
 use Rattle.model_shapes.specs.Sorts.{grove}
 use Rattle.model_shapes.specs.Shapes.{SameAt}
@@ -8,13 +9,13 @@ use Rattle.model_terms.specs.Terms.{Term}
 use Rattle.model_shapes.proofs.Shapes.{same-node_uses, same-list_uses, SameAt-beside}
 use Rattle.model_shapes.proofs.Narrow.{narrow}
 use Rattle.model_terms.specs.Stores.{ProgVar, Store, set, value_of, text_in}
-use Rattle.model_commands.specs.Commands.{skip, block, assign, create_node, node_name, child_nodes, parent_node, list_item, append_child, remove_child, if_else, while_do, local, call}
+use Rattle.model_commands.specs.Commands.{skip, block, assign, create_node, node_name, child_nodes, parent_node, list_item, append_child, remove_child, insert_before, if_else, while_do, local, call}
 use Rattle.model_commands.specs.Theories.{Procedure, Procedures, procedure_named}
-use Rattle.model_groves.specs.Groves.{nodes_where, has_root, numbered, listed, parental, node_at, list_at, first_number, item_of, without, adding, positive}
-use Rattle.model_machine.specs.Machine.{FaultKind, no_node, no_list, cycle, not_child, Piece, run, restore, return, Move, becomes, faults, bad_pick, reading, appending, removing, creating, calling, move, Config, configuration, runs}
+use Rattle.model_groves.specs.Groves.{nodes_where, has_root, numbered, listed, parental, node_at, list_at, first_number, item_of, without, adding, adding_before, is_yes, positive}
+use Rattle.model_machine.specs.Machine.{FaultKind, no_node, no_list, cycle, not_child, self_ref, Piece, run, restore, return, Move, becomes, faults, bad_pick, reading, appending, inserting, inserting_at, removing, creating, calling, move, Config, configuration, runs}
 use Rattle.model_groves.specs.Picks.{Pick, is_free}
 use Rattle.model_machine.specs.SameMoves.{SameMove, SameOutcome}
-use Rattle.model_groves.proofs.Groves.{those-beside, without-beside, adding-beside, same-after, width-numbered, width-listed, width-parental}
+use Rattle.model_groves.proofs.Groves.{those-beside, without-beside, adding-beside, adding_before-beside, same-after, width-numbered, width-listed, width-parental}
 use Rattle.model_machine.proofs.Fine.{FineMove, move-fine, all-fine}
 use Rattle.model_machine.specs.Fitting.{Fine, FitPieces, FitsConfig}
 use Rattle.model_machine.proofs.Runs.{moved_on}
@@ -85,6 +86,46 @@ module _ (g g' : Trees) (same : SameAt grove g g') (w : WellFormed g) where
           (cond c (faults cycle) (becomes [] st (adding i (node s' j k' l' none) (without j g'))))
       by_test true = refl
       by_test false = (refl, refl, moved)
+
+  same-either : (c : Bool) (m m' n n' : Move) → SameMove m m' → SameMove n n'
+      → SameMove (cond c m n) (cond c m' n')
+  same-either true m m' n n' x y = x
+  same-either false m m' n n' x y = y
+
+  same-inserting : (a b c : Trees) (st : Store)
+      → SameMove (inserting a b c st g) (inserting a b c st g')
+  same-inserting none b c st = refl
+  same-inserting (hole r) b c st = refl
+  same-inserting (node s i k l r) none c st = refl
+  same-inserting (node s i k l r) (hole r') c st = refl
+  same-inserting (node s i k l r) (node s' j k' l' r') none st = refl
+  same-inserting (node s i k l r) (node s' j k' l' r') (hole r'') st = refl
+  same-inserting (node s i k l r) (node s' j k' l' r') (node s'' q k'' l'' r'') st =
+      same-either (is_yes (ℕ_discrete j q)) (faults self_ref) (faults self_ref) _ _ refl
+      (same-either (positive (node_uses i (node s' j k' l' none))) (faults cycle) (faults cycle)
+      _ _ refl
+      (same-either (has_root q k) _ _ (faults not_child) (faults not_child) (refl, refl, moved)
+      refl))
+    where
+      moved : SameAt grove (adding_before q (node s' j k' l' none) (without j g))
+          (adding_before q (node s' j k' l' none) (without j g'))
+      moved = same-after (adding_before q (node s' j k' l' none))
+          (adding_before-beside q (node s' j k' l' none)) (without j g) (without j g')
+          (same-after (without j) (without-beside j) g g' same)
+
+  -- at the place that a value names
+  same-inserting_at : (v : Value) (a b : Trees) (st : Store)
+      → SameMove (inserting_at v a b st g) (inserting_at v a b st g')
+  same-inserting_at null a b st = same-appending a b st
+  same-inserting_at nolist a b st = same-inserting a b none st
+  same-inserting_at (node_number n) a b st =
+      subst (λ z. SameMove (inserting a b (node_at (node_number n) g) st g)
+      (inserting a b z st g')) (same-node_at (node_number n))
+      (same-inserting a b (node_at (node_number n) g) st)
+  same-inserting_at (list_number n) a b st = same-inserting a b none st
+  same-inserting_at (int n) a b st = same-inserting a b none st
+  same-inserting_at (str n) a b st = same-inserting a b none st
+  same-inserting_at (boolean n) a b st = same-inserting a b none st
 
   same-removing : (a b : Trees) (st : Store) → SameMove (removing a b st g) (removing a b st g')
   same-removing none b st = refl
@@ -187,6 +228,14 @@ module _ (g g' : Trees) (same : SameAt grove g g') (w : WellFormed g) where
       (subst (λ z. SameMove (removing (node_at (value_of st e) g) (node_at (value_of st f) g) st g)
       (removing (node_at (value_of st e) g) z st g')) (same-node_at (value_of st f))
       (same-removing (node_at (value_of st e) g) (node_at (value_of st f) g) st))
+  same-move th p (run (insert_before e f q)) st =
+      let at : Trees → Trees → Trees → Move = λ a b roots. inserting_at (value_of st q) a b st roots in
+      subst (λ z. SameMove (at (node_at (value_of st e) g) (node_at (value_of st f) g) g)
+      (at z (node_at (value_of st f) g') g')) (same-node_at (value_of st e))
+      (subst (λ z. SameMove (at (node_at (value_of st e) g) (node_at (value_of st f) g) g)
+      (at (node_at (value_of st e) g) z g')) (same-node_at (value_of st f))
+      (same-inserting_at (value_of st q) (node_at (value_of st e) g) (node_at (value_of st f) g)
+      st))
 
 module _ (th : Procedures) (bodies : BodiesSorted th) where
   -- THE SAME OUTCOME

@@ -4,7 +4,7 @@ use Rattle.model_shapes.specs.Trees.{Trees, none, node, hole}
 use Rattle.model_shapes.specs.Values.{Value}
 use Rattle.model_terms.specs.Terms.{Term}
 use Rattle.model_terms.specs.Stores.{ProgVar, Store, value_of}
-use Rattle.model_commands.specs.Commands.{skip, block, assign, create_node, node_name, child_nodes, parent_node, list_item, append_child, remove_child, if_else, while_do, local, call}
+use Rattle.model_commands.specs.Commands.{skip, block, assign, create_node, node_name, child_nodes, parent_node, list_item, append_child, remove_child, insert_before, if_else, while_do, local, call}
 use Rattle.model_commands.specs.Theories.{Procedure, Procedures, procedure_named}
 use Rattle.model_groves.specs.Groves.{node_at, list_at}
 use Rattle.model_groves.specs.Picks.{Pick}
@@ -51,6 +51,7 @@ move-leaves th p (run (list_item x t u)) k st g n e =
 move-leaves th p (run (create_node x t)) k st g n e = absurd (cc)
 move-leaves th p (run (append_child t u)) k st g n e = absurd (cc)
 move-leaves th p (run (remove_child t u)) k st g n e = absurd (cc)
+move-leaves th p (run (insert_before t u v)) k st g n e = absurd (cc)
 
 -- without a change, the grove stays
 pub unchanged : (th : Procedures) (p : Pick) (c d : Config) (n : ℕ) → step th c p ≡ next d

@@ -5,13 +5,14 @@ use Rattle.model_shapes.specs.Values.{Value, node_number, list_number, str}
 use Rattle.model_terms.specs.Terms.{Term}
 use Rattle.model_terms.specs.Stores.{ProgVar, Store, set, value_in, value_of, text_in, default, sort_of, same_name}
 use Rattle.model_terms.specs.Conditions.{truth_of}
-use Rattle.model_commands.specs.Commands.{Command, skip, block, assign, create_node, node_name, child_nodes, parent_node, list_item, append_child, remove_child, if_else, while_do, local, call, Block, stop, ◌then◌, Modifies, BlockModifies, Among}
+use Rattle.model_commands.specs.Commands.{Command, skip, block, assign, create_node, node_name, child_nodes, parent_node, list_item, append_child, remove_child, insert_before, if_else, while_do, local, call, Block, stop, ◌then◌, Modifies, BlockModifies, Among}
 use Rattle.model_commands.specs.Theories.{Procedure, Procedures, procedure_named}
 use Rattle.model_groves.specs.Groves.{nodes_where, has_root, parental, node_at, list_at, first_number, item_of, without, adding, positive}
 use Rattle.model_machine.specs.Machine.{FaultKind, no_node, no_list, cycle, not_child, Piece, run, restore, return, becomes, faults, bad_pick, pieces_of, reading, appending, removing, creating, entering, returning, calling, move, configuration, beginning, RunOutcome, running, ended, fault, picked_badly, runs}
 use Rattle.model_groves.specs.Picks.{Pick, is_free}
 use Rattle.model_machine.specs.ClassicalTriples.{Ends}
 use Rattle.model_terms.proofs.StoreLaws.{set-same, set-other, same_name-is, same_name-refl}
+use Rattle.model_machine.proofs.EachMove.{each-inserting}
 use Rattle.model_machine.proofs.Runs.{Well, WellOn, at_end, at_step, at_zero, followed}
 
 abbrev Any : Store → Trees → Type 0
@@ -178,6 +179,10 @@ module _ (th : Procedures) where
         keeps-appending n (node_at (value_of st e) g) (node_at (value_of st f) g) st g h
     keeps-on n k (remove_child e f) m st g h p =
         keeps-removing n (node_at (value_of st e) g) (node_at (value_of st f) g) st g h
+    keeps-on n k (insert_before e f q) m st g h p =
+        each-inserting (WellOn th Unit n (Has x v) []) st g (λ kind. tt)
+        (λ g'. at_end th Unit n (Has x v) st g' h) (value_of st q) (node_at (value_of st e) g)
+        (node_at (value_of st f) g)
     keeps-on n k (if_else c a b) m st g h p = by_test (truth_of st c)
       where
         by_test : (t : Bool) → Well th Unit n (Has x v) (run (block (cond t a b)) ∷ []) st g

@@ -9,9 +9,9 @@ use Rattle.model_terms.specs.Variables.{prog}
 use Rattle.model_formulas.specs.Formulas.{truth}
 use Rattle.model_terms.specs.Stores.{ProgVar, named}
 use Rattle.model_terms.specs.Conditions.{cond_equal, cond_at_most, cond_not}
-use Rattle.model_commands.specs.Commands.{Command, block, assign, create_node, node_name, child_nodes, parent_node, list_item, append_child, remove_child, if_else, while_do, local, call, stop, ◌then◌}
+use Rattle.model_commands.specs.Commands.{Command, block, assign, create_node, node_name, child_nodes, parent_node, list_item, append_child, remove_child, insert_before, if_else, while_do, local, call, stop, ◌then◌}
 use Rattle.model_commands.specs.Theories.{Procedure, Procedures}
-use Rattle.model_machine.specs.Machine.{no_node, cycle, not_child, start}
+use Rattle.model_machine.specs.Machine.{no_node, cycle, not_child, self_ref, start}
 use Rattle.model_limits.specs.Limits.{Limits, standard_limits, identifier_limit, depth_limit, number_limit, nodes_limit}
 use Rattle.model_machine.specs.Outcomes.{Outcome, outcome, ends, spends, passes_limit, has_fault}
 use Rattle.model_machine.specs.Changes.{created, moved, removed, changes}
@@ -66,6 +66,10 @@ procedure name params results body = record {
 -- appendChild(p, n)
 abbrev app : Procedure
 app = procedure (codes "app") (p ∷ n ∷ []) [] (append_child (of p) (of n))
+
+-- insertBefore(p, n, q)
+abbrev ins : Procedure
+ins = procedure (codes "ins") (p ∷ n ∷ q ∷ []) [] (insert_before (of p) (of n) (of q))
 
 -- { removeChild(p, n) ; q := parentNode(n) }
 abbrev rem : Procedure
@@ -170,6 +174,49 @@ remove_makes_a_root : result rem (node_number 1 ∷ node_number 2 ∷ []) wide
     (tree_of (codes "a") 2 none))
 unfolding native.Mathlib.Decide.ℕ_discrete
 remove_makes_a_root = refl
+
+-- insertBefore puts the tree before a child of its new parent, and to the end for null
+abbrev insert : List Value → Outcome
+insert values = result ins values wide
+
+insert_moves : insert (node_number 1 ∷ node_number 3 ∷ node_number 2 ∷ []) ≡ ends 1 []
+    (node (codes "html") 1 (node (codes "b") 3 none 3 (node (codes "a") 2 none 2 none)) 1 none)
+unfolding native.Mathlib.Decide.ℕ_discrete
+insert_moves = refl
+
+insert_again : insert (node_number 1 ∷ node_number 2 ∷ node_number 3 ∷ []) ≡ ends 1 [] wide
+unfolding native.Mathlib.Decide.ℕ_discrete
+insert_again = refl
+
+insert_last : insert (node_number 1 ∷ node_number 3 ∷ null ∷ []) ≡ ends 1 [] wide
+unfolding native.Mathlib.Decide.ℕ_discrete
+insert_last = refl
+
+-- a node isn't put before itself, nor below itself, nor before what is no child; but a node that
+-- isn't there is missed first
+insert_itself : insert (node_number 1 ∷ node_number 2 ∷ node_number 2 ∷ [])
+    ≡ has_fault self_ref 0 ins.body
+unfolding native.Mathlib.Decide.ℕ_discrete
+insert_itself = refl
+
+insert_thrice : insert (node_number 1 ∷ node_number 1 ∷ node_number 1 ∷ [])
+    ≡ has_fault self_ref 0 ins.body
+unfolding native.Mathlib.Decide.ℕ_discrete
+insert_thrice = refl
+
+insert_below : insert (node_number 2 ∷ node_number 1 ∷ null ∷ []) ≡ has_fault cycle 0 ins.body
+unfolding native.Mathlib.Decide.ℕ_discrete
+insert_below = refl
+
+insert_no_child : insert (node_number 1 ∷ node_number 2 ∷ node_number 1 ∷ [])
+    ≡ has_fault not_child 0 ins.body
+unfolding native.Mathlib.Decide.ℕ_discrete
+insert_no_child = refl
+
+insert_absent : insert (node_number 1 ∷ node_number 2 ∷ node_number 9 ∷ [])
+    ≡ has_fault no_node 0 ins.body
+unfolding native.Mathlib.Decide.ℕ_discrete
+insert_absent = refl
 
 -- a grandchild is no child
 remove_grandchild : result rem (node_number 1 ∷ node_number 4 ∷ []) high
@@ -276,3 +323,9 @@ again_changes = refl
 cycle_changes : changes file 100 0 (start app (node_number 2 ∷ node_number 1 ∷ []) wide) ≡ []
 unfolding native.Mathlib.Decide.ℕ_discrete
 cycle_changes = refl
+
+insert_changes : changes file 100 0
+    (start ins (node_number 1 ∷ node_number 3 ∷ node_number 2 ∷ []) wide)
+    ≡ moved 1 3 1 1 2 ∷ []
+unfolding native.Mathlib.Decide.ℕ_discrete
+insert_changes = refl

@@ -1,12 +1,12 @@
--- Needn't be believed yet: no promise speaks of it. The changes of a run: which of its steps make,
--- move or remove a node, with the numbers that say which. They follow DOM Level 1 Core in what
--- appendChild and removeChild do.
+-- Needn't be believed: no promise speaks of it. The changes of a run: which of its steps make, move
+-- or remove a node, with the numbers that say which. They follow DOM Level 1 Core in what
+-- appendChild, removeChild and insertBefore do.
 use Rattle.std.specs.Prelude.{ℕ, zero, suc, List, [], ◌∷◌, Option, Some, None}
 use Rattle.model_shapes.specs.Values.{Value, node_number}
 use Rattle.model_shapes.specs.Trees.{Trees}
 use Rattle.model_terms.specs.Terms.{Term}
 use Rattle.model_terms.specs.Stores.{value_of}
-use Rattle.model_commands.specs.Commands.{create_node, append_child, remove_child}
+use Rattle.model_commands.specs.Commands.{create_node, append_child, remove_child, insert_before}
 use Rattle.model_commands.specs.Theories.{Procedures}
 use Rattle.model_groves.specs.Groves.{nodes_where, parental, first_number}
 use Rattle.model_groves.specs.Picks.{Pick, next_pick}
@@ -41,6 +41,8 @@ change_of taken pick config = of_first config.pending
     of_first (run (append_child e f) ∷ rest) = Some (moved taken (number_of f)
         (parent_in config.grove (value_of config.store f)) (number_of e) 0)
     of_first (run (remove_child e f) ∷ rest) = Some (removed taken (number_of f) (number_of e))
+    of_first (run (insert_before e f g) ∷ rest) = Some (moved taken (number_of f)
+        (parent_in config.grove (value_of config.store f)) (number_of e) (number_of g))
     of_first pending = None
 
 -- the change in front of the later ones

@@ -1,6 +1,6 @@
--- What a run needs and keeps: pieces with parts of the right sorts, values that fit, and a
--- well-formed grove. It is the condition of a run's beginning and of a step, and the laws say that
--- each step keeps it.
+-- Needn't be believed: the program's promise doesn't speak of it. What a run needs and keeps:
+-- pieces with parts of the right sorts, values that fit, and a well-formed grove. It is the
+-- condition of a run's beginning and of a step, and the laws say that each step keeps it.
 use Rattle.std.specs.Prelude.{◌≡◌, true, List, [], ◌∷◌}
 use Rattle.model_shapes.specs.Sorts.{shape, grove}
 use Rattle.model_shapes.specs.Trees.{Trees}

@@ -1,19 +1,21 @@
 -- The machine: what one step does with each pending piece, and the runs over lists of picks.
 -- The commands are those of PODS 2008 and DOM Level 1 Core.
 use Rattle.std.specs.Prelude.{ℕ, Bool, true, false, List, [], ◌∷◌, ◌++◌, cond, Option, Some, None}
-use Rattle.model_shapes.specs.Values.{Name, Value, node_number, list_number, str}
+use Rattle.std.proofs.Math.Decide.{ℕ_discrete}
+use Rattle.model_shapes.specs.Values.{Name, Value, null, node_number, list_number, str}
 use Rattle.model_shapes.specs.Trees.{Trees, none, node, hole, beside, node_uses}
 use Rattle.model_terms.specs.Terms.{Term}
 use Rattle.model_terms.specs.Stores.{ProgVar, Store, unset, value_in, set, value_of, default, sort_of, text_in}
 use Rattle.model_terms.specs.Conditions.{truth_of}
-use Rattle.model_commands.specs.Commands.{Command, skip, block, assign, create_node, node_name, child_nodes, parent_node, list_item, append_child, remove_child, if_else, while_do, local, call, Block, stop, ◌then◌}
+use Rattle.model_commands.specs.Commands.{Command, skip, block, assign, create_node, node_name, child_nodes, parent_node, list_item, append_child, remove_child, insert_before, if_else, while_do, local, call, Block, stop, ◌then◌}
 use Rattle.model_commands.specs.Theories.{ProcedureOf, Procedure, Procedures, procedure_named}
-use Rattle.model_groves.specs.Groves.{has_root, parental, nodes_where, node_at, list_at, first_number, item_of, without, adding, positive}
+use Rattle.model_groves.specs.Groves.{is_yes, has_root, parental, nodes_where, node_at, list_at, first_number, item_of, without, adding, adding_before, positive}
 use Rattle.model_groves.specs.Picks.{Pick, is_free}
 
--- why a command faults: no such node, no such list, a node below itself, no child of that node
+-- why a command faults: no such node, no such list, a node below itself, no child of that node, a
+-- node before itself
 pub data FaultKind : Type 0 where
-  no_node no_list cycle not_child : FaultKind
+  no_node no_list cycle not_child self_ref : FaultKind
 
 -- what is pending: a command; a variable to be given its old value; the caller's store to be given
 -- back, with the callee's results in the variables that take them
@@ -47,6 +49,22 @@ appending (node name n kids list rest) (node name' m kids' list' rest') store gr
     cond (positive (node_uses n (node name' m kids' list' none))) (faults cycle)
     (becomes [] store (adding n (node name' m kids' list' none) (without m grove)))
 appending a b store grove = faults no_node
+
+-- moves the second tree, wherever it is, just before the third, a child of the first
+abbrev pub inserting : Trees → Trees → Trees → Store → Trees → Move
+inserting (node name n kids list rest) (node name' m kids' list' rest')
+    (node name'' q kids'' list'' rest'') store grove =
+    cond (is_yes (ℕ_discrete m q)) (faults self_ref)
+    (cond (positive (node_uses n (node name' m kids' list' none))) (faults cycle)
+    (cond (has_root q kids)
+    (becomes [] store (adding_before q (node name' m kids' list' none) (without m grove)))
+    (faults not_child)))
+inserting a b c store grove = faults no_node
+
+-- moves it before the child that the value names, and to the end where the value is null
+abbrev pub inserting_at : Value → Trees → Trees → Store → Trees → Move
+inserting_at null a b store grove = appending a b store grove
+inserting_at v a b store grove = inserting a b (node_at v grove) store grove
 
 -- moves the second tree, a child of the first, to the roots
 abbrev pub removing : Trees → Trees → Store → Trees → Move
@@ -114,6 +132,9 @@ move procedures pick (run (append_child e f)) store grove =
     appending (node_at (value_of store e) grove) (node_at (value_of store f) grove) store grove
 move procedures pick (run (remove_child e f)) store grove =
     removing (node_at (value_of store e) grove) (node_at (value_of store f) grove) store grove
+move procedures pick (run (insert_before e f g)) store grove =
+    inserting_at (value_of store g) (node_at (value_of store e) grove)
+    (node_at (value_of store f) grove) store grove
 
 -- what is pending, the store and the grove
 pub record Config : Type 0 where

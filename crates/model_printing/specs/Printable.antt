@@ -1,4 +1,5 @@
--- Which lexemes can be printed, so that what is printed for each is its own only token.
+-- Needn't be believed: the program's promise doesn't speak of it. Which lexemes can be printed, so
+-- that what is printed for each is its own only token.
 use Rattle.model_limits.specs.Limits.{standard_limits}
 use Rattle.std.specs.Prelude.{◌≡◌, ℕ, ◌≤◌, not, List, [], ◌∷◌, ◌++◌, bytes_eq, codes}
 use Rattle.std.specs.List.{filter}

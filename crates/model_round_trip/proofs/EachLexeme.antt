@@ -9,9 +9,10 @@ use Rattle.model_terms.specs.Terms.{Term, literal, variable, sum, difference, ap
 use Rattle.model_terms.specs.Stores.{ProgVar, named}
 use Rattle.model_terms.specs.Conditions.{Cond, cond_true, cond_false, cond_variable, cond_equal, cond_at_most, cond_not, cond_and, cond_or}
 use Rattle.model_formulas.specs.Formulas.{Named, Side, whole, hole_left, hole_right, truth, falsity, conjunction, disjunction, implication, negation, existential, universal, equality, at_most, empty, bare_hole, node_formula, one_tree, one_root, concatenation, grove_sum, grove_sum_hole, application, hole_adjoint, context_adjoint, same_as, length_is, value_meets}
-use Rattle.model_commands.specs.Commands.{Command, skip, block, assign, create_node, node_name, child_nodes, parent_node, list_item, append_child, remove_child, if_else, while_do, local, call, Block, stop, ◌then◌}
+use Rattle.model_commands.specs.Commands.{Command, skip, block, assign, create_node, node_name, child_nodes, parent_node, list_item, append_child, remove_child, insert_before, if_else, while_do, local, call, Block, stop, ◌then◌}
 use Rattle.model_commands.specs.Theories.{JudgementOf, entails, triple, ProcedureOf}
 use Rattle.model_text.specs.Lexemes.{Lexeme, terminal, name_lexeme, logic_lexeme, number_lexeme, literal_lexeme}
+use Rattle.model_text.specs.Versions.{insert_word}
 use Rattle.model_text.proofs.OfTokens.{terminals}
 use Rattle.model_text.proofs.Computing.{lexing}
 use Rattle.model_grammar.specs.Words.{the, ◌⌢◌}
@@ -358,60 +359,63 @@ module _ (Can : Lexeme → Type 0) (holds : HoldsOfWritten Can) where
   two_hold a b h k = terms_hold in_command (a ∷ b ∷ []) (h, (k, tt))
 
   mutual
-    pub command_holds : (d : Command) → IsWritableCommand d → Each Can (command_lexemes d)
-    command_holds skip h = one (codes "skip") refl
-    command_holds (block b) h = block_holds b h
-    command_holds (assign x a) h = set_holds x h.0 _ (term_holds in_command a h.1)
-    command_holds (create_node x a) h = query_holds (codes "createNode") refl x a h.0 h.1
-    command_holds (node_name x a) h = query_holds (codes "nodeName") refl x a h.0 h.1
-    command_holds (child_nodes x a) h = query_holds (codes "childNodes") refl x a h.0 h.1
-    command_holds (parent_node x a) h = query_holds (codes "parentNode") refl x a h.0 h.1
-    command_holds (list_item x a b) h =
+    pub command_holds : Can (terminal insert_word) → (d : Command) → IsWritableCommand d
+        → Each Can (command_lexemes d)
+    command_holds inserts skip h = one (codes "skip") refl
+    command_holds inserts (block b) h = block_holds inserts b h
+    command_holds inserts (assign x a) h = set_holds x h.0 _ (term_holds in_command a h.1)
+    command_holds inserts (create_node x a) h = query_holds (codes "createNode") refl x a h.0 h.1
+    command_holds inserts (node_name x a) h = query_holds (codes "nodeName") refl x a h.0 h.1
+    command_holds inserts (child_nodes x a) h = query_holds (codes "childNodes") refl x a h.0 h.1
+    command_holds inserts (parent_node x a) h = query_holds (codes "parentNode") refl x a h.0 h.1
+    command_holds inserts (list_item x a b) h =
         set_holds x h.0 _ (word (codes "item") refl, two_hold a b h.1 h.2)
-    command_holds (append_child a b) h =
+    command_holds inserts (append_child a b) h =
         (word (codes "appendChild") refl, two_hold a b h.0 h.1)
-    command_holds (remove_child a b) h =
+    command_holds inserts (remove_child a b) h =
         (word (codes "removeChild") refl, two_hold a b h.0 h.1)
-    command_holds (if_else d a b) h = (
+    command_holds inserts (insert_before a b d) h =
+        (inserts, terms_hold in_command (a ∷ b ∷ d ∷ []) (h.0, (h.1, (h.2, tt))))
+    command_holds inserts (if_else d a b) h = (
       word (codes "if") refl,
       beside (cond_lexemes d) _ (condition_holds d h.0)
-          (beside (block_lexemes a) _ (block_holds a h.1)
-          (word (codes "else") refl, block_holds b h.2)),
+          (beside (block_lexemes a) _ (block_holds inserts a h.1)
+          (word (codes "else") refl, block_holds inserts b h.2)),
     )
-    command_holds (while_do d b) h = (
+    command_holds inserts (while_do d b) h = (
       word (codes "while") refl,
-      beside (cond_lexemes d) _ (condition_holds d h.0) (block_holds b h.1),
+      beside (cond_lexemes d) _ (condition_holds d h.0) (block_holds inserts b h.1),
     )
-    command_holds (local (named name s) b) h = (
+    command_holds inserts (local (named name s) b) h = (
       word (codes "local") refl,
       (
         holds.of_name name h.0,
         (
           word (codes ":") refl,
-          beside (value_sort_lexemes s) _ (value_sort_holds s) (block_holds b h.1),
+          beside (value_sort_lexemes s) _ (value_sort_holds s) (block_holds inserts b h.1),
         ),
       ),
     )
-    command_holds (call xs name es) h = (
+    command_holds inserts (call xs name es) h = (
       word (codes "call") refl,
       beside (in_brackets (map name_lexemes xs)) _
           (brackets_hold IsWritableName name_lexemes name_holds xs h.0)
           (word (codes ":=") refl, (holds.of_name name h.1, terms_hold in_command es h.2)),
     )
 
-    block_holds : (b : Block) → IsWritableBlock b → Each Can (block_lexemes b)
-    block_holds stop h = absurd h
-    block_holds (d then b) h = (
+    block_holds : Can (terminal insert_word) → (b : Block) → IsWritableBlock b → Each Can (block_lexemes b)
+    block_holds inserts stop h = absurd h
+    block_holds inserts (d then b) h = (
       word (codes "{") refl,
-      beside (command_lexemes d) _ (command_holds d h.0)
-          (beside (further_commands b) _ (commands_hold b h.1) (one (codes "}") refl)),
+      beside (command_lexemes d) _ (command_holds inserts d h.0)
+          (beside (further_commands b) _ (commands_hold inserts b h.1) (one (codes "}") refl)),
     )
 
-    commands_hold : (b : Block) → AreWritable b → Each Can (further_commands b)
-    commands_hold stop h = tt
-    commands_hold (d then b) h = (
+    commands_hold : Can (terminal insert_word) → (b : Block) → AreWritable b → Each Can (further_commands b)
+    commands_hold inserts stop h = tt
+    commands_hold inserts (d then b) h = (
       word (codes ";") refl,
-      beside (command_lexemes d) _ (command_holds d h.0) (commands_hold b h.1),
+      beside (command_lexemes d) _ (command_holds inserts d h.0) (commands_hold inserts b h.1),
     )
 
   -- ---- parts of theories
@@ -428,18 +432,18 @@ module _ (Can : Lexeme → Type 0) (holds : HoldsOfWritten Can) where
   arguments_hold [] h = tt
   arguments_hold (a ∷ es) h = (word (codes "with") refl, terms_hold in_formula (a ∷ es) h)
 
-  pub judgement_holds : (w : JudgementOf Named) → IsWritableJudgement w
+  pub judgement_holds : Can (terminal insert_word) → (w : JudgementOf Named) → IsWritableJudgement w
       → Each Can (judgement_lexemes w)
-  judgement_holds (entails p q s) h =
+  judgement_holds inserts (entails p q s) h =
       beside (formula_lexemes p) _ (formula_holds p h.0) (
         word (codes "entails") refl,
         beside (formula_lexemes q) _ (formula_holds q h.1) (word (codes "at") refl, sort_holds s),
       )
-  judgement_holds (triple p d q k) h = (
+  judgement_holds inserts (triple p d q k) h = (
     word (codes "pre") refl,
     beside (formula_lexemes p) _ (formula_holds p h.0) (
       word (codes "do") refl,
-      beside (command_lexemes d) _ (command_holds d h.1) (
+      beside (command_lexemes d) _ (command_holds inserts d h.1) (
         word (codes "post") refl,
         beside (formula_lexemes q) _ (formula_holds q h.2)
             (word (codes "at") refl, data_sort_holds k),
@@ -469,16 +473,16 @@ module _ (Can : Lexeme → Type 0) (holds : HoldsOfWritten Can) where
     ),
   )
 
-  pub header_holds : (f : ProcedureOf Named) → IsWritableProcedure f
+  pub header_holds : Can (terminal insert_word) → (f : ProcedureOf Named) → IsWritableProcedure f
       → Each (Each Can) (header_lines f)
-  header_holds f h = (
+  header_holds inserts f h = (
     first_holds f h,
     (
       (word (codes "requires") refl, formula_holds f.pre h.pre),
       (
         (word (codes "ensures") refl, formula_holds f.post h.post),
         (
-          (word (codes "body") refl, command_holds f.body h.body),
+          (word (codes "body") refl, command_holds inserts f.body h.body),
           (one (codes "proof") refl, tt),
         ),
       ),

@@ -4,6 +4,7 @@ pub mod StillWritable
 pub mod Written
 pub mod OneSpelling
 pub mod Tokens
+pub mod Versions
 pub mod Readable
 pub mod Parts
 pub mod EachLexeme

@@ -1,5 +1,5 @@
 -- No lexeme of a spelled theory is a bad one, and none of a spelled grove.
-use Rattle.std.proofs.Common.{◌≡◌, ℕ, Bool, true, false, List, Some, refl, ap}
+use Rattle.std.proofs.Common.{◌≡◌, ℕ, Bool, true, false, cond, ◌==◌, ◌||◌, List, [], ◌∷◌, Some, refl, sym, ap, ◌∙◌, map, bytes_eq}
 use Rattle.std.specs.List.{list_any, slice_get}
 use Rattle.std.proofs.lemmas.List.Folds.{list_any-append, list_any_at}
 use Rattle.std.proofs.lemmas.Option.{slice_get_within, get_or_from_slice_get}
@@ -12,7 +12,8 @@ use Rattle.model_terms.specs.Conditions.{Cond}
 use Rattle.model_formulas.specs.Formulas.{Named}
 use Rattle.model_commands.specs.Commands.{Command, Block}
 use Rattle.model_commands.specs.Theories.{JudgementOf, Reason, StepOf, ProcedureOf, Theory}
-use Rattle.model_text.specs.Lexemes.{Lexeme, bad_lexeme}
+use Rattle.model_text.specs.Lexemes.{Lexeme, terminal, step_word, name_lexeme, logic_lexeme, number_lexeme, literal_lexeme, bad_lexeme}
+use Rattle.model_text.specs.Versions.{insert_word, reserving, seen_in, in_its_version}
 use Rattle.model_documents.specs.Grammar as documents
 use Rattle.model_documents.specs.Grammar.{SpellsTree, SpellsForest, SpellsTrees, SpellsRoots, SpellsGrove}
 use Rattle.model_grammar.specs.Terms as t
@@ -188,6 +189,8 @@ mutual
         brackets_good (SpellsTerm in_command) (λ x s k. term_good k) n,
       )
   command_good (c.change lw l m) = simp (list_any-append, change_good lw, term_good l, term_good m)
+  command_good (c.insertion l m n) =
+      simp (list_any-append, term_good l, term_good m, term_good n)
   command_good (c.setting l m) = simp (list_any-append, variable_good l, setting_good m)
 
   block_good : {b : Block} {s : List Lexeme} → SpellsBlock b s → AreGood s
@@ -273,8 +276,45 @@ raw_good : {theory : Theory} {s : List Lexeme} → SpellsRaw theory s → AreGoo
 raw_good (files.theory l m n) =
     simp (list_any-append, number_good l, logic_lines_good m, procedures_good n)
 
+-- a lexeme is bad where it is so in its version
+bad_kept : (lexeme : Lexeme) → is_bad (reserving lexeme) ≡ is_bad lexeme
+bad_kept (name_lexeme word) = by_test (bytes_eq word insert_word)
+  where
+    by_test : (b : Bool) → is_bad (cond b (terminal word) (name_lexeme word)) ≡ false
+    by_test true = refl
+    by_test false = refl
+bad_kept (terminal text) = refl
+bad_kept (step_word line) = refl
+bad_kept (logic_lexeme name) = refl
+bad_kept (number_lexeme n) = refl
+bad_kept (literal_lexeme text) = refl
+bad_kept bad_lexeme = refl
+
+good_seen : (version : ℕ) (lexemes : List Lexeme) → AreGood (seen_in version lexemes)
+    → AreGood lexemes
+good_seen version lexemes = by_test (version == 2)
+  where
+    all_kept : (xs : List Lexeme) → list_any is_bad (map reserving xs) ≡ list_any is_bad xs
+    all_kept [] = refl
+    all_kept (x ∷ xs) = λ j. bad_kept x j || all_kept xs j
+
+    by_test : (b : Bool) → AreGood (cond b (map reserving lexemes) lexemes) → AreGood lexemes
+    by_test true h = sym (all_kept lexemes) ∙ h
+    by_test false h = h
+
+good_in_version : (lexemes : List Lexeme) → AreGood (in_its_version lexemes) → AreGood lexemes
+good_in_version [] h = h
+good_in_version (x ∷ []) h = h
+good_in_version (x ∷ number_lexeme n ∷ rest) h = good_seen n (x ∷ number_lexeme n ∷ rest) h
+good_in_version (x ∷ terminal text ∷ rest) h = h
+good_in_version (x ∷ step_word line ∷ rest) h = h
+good_in_version (x ∷ name_lexeme name ∷ rest) h = h
+good_in_version (x ∷ logic_lexeme name ∷ rest) h = h
+good_in_version (x ∷ literal_lexeme text ∷ rest) h = h
+good_in_version (x ∷ bad_lexeme ∷ rest) h = h
+
 pub theory_good : {theory : Theory} {s : List Lexeme} → SpellsTheory theory s → AreGood s
-theory_good spells = raw_good spells.spelled
+theory_good {s = s} spells = good_in_version s (raw_good spells.spelled)
 
 -- ---- groves
 

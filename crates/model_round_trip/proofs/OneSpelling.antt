@@ -176,6 +176,10 @@ value_sort_written t.bool_word = refl
 two_parts : (a b : List Lexeme) → (a ⌢ the "," ⌢ b ⌢ []) ⌢ the ")" ≡ a ⌢ the "," ⌢ b ⌢ the ")"
 two_parts a b = simp (append_assoc, append-nil) refl
 
+three_parts : (a b d : List Lexeme) → (a ⌢ the "," ⌢ b ⌢ the "," ⌢ d ⌢ []) ⌢ the ")"
+    ≡ a ⌢ the "," ⌢ b ⌢ the "," ⌢ d ⌢ the ")"
+three_parts a b d = simp (append_assoc, append-nil) refl
+
 query_written : {query : ProgVar → Term → Command} {word : List Lexeme}
     → c.SpellsQuery query word → (x : ProgVar) (a : Term) → command_lexemes (query x a)
     ≡ name_lexemes x ⌢ the ":=" ⌢ word ⌢ the "(" ⌢ term_lexemes a ⌢ the ")"
@@ -227,6 +231,11 @@ mutual
   command_written (c.change {a = a} {b = b} {word = word} lw l m) =
       change_written lw a b
       ∙ (λ j. word ⌢ the "(" ⌢ term_written l j ⌢ the "," ⌢ term_written m j ⌢ the ")")
+  command_written (c.insertion {a = a} {b = b} {c = d} l m n) =
+      (λ j. the "insertBefore" ⌢ the "("
+      ⌢ three_parts (term_lexemes a) (term_lexemes b) (term_lexemes d) j)
+      ∙ (λ j. the "insertBefore" ⌢ the "(" ⌢ term_written l j ⌢ the "," ⌢ term_written m j
+      ⌢ the "," ⌢ term_written n j ⌢ the ")")
   command_written (c.setting {right = right} l m) =
       setting_written m ∙ (λ j. variable_written l j ⌢ the ":=" ⌢ right)
 

@@ -1,5 +1,5 @@
 -- Parts of lists and of what is written of a theory.
-use Rattle.std.proofs.Common.{List, [], ◌∷◌, ◌++◌, ◌≡◌, refl, sym, ap, ◌∙◌, map, append_assoc}
+use Rattle.std.proofs.Common.{ℕ, List, [], ◌∷◌, ◌++◌, ◌≡◌, refl, sym, ap, ◌∙◌, map, append_assoc}
 use Rattle.model_formulas.specs.Formulas.{Named}
 use Rattle.model_commands.specs.Theories.{ProcedureOf}
 use Rattle.model_text.specs.Lexemes.{Lexeme, name_lexeme}
@@ -11,6 +11,13 @@ pub each_append : {A : Type 0} (Can : A → Type 0) (xs ys : List A) → Each Ca
     → Each Can (xs ++ ys)
 each_append Can [] ys h k = k
 each_append Can (x ∷ xs) ys h k = (h.0, each_append Can xs ys h.1 k)
+
+-- and of two lists together
+pub each_split : {A : Type 0} (Can : A → Type 0) (xs ys : List A) → Each Can (xs ++ ys)
+    → Each Can xs × Each Can ys
+each_split Can [] ys h = (tt, h)
+each_split Can (x ∷ xs) ys h =
+    let more = each_split Can xs ys h.1 in ((h.0, more.0), more.1)
 
 -- the lexemes of the lines of two lists
 pub all_append : (lines others : List (List Lexeme))
@@ -30,8 +37,9 @@ header_lines f =
     ∷ (the "body" ⌢ command_lexemes f.body) ∷ the "proof" ∷ []
 
 -- the lexemes of a procedure: of these lines, of its steps, and the last word
-pub in_a_row : (f : ProcedureOf Named) → all_lexemes (procedure_lines f)
-    ≡ all_lexemes (header_lines f) ⌢ all_lexemes (map step_line f.proof) ⌢ the "end"
-in_a_row f =
-    all_append (header_lines f) (map step_line f.proof ++ the "end" ∷ [])
-    ∙ (λ j. all_lexemes (header_lines f) ⌢ all_append (map step_line f.proof) (the "end" ∷ []) j)
+pub in_a_row : (v : ℕ) (f : ProcedureOf Named) → all_lexemes (procedure_lines v f)
+    ≡ all_lexemes (header_lines f) ⌢ all_lexemes (map (step_line v) f.proof) ⌢ the "end"
+in_a_row v f =
+    all_append (header_lines f) (map (step_line v) f.proof ++ the "end" ∷ [])
+    ∙ (λ j. all_lexemes (header_lines f)
+    ⌢ all_append (map (step_line v) f.proof) (the "end" ∷ []) j)

@@ -8,7 +8,7 @@ use Rattle.model_terms.specs.Terms.{Term, literal, variable, sum, difference, ap
 use Rattle.model_terms.specs.Stores.{ProgVar, named}
 use Rattle.model_terms.specs.Conditions.{Cond, cond_true, cond_false, cond_variable, cond_equal, cond_at_most, cond_not, cond_and, cond_or}
 use Rattle.model_formulas.specs.Formulas.{Named, truth, falsity, conjunction, disjunction, implication, negation, existential, universal, equality, at_most, empty, bare_hole, node_formula, one_tree, one_root, concatenation, grove_sum, grove_sum_hole, application, hole_adjoint, context_adjoint, same_as, length_is, value_meets}
-use Rattle.model_commands.specs.Commands.{Command, skip, block, assign, create_node, node_name, child_nodes, parent_node, list_item, append_child, remove_child, if_else, while_do, local, call, Block, stop, ◌then◌}
+use Rattle.model_commands.specs.Commands.{Command, skip, block, assign, create_node, node_name, child_nodes, parent_node, list_item, append_child, remove_child, insert_before, if_else, while_do, local, call, Block, stop, ◌then◌}
 use Rattle.model_commands.specs.CommandParts.{commands_of, locals, locals_of}
 use Rattle.model_commands.specs.Theories.{JudgementOf, entails, triple, Reason, auto, by_rule, StepOf, ProcedureOf, Theory}
 use Rattle.model_grammar.specs.Sorts.{Declared, sorted_name, sorted_var, sorted_term, sort_of_variable, sorted_formula, sorted_cond, sorted_command, sorted_block, sorted_reason, sorted_judgement, sorted_step, declared_in, sorted_procedure, with_sorts}
@@ -114,6 +114,8 @@ module _ (d e : Declared) where
         λ j. append_child (term_resorted a j) (term_resorted b j)
     command_resorted (remove_child a b) =
         λ j. remove_child (term_resorted a j) (term_resorted b j)
+    command_resorted (insert_before a b c) =
+        λ j. insert_before (term_resorted a j) (term_resorted b j) (term_resorted c j)
     command_resorted (if_else c a b) =
         λ j. if_else (cond_resorted c j) (block_resorted a j) (block_resorted b j)
     command_resorted (while_do c b) = λ j. while_do (cond_resorted c j) (block_resorted b j)
@@ -162,6 +164,7 @@ module _ (d : Declared) where
     locals_kept (list_item x a b) = refl
     locals_kept (append_child a b) = refl
     locals_kept (remove_child a b) = refl
+    locals_kept (insert_before a b c) = refl
     locals_kept (if_else c a b) =
         simp flat_map-append (λ j. locals_in_kept a j ++ locals_in_kept b j)
     locals_kept (while_do c b) = locals_in_kept b

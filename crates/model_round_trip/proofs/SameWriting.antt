@@ -1,11 +1,11 @@
 -- The sorts of variables change nothing of what is written.
-use Rattle.std.proofs.Common.{List, [], ◌∷◌, ◌++◌, ◌≡◌, refl, map}
+use Rattle.std.proofs.Common.{ℕ, List, [], ◌∷◌, ◌++◌, ◌≡◌, refl, map}
 use Rattle.model_terms.specs.Variables.{Var, prog, logic, bound}
 use Rattle.model_terms.specs.Terms.{Term, literal, variable, sum, difference, appended}
 use Rattle.model_terms.specs.Stores.{ProgVar, named}
 use Rattle.model_terms.specs.Conditions.{Cond, cond_true, cond_false, cond_variable, cond_equal, cond_at_most, cond_not, cond_and, cond_or}
 use Rattle.model_formulas.specs.Formulas.{Named, truth, falsity, conjunction, disjunction, implication, negation, existential, universal, equality, at_most, empty, bare_hole, node_formula, one_tree, one_root, concatenation, grove_sum, grove_sum_hole, application, hole_adjoint, context_adjoint, same_as, length_is, value_meets}
-use Rattle.model_commands.specs.Commands.{Command, skip, block, assign, create_node, node_name, child_nodes, parent_node, list_item, append_child, remove_child, if_else, while_do, local, call, Block, stop, ◌then◌}
+use Rattle.model_commands.specs.Commands.{Command, skip, block, assign, create_node, node_name, child_nodes, parent_node, list_item, append_child, remove_child, insert_before, if_else, while_do, local, call, Block, stop, ◌then◌}
 use Rattle.model_commands.specs.Theories.{JudgementOf, entails, triple, Reason, auto, by_rule, StepOf, ProcedureOf, Theory}
 use Rattle.model_text.specs.Lexemes.{Lexeme, name_lexeme, step_word}
 use Rattle.model_grammar.specs.Words.{the, ◌⌢◌}
@@ -105,6 +105,8 @@ module _ (d : Declared) where
         λ j. the "appendChild" ⌢ in_brackets (term_kept a j ∷ term_kept b j ∷ [])
     command_kept (remove_child a b) =
         λ j. the "removeChild" ⌢ in_brackets (term_kept a j ∷ term_kept b j ∷ [])
+    command_kept (insert_before a b c) =
+        λ j. the "insertBefore" ⌢ in_brackets (term_kept a j ∷ term_kept b j ∷ term_kept c j ∷ [])
     command_kept (if_else c a b) =
         λ j. the "if" ⌢ cond_kept c j ⌢ block_kept a j ⌢ the "else" ⌢ block_kept b j
     command_kept (while_do c b) = λ j. the "while" ⌢ cond_kept c j ⌢ block_kept b j
@@ -128,10 +130,11 @@ module _ (d : Declared) where
   arguments_kept [] = refl
   arguments_kept (a ∷ es) = λ j. the "with" ⌢ in_brackets (term_kept a j ∷ terms_kept es j)
 
-  reason_kept : (r : Reason) → reason_lexemes (sorted_reason d r) ≡ reason_lexemes r
-  reason_kept auto = refl
-  reason_kept (by_rule name premises arguments) =
-      λ j. the "by" ⌢ word_lexemes name ⌢ in_brackets (map number_lexemes premises)
+  reason_kept : (v : ℕ) (r : Reason)
+      → reason_lexemes v (sorted_reason d r) ≡ reason_lexemes v r
+  reason_kept v auto = refl
+  reason_kept v (by_rule name premises arguments) =
+      λ j. the "by" ⌢ word_lexemes v name ⌢ in_brackets (map number_lexemes premises)
       ⌢ arguments_kept arguments j
 
   judgement_kept : (w : JudgementOf Named)
@@ -142,28 +145,28 @@ module _ (d : Declared) where
       λ j. the "pre" ⌢ formula_kept p j ⌢ the "do" ⌢ command_kept c j ⌢ the "post"
       ⌢ formula_kept q j ⌢ the "at" ⌢ data_sort_lexemes k
 
-  step_kept : (step : StepOf Named) → step_line (sorted_step d step) ≡ step_line step
-  step_kept step =
-      λ j. step_word step.line ∷ [] ⌢ number_lexemes step.number ⌢ reason_kept step.reason j
+  step_kept : (v : ℕ) (step : StepOf Named) → step_line v (sorted_step d step) ≡ step_line v step
+  step_kept v step =
+      λ j. step_word step.line ∷ [] ⌢ number_lexemes step.number ⌢ reason_kept v step.reason j
       ⌢ the ":" ⌢ judgement_kept step.judgement j ⌢ the ";"
 
-  pub procedure_kept : (f : ProcedureOf Named)
-      → procedure_lines (procedure_with d f) ≡ procedure_lines f
-  procedure_kept f =
+  pub procedure_kept : (v : ℕ) (f : ProcedureOf Named)
+      → procedure_lines v (procedure_with d f) ≡ procedure_lines v f
+  procedure_kept v f =
       λ j. (the "proc" ⌢ name_lexeme f.name ∷ [] ⌢ in_brackets (map declaration_lexemes f.params)
       ⌢ the "returns" ⌢ in_brackets (map declaration_lexemes f.results) ⌢ the "sort"
       ⌢ data_sort_lexemes f.sort)
       ∷ (the "requires" ⌢ formula_kept f.pre j) ∷ (the "ensures" ⌢ formula_kept f.post j)
       ∷ (the "body" ⌢ command_kept f.body j) ∷ the "proof"
-      ∷ (map_twice step_line (sorted_step d) step_line step_kept f.proof j ++ the "end" ∷ [])
+      ∷ (map_twice (step_line v) (sorted_step d) (step_line v) (step_kept v) f.proof j ++ the "end" ∷ [])
 
-procedures_kept : (logics : List Var) (fs : List (ProcedureOf Named))
-    → procedures_lines (map (sorted_procedure logics) fs) ≡ procedures_lines fs
-procedures_kept logics [] = refl
-procedures_kept logics (f ∷ fs) =
-    λ j. procedure_kept (declared_in logics f) f j ++ procedures_kept logics fs j
+procedures_kept : (v : ℕ) (logics : List Var) (fs : List (ProcedureOf Named))
+    → procedures_lines v (map (sorted_procedure logics) fs) ≡ procedures_lines v fs
+procedures_kept v logics [] = refl
+procedures_kept v logics (f ∷ fs) =
+    λ j. procedure_kept (declared_in logics f) v f j ++ procedures_kept v logics fs j
 
 pub theory_kept : (theory : Theory) → theory_lines (with_sorts theory) ≡ theory_lines theory
 theory_kept theory =
     λ j. (the "domlogic" ⌢ number_lexemes theory.version)
-    ∷ (map logic_line theory.logic ++ procedures_kept theory.logic theory.procedures j)
+    ∷ (map logic_line theory.logic ++ procedures_kept theory.version theory.logic theory.procedures j)

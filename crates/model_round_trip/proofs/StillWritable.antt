@@ -1,17 +1,19 @@
 -- The sorts of variables change nothing of what can be written.
-use Rattle.std.proofs.Common.{List, [], ◌∷◌, map}
+use Rattle.std.proofs.Common.{List, [], ◌∷◌, sym, subst, map}
 use Rattle.model_terms.specs.Variables.{Var, prog, logic, bound}
 use Rattle.model_terms.specs.Terms.{Term, literal, variable, sum, difference, appended}
 use Rattle.model_terms.specs.Stores.{ProgVar, named}
 use Rattle.model_terms.specs.Conditions.{Cond, cond_true, cond_false, cond_variable, cond_equal, cond_at_most, cond_not, cond_and, cond_or}
 use Rattle.model_formulas.specs.Formulas.{Named, truth, falsity, conjunction, disjunction, implication, negation, existential, universal, equality, at_most, empty, bare_hole, node_formula, one_tree, one_root, concatenation, grove_sum, grove_sum_hole, application, hole_adjoint, context_adjoint, same_as, length_is, value_meets}
-use Rattle.model_commands.specs.Commands.{Command, skip, block, assign, create_node, node_name, child_nodes, parent_node, list_item, append_child, remove_child, if_else, while_do, local, call, Block, stop, ◌then◌}
+use Rattle.model_commands.specs.Commands.{Command, skip, block, assign, create_node, node_name, child_nodes, parent_node, list_item, append_child, remove_child, insert_before, if_else, while_do, local, call, Block, stop, ◌then◌}
 use Rattle.model_commands.specs.Theories.{JudgementOf, entails, triple, Reason, auto, by_rule, StepOf, ProcedureOf, Theory}
 use Rattle.model_grammar.specs.Terms.{Place, in_formula, in_command}
 use Rattle.model_grammar.specs.Sorts.{Declared, sorted_name, sorted_var, sorted_term, sorted_formula, sorted_cond, sorted_command, sorted_block, sorted_reason, sorted_judgement, sorted_step, declared_in, sorted_procedure, with_sorts}
 use Rattle.model_grammar.specs.Writing.{Each, IsWritableName, IsLogic, IsLogicTerm, IsWritableTerm, IsWritable, IsWritableCondition, IsWritableCommand, IsWritableBlock, AreWritable}
 use Rattle.model_round_trip.specs.Writable.{IsWritableReason, IsWritableJudgement, IsWritableStep, IsWritableProcedure, HasOne, IsWritableTheory}
+use Rattle.model_text.specs.Versions.{IsOfVersion}
 use Rattle.model_round_trip.proofs.Resorted.{procedure_with}
+use Rattle.model_round_trip.proofs.SameWriting.{theory_kept}
 
 each_kept : {A : Type 0} (Can : A → Type 0) (f : A → A) → ((x : A) → Can x → Can (f x))
     → (xs : List A) → Each Can xs → Each Can (map f xs)
@@ -104,6 +106,8 @@ module _ (d : Declared) where
         (term_sorted in_command a h.0, term_sorted in_command b h.1)
     command_sorted (remove_child a b) h =
         (term_sorted in_command a h.0, term_sorted in_command b h.1)
+    command_sorted (insert_before a b c) h =
+        (term_sorted in_command a h.0, term_sorted in_command b h.1, term_sorted in_command c h.2)
     command_sorted (if_else c a b) h =
         (condition_sorted c h.0, block_sorted a h.1, block_sorted b h.2)
     command_sorted (while_do c b) h = (condition_sorted c h.0, block_sorted b h.1)
@@ -160,6 +164,7 @@ theory_sorted theory h = record {
   some = one_sorted theory.procedures h.some;
   procedures = each_kept IsWritableProcedure (sorted_procedure theory.logic)
       (λ f. procedure_sorted (declared_in theory.logic f) f) theory.procedures h.procedures;
+  words = subst (Each (Each (IsOfVersion theory.version))) (sym (theory_kept theory)) h.words;
 } where
   one_sorted : (fs : List (ProcedureOf Named)) → HasOne fs
       → HasOne (map (sorted_procedure theory.logic) fs)

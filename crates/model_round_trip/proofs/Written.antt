@@ -1,5 +1,5 @@
 -- The lexemes of a theory that can be written spell it, but for the sorts of its variables.
-use Rattle.std.proofs.Common.{ℕ, List, [], ◌∷◌, ◌≡◌, Bool, true, false, refl, sym, ap, ◌∙◌, subst, map, append_assoc, append-nil, map-id, codes, bytes_eq}
+use Rattle.std.proofs.Common.{ℕ, List, [], ◌∷◌, ◌≡◌, Bool, true, false, cond, ◌==◌, refl, sym, ap, ◌∙◌, subst, map, append_assoc, append-nil, map-id, codes, bytes_eq}
 use Rattle.std.specs.Prelude.{if◌then◌else◌}
 use Rattle.std.proofs.lemmas.Slice.Eq.{bytes_eq-Decides}
 use Rattle.model_shapes.specs.Sorts.{ValueSort, node_sort, list_sort, int_sort, str_sort, bool_sort, DataSort, tree, forest, grove, Sort, value, shape, context, is_sort}
@@ -8,7 +8,7 @@ use Rattle.model_terms.specs.Terms.{Term}
 use Rattle.model_terms.specs.Stores.{ProgVar, named}
 use Rattle.model_formulas.specs.Formulas.{Named}
 use Rattle.model_commands.specs.Theories.{JudgementOf, entails, triple, Reason, auto, by_rule, StepOf, ProcedureOf, Theory}
-use Rattle.model_text.specs.Lexemes.{Lexeme, terminal, step_word, name_lexeme, is_reserved}
+use Rattle.model_text.specs.Lexemes.{Lexeme, terminal, step_word, name_lexeme, is_reserved, word_lexeme}
 use Rattle.model_grammar.specs.Words.{the, ◌⌢◌}
 use Rattle.model_grammar.specs.Terms as t
 use Rattle.model_grammar.specs.Terms.{Place, in_formula, in_command, SpellsName, a_name, SpellsLogicName, a_logic_name, SpellsValueSort, SpellsDataSort, SpellsShapeSort, SpellsSort, SpellsTerm}
@@ -19,7 +19,9 @@ use Rattle.model_grammar.specs.Sorts.{sorted_formula, sorted_command, sorted_ter
 use Rattle.model_grammar.specs.Writing.{undeclared, formula_lexemes, command_lexemes, term_lexemes, value_sort_lexemes, behind_commas, in_brackets, data_sort_lexemes, sort_lexemes, declaration_lexemes, number_lexemes, word_lexemes, argument_lexemes, reason_lexemes, judgement_lexemes, logic_line, step_line, procedure_lines, procedures_lines, theory_lines, all_lexemes, Each, IsWritableName, IsWritableTerm}
 use Rattle.model_grammar.proofs.Spelled.{term_spelled, formula_spelled, command_spelled}
 use Rattle.model_round_trip.specs.Writable.{IsNumeral, IsDeclarable, IsShapeSort, IsWritableReason, IsWritableJudgement, IsWritableStep, IsWritableProcedure, HasOne, IsWritableTheory}
-use Rattle.model_round_trip.proofs.Parts.{all_append, header_lines, in_a_row}
+use Rattle.model_text.specs.Versions.{insert_word, reserving, IsOfVersion}
+use Rattle.model_round_trip.proofs.Versions.{one_by_one, kept_in}
+use Rattle.model_round_trip.proofs.Parts.{each_append, all_append, header_lines, in_a_row}
 use Rattle.model_round_trip.proofs.Resorted.{procedure_with, theory_with, theory_resorted}
 
 -- ---- words
@@ -54,19 +56,46 @@ sort_spelled (value s) h = t.value_sort_word (value_sort_spelled s)
 sort_spelled (shape k) h = t.shape_sort_word (shape_sort_spelled (shape k) h)
 sort_spelled (context j k) h = t.shape_sort_word (shape_sort_spelled (context j k) h)
 
+-- a name that is a word, where that may be reserved
+reserved_spelled : (word : List ℕ)
+    → SpellsAnyWord word (reserving (name_lexeme word) ∷ [])
+reserved_spelled word = by_test (bytes_eq word insert_word) refl
+  where
+    by_test : (is : Bool) → bytes_eq word insert_word ≡ is
+        → SpellsAnyWord word (cond is (terminal word) (name_lexeme word) ∷ [])
+    by_test true e =
+        subst (λ (z : List ℕ). SpellsAnyWord z (terminal z ∷ []))
+        (sym ((bytes_eq-Decides word insert_word).0 e)) files.insert_itself
+    by_test false e = files.plain_word word
+
+-- a word that is seen is spelled where it was
+seen_spelled : (second : Bool) (word : List ℕ) (lexeme : Lexeme)
+    → SpellsAnyWord word (lexeme ∷ [])
+    → SpellsAnyWord word (cond second (reserving lexeme) lexeme ∷ [])
+seen_spelled false word lexeme l = l
+seen_spelled true word lexeme (files.plain_word name) = reserved_spelled name
+seen_spelled true word lexeme (files.reserved_word name h) = files.reserved_word name h
+seen_spelled true word lexeme (files.step_itself line) = files.step_itself line
+seen_spelled true word lexeme files.insert_itself = files.insert_itself
+
 -- any word
-pub word_spelled : (word : List ℕ) → SpellsAnyWord word (word_lexemes word)
-word_spelled word =
-    by_tests (bytes_eq word (codes "step")) (is_reserved word) refl refl where
-      by_tests : (step reserved : Bool) → bytes_eq word (codes "step") ≡ step
-          → is_reserved word ≡ reserved
-          → SpellsAnyWord word ((if step then step_word 0
-          else (if reserved then terminal word else name_lexeme word)) ∷ [])
-      by_tests true reserved e h =
-          subst (λ (z : List ℕ). SpellsAnyWord z (step_word 0 ∷ []))
-          (sym ((bytes_eq-Decides word (codes "step")).0 e)) (files.step_itself 0)
-      by_tests false true e h = files.reserved_word word h
-      by_tests false false e h = files.plain_word word
+pub word_spelled : (v : ℕ) (word : List ℕ) → SpellsAnyWord word (word_lexemes v word)
+word_spelled v word =
+    subst (SpellsAnyWord word) (sym (one_by_one v (word_lexeme word 0 ∷ [])))
+    (seen_spelled (v == 2) word (word_lexeme word 0) plainly)
+  where
+    by_tests : (step reserved : Bool) → bytes_eq word (codes "step") ≡ step
+        → is_reserved word ≡ reserved
+        → SpellsAnyWord word ((if step then step_word 0
+        else (if reserved then terminal word else name_lexeme word)) ∷ [])
+    by_tests true reserved e h =
+        subst (λ (z : List ℕ). SpellsAnyWord z (step_word 0 ∷ []))
+        (sym ((bytes_eq-Decides word (codes "step")).0 e)) (files.step_itself 0)
+    by_tests false true e h = files.reserved_word word h
+    by_tests false false e h = files.plain_word word
+
+    plainly : SpellsAnyWord word (word_lexeme word 0 ∷ [])
+    plainly = by_tests (bytes_eq word (codes "step")) (is_reserved word) refl refl
 
 -- ---- lists
 
@@ -109,11 +138,11 @@ arguments_spelled (a ∷ es) h =
     files.some_arguments (list_spelled (SpellsTerm in_formula) (IsWritableTerm in_formula)
     (sorted_term undeclared) term_lexemes (term_spelled in_formula) a es h.0 h.1)
 
-reason_spelled : (r : Reason) → IsWritableReason r
-    → SpellsReason (sorted_reason undeclared r) (reason_lexemes r)
-reason_spelled auto h = files.auto_word
-reason_spelled (by_rule name premises arguments) h =
-    files.by_word (word_spelled name)
+reason_spelled : (v : ℕ) (r : Reason) → IsWritableReason r
+    → SpellsReason (sorted_reason undeclared r) (reason_lexemes v r)
+reason_spelled v auto h = files.auto_word
+reason_spelled v (by_rule name premises arguments) h =
+    files.by_word (word_spelled v name)
     (same_spelled SpellsNumber IsNumeral number_lexemes number_spelled premises h.1)
     (arguments_spelled arguments h.2)
 
@@ -125,17 +154,17 @@ judgement_spelled (triple p c q k) h =
     files.a_triple (formula_spelled p h.0) (command_spelled c h.1) (formula_spelled q h.2)
     (data_sort_spelled k)
 
-step_spelled : (step : StepOf Named) → IsWritableStep step
-    → SpellsStep (sorted_step undeclared step) (step_line step)
-step_spelled step h =
+step_spelled : (v : ℕ) (step : StepOf Named) → IsWritableStep step
+    → SpellsStep (sorted_step undeclared step) (step_line v step)
+step_spelled v step h =
     files.a_step step.line (number_spelled step.number h.number)
-    (reason_spelled step.reason h.reason) (judgement_spelled step.judgement h.judgement)
+    (reason_spelled v step.reason h.reason) (judgement_spelled step.judgement h.judgement)
 
-steps_spelled : (steps : List (StepOf Named)) → Each IsWritableStep steps
-    → SpellsSteps (map (sorted_step undeclared) steps) (all_lexemes (map step_line steps))
-steps_spelled [] h = files.no_step
-steps_spelled (step ∷ steps) h =
-    files.one_step (step_spelled step h.0) (steps_spelled steps h.1)
+steps_spelled : (v : ℕ) (steps : List (StepOf Named)) → Each IsWritableStep steps
+    → SpellsSteps (map (sorted_step undeclared) steps) (all_lexemes (map (step_line v) steps))
+steps_spelled v [] h = files.no_step
+steps_spelled v (step ∷ steps) h =
+    files.one_step (step_spelled v step h.0) (steps_spelled v steps h.1)
 
 -- ---- procedures and theories
 
@@ -189,23 +218,23 @@ procedure_around f h {steps} {proof} l =
     (data_sort_spelled f.sort) (formula_spelled f.pre h.pre) (formula_spelled f.post h.post)
     (command_spelled f.body h.body) l)
 
-procedure_spelled : (f : ProcedureOf Named) → IsWritableProcedure f
-    → SpellsProcedure (procedure_with undeclared f) (all_lexemes (procedure_lines f))
-procedure_spelled f h =
-    subst (SpellsProcedure (procedure_with undeclared f)) (sym (in_a_row f))
-    (procedure_around f h (steps_spelled f.proof h.proof))
+procedure_spelled : (v : ℕ) (f : ProcedureOf Named) → IsWritableProcedure f
+    → SpellsProcedure (procedure_with undeclared f) (all_lexemes (procedure_lines v f))
+procedure_spelled v f h =
+    subst (SpellsProcedure (procedure_with undeclared f)) (sym (in_a_row v f))
+    (procedure_around f h (steps_spelled v f.proof h.proof))
 
-procedures_spelled : (fs : List (ProcedureOf Named)) → HasOne fs → Each IsWritableProcedure fs
-    → SpellsProcedures (map (procedure_with undeclared) fs) (all_lexemes (procedures_lines fs))
-procedures_spelled [] one h = absurd one
-procedures_spelled (f ∷ []) one h =
+procedures_spelled : (v : ℕ) (fs : List (ProcedureOf Named)) → HasOne fs → Each IsWritableProcedure fs
+    → SpellsProcedures (map (procedure_with undeclared) fs) (all_lexemes (procedures_lines v fs))
+procedures_spelled v [] one h = absurd one
+procedures_spelled v (f ∷ []) one h =
     subst (SpellsProcedures (procedure_with undeclared f ∷ []))
-    (ap all_lexemes (sym (append-nil (procedure_lines f))))
-    (files.last_procedure (procedure_spelled f h.0))
-procedures_spelled (f ∷ g ∷ fs) one h =
+    (ap all_lexemes (sym (append-nil (procedure_lines v f))))
+    (files.last_procedure (procedure_spelled v f h.0))
+procedures_spelled v (f ∷ g ∷ fs) one h =
     subst (SpellsProcedures (map (procedure_with undeclared) (f ∷ g ∷ fs)))
-    (sym (all_append (procedure_lines f) (procedures_lines (g ∷ fs))))
-    (files.more_procedures (procedure_spelled f h.0) (procedures_spelled (g ∷ fs) tt h.1))
+    (sym (all_append (procedure_lines v f) (procedures_lines v (g ∷ fs))))
+    (files.more_procedures (procedure_spelled v f h.0) (procedures_spelled v (g ∷ fs) tt h.1))
 
 logic_spelled : (x : Var) (xs : List Var) {more : List Lexeme} → IsDeclarable x
     → SpellsLogicLines xs more → SpellsLogicLines (x ∷ xs) (logic_line x ⌢ more)
@@ -228,14 +257,28 @@ raw_spelled : (theory : Theory) → IsWritableTheory theory
 raw_spelled theory h =
     subst (λ (z : List Lexeme). SpellsRaw (raw theory)
     (the "domlogic" ⌢ number_lexemes theory.version ⌢ z))
-    (sym (all_append (map logic_line theory.logic) (procedures_lines theory.procedures)))
+    (sym (all_append (map logic_line theory.logic)
+    (procedures_lines theory.version theory.procedures)))
     (files.theory (number_spelled theory.version h.version) (logics_spelled theory.logic h.logic)
-    (procedures_spelled theory.procedures h.some h.procedures))
+    (procedures_spelled theory.version theory.procedures h.some h.procedures))
+
+-- its words are those of its version, line by line and together
+pub all_of_version : (theory : Theory) → IsWritableTheory theory
+    → Each (IsOfVersion theory.version) (all_lexemes (theory_lines theory))
+all_of_version theory h = together (theory_lines theory) h.words
+  where
+    together : (lines : List (List Lexeme)) → Each (Each (IsOfVersion theory.version)) lines
+        → Each (IsOfVersion theory.version) (all_lexemes lines)
+    together [] k = tt
+    together (line ∷ lines) k =
+        each_append (IsOfVersion theory.version) line (all_lexemes lines) k.0
+        (together lines k.1)
 
 pub theory_spelled : (theory : Theory) → IsWritableTheory theory → with_sorts theory ≡ theory
     → SpellsTheory theory (all_lexemes (theory_lines theory))
 theory_spelled theory h e = record {
   raw = raw theory;
-  spelled = raw_spelled theory h;
+  spelled = subst (SpellsRaw (raw theory)) (sym (kept_in theory.version
+      (all_lexemes (theory_lines theory)) (all_of_version theory h))) (raw_spelled theory h);
   sorted = sym e ∙ sym (theory_resorted (λ f. undeclared) theory);
 }

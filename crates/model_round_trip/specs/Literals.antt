@@ -1,4 +1,5 @@
--- The texts that stand in what is written.
+-- Needn't be believed: the program's promise doesn't speak of it. The texts that stand in what is
+-- written.
 use Rattle.std.specs.Prelude.{List}
 use Rattle.std.specs.Str.{IsUtf8}
 use Rattle.model_text.specs.Lexemes.{Lexeme, literal_lexeme}

@@ -1,4 +1,5 @@
--- The theories that can be written: the program prints each of them so that it reads back.
+-- Needn't be believed: the program's promise doesn't speak of it. The theories that can be written:
+-- the program prints each of them so that it reads back.
 use Rattle.model_limits.specs.Limits.{standard_limits}
 use Rattle.std.specs.Prelude.{◌≡◌, ℕ, ◌≤◌, true, List, [], ◌∷◌}
 use Rattle.model_shapes.specs.Sorts.{Sort, value, is_sort}
@@ -6,9 +7,10 @@ use Rattle.model_terms.specs.Variables.{Var, var_sort}
 use Rattle.model_formulas.specs.Formulas.{Named}
 use Rattle.model_commands.specs.Theories.{JudgementOf, entails, triple, Reason, auto, by_rule, StepOf, ProcedureOf, Theory}
 use Rattle.model_text.specs.Lexemes.{word_lexeme}
+use Rattle.model_text.specs.Versions.{IsOfVersion}
 use Rattle.model_text.specs.Nesting.{lexemes_of}
 use Rattle.model_grammar.specs.Terms.{in_formula}
-use Rattle.model_grammar.specs.Writing.{Each, IsName, IsWritableName, IsLogic, IsWritableTerm, IsWritable, IsWritableCommand}
+use Rattle.model_grammar.specs.Writing.{Each, IsName, IsWritableName, IsLogic, IsWritableTerm, IsWritable, IsWritableCommand, theory_lines}
 
 -- the name is one word, reserved or not
 abbrev pub IsWord : List ℕ → Type 0
@@ -59,9 +61,11 @@ abbrev pub HasOne : {A : Type 0} → List A → Type 0
 HasOne [] = ⊥
 HasOne (x ∷ xs) = Unit
 
--- the theory
+-- the theory, whose words are those of its version: no name is `insertBefore` in version 2, and no
+-- command is in another
 pub record IsWritableTheory (theory : Theory) : Type 0 where
   pub version : IsNumeral theory.version
   pub logic : Each IsDeclarable theory.logic
   pub some : HasOne theory.procedures
   pub procedures : Each IsWritableProcedure theory.procedures
+  pub words : Each (Each (IsOfVersion theory.version)) (theory_lines theory)

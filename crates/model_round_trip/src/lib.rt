@@ -10,6 +10,7 @@ ghost use Rattle.model_formulas.specs.Formulas.{Named};
 ghost use Rattle.model_commands.specs.Commands.{Command};
 ghost use Rattle.model_commands.specs.Theories.{Theory};
 ghost use Rattle.model_text.specs.Lexemes.{Lexeme, bad_lexeme};
+ghost use Rattle.model_text.specs.Versions.{seen_in, IsOfVersion};
 ghost use Rattle.model_text.specs.Nesting.{lexemes_of};
 ghost use Rattle.model_text.specs.FaultTokens.{AreOfTokens};
 ghost use Rattle.model_documents.specs.Grammar.{SpellsGrove};
@@ -33,12 +34,16 @@ pub fn read_formulas_are_writable()
         → AreOfTokens lexemes → LiteralsAreUtf8 (formula_lexemes p) }
 {}
 
-/// So it is with commands.
+/// So it is with commands, as they are seen in a version; and their words are those of the version.
 pub fn read_commands_are_writable()
-    ensures writable { (c : Command) (lexemes : List Lexeme) → SpellsCommand c lexemes
-        → AreOfTokens lexemes → IsWritableCommand c }
-    ensures literals { (c : Command) (lexemes : List Lexeme) → SpellsCommand c lexemes
-        → AreOfTokens lexemes → LiteralsAreUtf8 (command_lexemes c) }
+    ensures writable { (version : ℕ) (c : Command) (lexemes : List Lexeme)
+        → SpellsCommand c (seen_in version lexemes) → AreOfTokens lexemes → IsWritableCommand c }
+    ensures literals { (version : ℕ) (c : Command) (lexemes : List Lexeme)
+        → SpellsCommand c (seen_in version lexemes) → AreOfTokens lexemes
+        → LiteralsAreUtf8 (command_lexemes c) }
+    ensures words { (version : ℕ) (c : Command) (lexemes : List Lexeme)
+        → SpellsCommand c (seen_in version lexemes) → AreOfTokens lexemes
+        → Each (IsOfVersion version) (command_lexemes c) }
 {}
 
 /// So it is with theories, which have the sorts of their declarations.
@@ -80,15 +85,19 @@ pub fn printed_formulas_read_back()
         → SpellsFormula p (lexemes_of (text_of (formula_lexemes p))) }
 {}
 
-/// Those for a command spell it, each used variable with sort node.
+/// Those for a command spell it in a version that has its words, each used variable with sort node.
 pub fn printed_commands_read_back()
-    ensures raw { (c : Command) → IsWritableCommand c → LiteralsAreUtf8 (command_lexemes c)
-        → SpellsCommand (sorted_command undeclared c) (lexemes_of (text_of (command_lexemes c))) }
-    ensures declared { (d : Declared) (c : Command) → IsWritableCommand c
-        → LiteralsAreUtf8 (command_lexemes c) → sorted_command d c ≡ c
-        → SpellsCommandAt d c (lexemes_of (text_of (command_lexemes c))) }
-    ensures again { (c : Command) (bytes : List ℕ) → SpellsCommand c (lexemes_of bytes)
-        → SpellsCommand c (lexemes_of (text_of (command_lexemes c))) }
+    ensures raw { (version : ℕ) (c : Command) → IsWritableCommand c
+        → Each (IsOfVersion version) (command_lexemes c) → LiteralsAreUtf8 (command_lexemes c)
+        → SpellsCommand (sorted_command undeclared c)
+        (seen_in version (lexemes_of (text_of (command_lexemes c)))) }
+    ensures declared { (version : ℕ) (d : Declared) (c : Command) → IsWritableCommand c
+        → Each (IsOfVersion version) (command_lexemes c) → LiteralsAreUtf8 (command_lexemes c)
+        → sorted_command d c ≡ c
+        → SpellsCommandAt d c (seen_in version (lexemes_of (text_of (command_lexemes c)))) }
+    ensures again { (version : ℕ) (c : Command) (bytes : List ℕ)
+        → SpellsCommand c (seen_in version (lexemes_of bytes))
+        → SpellsCommand c (seen_in version (lexemes_of (text_of (command_lexemes c)))) }
 {}
 
 /// Those for a theory read as it, but for the lines of its steps.

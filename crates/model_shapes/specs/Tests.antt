@@ -1,5 +1,4 @@
--- Needn't be believed: the types of some say all, and a law says it of the others. Tests of
--- equality, of sorts, texts and values.
+-- Tests of equality, of sorts, texts and values.
 use Rattle.std.specs.Prelude.{◌==◌, ℤ, int_le, Bool, true, false, ◌&&◌, bytes_eq}
 use Rattle.std.proofs.Math.Decide.{ℕ_discrete}
 use Rattle.std.proofs.Math.IntN.{ℤ_discrete}

@@ -1,5 +1,4 @@
--- Needn't be believed: the type of `var_eq` says all. Variables are equal or not, by a test that
--- computes, and that says that the two are equal.
+-- Variables are equal or not, by a test that computes, and that says that the two are equal.
 use Rattle.std.specs.Prelude.{◌≡◌, true, false, Bool, ◌&&◌, bytes_eq, ◌==◌}
 use Rattle.std.proofs.Common.{refl, subst}
 use Rattle.model_shapes.specs.Tests.{same_sort, same_value_sort}
@@ -40,10 +39,10 @@ same_var-not x y h e = let z : same_var x y ≡ true =
     subst (λ u. same_var x u ≡ true) e (same_var-refl x) in (cc)
 
 -- a decision from a test that is right; it computes wherever the test does
-abbrev pub decided : {A : Type 0} (b : Bool) → (b ≡ true → A) → (b ≡ false → A → ⊥) → Dec A
-decided true f g = yes (f refl)
-decided false f g = no (g refl)
+abbrev pub decided_by : {A : Type 0} (b : Bool) → (b ≡ true → A) → (b ≡ false → A → ⊥) → Dec A
+decided_by true f g = yes (f refl)
+decided_by false f g = no (g refl)
 
 -- variables and terms are equal or not
 abbrev pub var_eq : (x y : Var) → Dec (x ≡ y)
-var_eq x y = decided (same_var x y) (same_var-is x y) (same_var-not x y)
+var_eq x y = decided_by (same_var x y) (same_var-is x y) (same_var-not x y)

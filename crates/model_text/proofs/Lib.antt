@@ -4,3 +4,6 @@ pub mod Seen
 pub mod Steps
 pub mod Worked
 pub mod OfTokens
+pub mod Usual
+pub mod Versions
+pub mod Cuts

@@ -1,4 +1,5 @@
 pub mod Tokens
 pub mod Lexemes
+pub mod Versions
 pub mod Nesting
 pub mod FaultTokens

@@ -1,20 +1,22 @@
 -- What the moves of records do to the grove.
-use Rattle.std.proofs.Common.{◌≡◌, ◌≢◌, ℕ, ◌≤◌, Bool, true, cond, eqb, List, [], ◌∷◌, ◌++◌, Option, Some, None, refl, sym, ap, ◌∙◌, inl, inr, arith, subst, append-nil}
+use Rattle.std.proofs.Common.{◌≡◌, ◌≢◌, ℕ, ◌+◌, ◌≤◌, Bool, true, cond, eqb, List, [], ◌∷◌, ◌++◌, Option, Some, None, refl, sym, ap, ◌∙◌, inl, inr, arith, subst, append-nil}
 use Rattle.std.specs.Option.{option_map, is_some, IsSome, MatchOption}
 use Rattle.std.proofs.lemmas.Bool.{cases_eq}
 use Rattle.model_groves.specs.Sizes.{size}
 use Rattle.model_shapes.specs.Trees.{Trees, WellFormed}
 use Rattle.model_shapes.specs.Shapes.{holes}
 use Rattle.model_heap.specs.Lists.{count, head_of, last_of, after, before}
-use Rattle.model_heap.specs.Entries.{Entry, Rows, rows_of, uses, tree_at, all_but, removed, appended, kids_of, parent_of, Kin, depth, detached, attached_by, below, less_kid, kids_by}
+use Rattle.model_heap.specs.Entries.{Entry, Rows, rows_of, uses, tree_at, all_but, removed, appended, inserted, insert_in, kids_of, parent_of, Kin, depth, detached, attached_by, below, less_kid, kids_by}
 use Rattle.model_heap.proofs.Moves.{test_yes, test_no, one_here, rows-removed, rows-appended, uses-split}
-use Rattle.model_heap.proofs.Neighbours.{split, after-here, before-here, count-append}
+use Rattle.model_heap.proofs.Neighbours.{split, after-here, before-here, count-append, Split}
 use Rattle.model_heap.proofs.Kinship.{Kin-rows_of, removed_once, appended_once, depth_kid}
 use Rattle.model_heap.proofs.Arranged.{size-split, size-beside, holes-tree, holes-all_but, holes-beside, holes-adopt, size-adopt}
+use Rattle.model_heap.proofs.Kinship.{kids_use, tree_step}
+use Rattle.model_heap.proofs.Inserts.{rows-inserted, inserted_uses, size-insert, holes-insert, insert_split}
 use Rattle.slab.specs.Slab.{Slab, slab_len}
 use Rattle.node_heap.specs.declared.records.Record.{Record}
 use Rattle.node_heap.specs.declared.index.Pair.{Pair}
-use Rattle.node_heap.specs.Records.{Becomes, linked, TakesOut, PutsLast}
+use Rattle.node_heap.specs.Records.{Becomes, linked, TakesOut, PutsLast, PutsBefore}
 use Rattle.node_heap.specs.Links.{row, Stands}
 use Rattle.node_heap.specs.Indexes.{lookup, key_in}
 use Rattle.node_heap.specs.Heap.{Linking}
@@ -300,3 +302,125 @@ puts_last s s' nodes lists g p c pk ck once cin pin apart d l fp fc t len well =
           (omega (arith, pin, apart, uses-split c g p (once c))),
       size-split c g (once c),
     )
+
+-- AFTER AN INSERTION before `w`, a child of `p`, whose first part took the tree out
+pub puts_before : (s s' : Slab Record) (nodes lists : List Pair) (g : Trees) (p w c pk wk ck : ℕ) →
+    ((n : ℕ) → uses n g ≤ 1) → uses c g ≡ 1 → uses p (tree_at c g) ≡ 0 → p ≢ c → w ≢ c → parent_of
+    (rows_of g w) ≡ Some p → Linking s nodes lists (removed c g) → (fp : Found s nodes
+    (removed c g) p pk) → (fw : Found s nodes (removed c g) w wk) → (fc : Found s nodes
+    (removed c g) c ck) → PutsBefore s s' pk wk ck fw.it → slab_len s' ≡ slab_len s → WellFormed
+    (inserted w c g) → Linking s' nodes lists (inserted w c g)
+puts_before s s' nodes lists g p w c pk wk ck once cin apart d dw up l fp fw fc t len well =
+    let h : Trees = removed c g in
+    let kin : Kin (rows_of h) = Kin-rows_of h l.once in
+    let upper : parent_of (rows_of h w) ≡ Some p = ap parent_of (rows-removed c g once w) ∙ stays
+    (rows_of g w) ∙ up in
+    finish kin upper (split w (kids_of (rows_of h p)) (kin.down p w upper))
+  where
+    rooted : (o : Option Entry) → parent_of (cond (eqb c c) (option_map (below None) o) (option_map
+        (less_kid c) o)) ≡ None
+    rooted None = rw (test_yes c c refl) refl
+    rooted (Some e) = rw (test_yes c c refl) refl
+
+    stays : (o : Option Entry) → parent_of (cond (eqb w c) (option_map (below None) o) (option_map
+        (less_kid c) o)) ≡ parent_of o
+    stays None = rw (test_no w c dw) refl
+    stays (Some e) = rw (test_no w c dw) refl
+
+    none_of : Kin (rows_of (removed c g)) → parent_of (rows_of (removed c g) c) ≡ None → count c
+        (kids_of (rows_of (removed c g) p)) ≡ 0
+    none_of kin root = elim (cases_eq (count c (kids_of (rows_of (removed c g) p))) 0) [
+      | inl z ↦ z
+      | inr z ↦ absurd (let u = kin.up p c (omega (arith, z)) in cc)
+    ]
+
+    finish : Kin (rows_of (removed c g)) → parent_of (rows_of (removed c g) w) ≡ Some p → Split w
+        (kids_of (rows_of (removed c g) p)) → Linking s' nodes lists (inserted w c g)
+    finish kin upper x =
+        let h : Trees = removed c g in
+        let f : List ℕ → List ℕ = insert_in w (c ∷ []) in
+        let pthere : IsSome (rows_of h p) = subst IsSome (sym fp.is) refl in
+        let cthere : IsSome (rows_of h c) = subst IsSome (sym fc.is) refl in
+        let root : parent_of (rows_of h c) ≡ None = ap parent_of (rows-removed c g once c) ∙ rooted
+        (rows_of g c) in
+        let parts : count c (kids_of (rows_of h p)) ≡ count c x.front + count c (w ∷ x.back) = ap
+        (count c) x.whole ∙ count-append c x.front (w ∷ x.back) in
+        let fresh = none_of kin root in
+        let front : count c x.front ≡ 0 = omega (arith, fresh, parts) in
+        let back : count c (w ∷ x.back) ≡ 0 = omega (arith, fresh, parts) in
+        let wparts : count w (kids_of (rows_of h p)) ≡ count w x.front + count w (w ∷ x.back) = ap
+        (count w) x.whole ∙ count-append w x.front (w ∷ x.back) in
+        let gone : count w x.back ≡ 0 = omega (arith, kin.once p w, wparts, one_here w w refl) in
+        let new : f (kids_of (rows_of h p)) ≡ x.front ++ c ∷ w ∷ x.back = ap f x.whole
+        ∙ insert_split w (c ∷ []) x.front x.back x.first in
+        let m = attach_moved f (rows_of h) p c x.front (w ∷ x.back) kin pthere root d x.whole new in
+        let previous : fw.it.previous ≡ option_map (key_in nodes)
+        (last_of x.front) = fw.fits.previous ∙ ap (λ q. option_map (key_in nodes) (before w (row
+        (rows_of h) q))) (sym (ap parent_of fw.is) ∙ upper) ∙ ap (λ xs. option_map
+        (key_in nodes) (before w xs)) x.whole ∙ ap (option_map (key_in nodes))
+        (before-here w x.front x.back x.first gone) in
+        let kids : kids_of (attached_by f p c
+        (rows_of h) p) ≡ x.front ++ c ∷ w ∷ x.back = end_kids f p c (rows_of h) d pthere
+        ∙ new in
+        let left : option_map (key_in nodes) (last_of x.front) ≡ option_map (key_in nodes) (before c
+        (row (attached_by f p c (rows_of h)) (Some p))) = rw kids (ap (option_map
+        (key_in nodes)) (sym (before-here c x.front (w ∷ x.back) front back))) in
+        let right : Some (key_in nodes w) ≡ option_map (key_in nodes) (after c (row
+        (attached_by f p c (rows_of h)) (Some p))) = rw kids (ap (option_map (key_in nodes))
+        (sym (after-here c x.front (w ∷ x.back) front))) in
+        let moved : Becomes s s' (linked (option_map (key_in nodes) (last_of x.front))
+        (key_in nodes p) (option_map (key_in nodes) (Some c)) (option_map (key_in nodes)
+        (head_of (w ∷ x.back))) (option_map (key_in nodes) (Some c)) (key_in nodes c)
+        (option_map (key_in nodes) (Some p)) (option_map (key_in nodes) (last_of x.front)) (Some
+        (key_in nodes w))) = rw (← previous, ← fp.key, ← fw.key, ← fc.key) t in
+        let rows : (n : ℕ) → rows_of (inserted w c g) n ≡ attached_by f p c
+        (rows_of h) n = λ n. rows-inserted p w c g once cin dw up apart n ∙ sym
+        (attached_along f p c (rows_of h) (detached c (rows_of g)) n
+        (rows-removed c g once n)) in
+        let ww : uses w (all_but c g) ≡ 1 = w_there in
+        linked_moved s s' nodes lists h (inserted w c g) l
+        (λ n. omega (
+          arith,
+          inserted_uses w (tree_at c g) (all_but c g) n ww,
+          uses-split c g n
+              (once c),
+          removed_once c g once n,
+        ))
+        (holes-insert w (tree_at c g) (all_but c g) (omega (
+          arith,
+          l.whole,
+          holes-beside
+              (all_but c g) (tree_at c g),
+        )) (omega (
+          arith,
+          l.whole,
+          holes-beside (all_but c g)
+              (tree_at c g),
+        )))
+        (omega (
+          arith,
+          size-insert w (tree_at c g) (all_but c g) ww,
+          size-split c g (once c),
+          removed_size c g (once c),
+        ))
+        (λ n. ap (option_map (λ e. e.list)) (rows n) ∙ attached_lists f p c (rows_of h) n)
+        (stands_along (key_in nodes) (attached_by f p c (rows_of h)) (rows_of
+        (inserted w c g)) s' rows (stands_moved (key_in nodes) (rows_of h) (attached_by f p c
+        (rows_of h)) p c x.front (w ∷ x.back) (Some c) (Some c) (Some p) m kin s l.stands
+        (option_map (key_in nodes) (last_of x.front)) (Some
+        (key_in nodes w)) s' left right cthere moved))
+        len well
+      where
+        w_there : uses w (all_but c g) ≡ 1
+        w_there =
+            let k = Kin-rows_of g once in
+            let has : 1 ≤ count w (kids_of (rows_of g p)) = k.down p w up in
+            omega (
+              arith,
+              uses-split c g w (once c),
+              once w,
+              has,
+              kids_use None g p w,
+              tree_step c None g p w dw (once c) (once p) (once w) has,
+              apart,
+            )

@@ -19,3 +19,4 @@ pub mod Tours
 pub mod Rounds
 pub mod Texts
 pub mod Told
+pub mod Inserted

@@ -1,5 +1,5 @@
--- What calls answer and leave, in the words of the machine of the definitions, which follows PODS
--- 2008: its moves and its readings.
+-- Needn't be believed: the program's promise doesn't speak of it. What calls answer and leave, in
+-- the words of the machine of the definitions, which follows PODS 2008: its moves and its readings.
 use Rattle.std.specs.Prelude.{◌≡◌, ℕ, Result, Ok, Err}
 use Rattle.model_shapes.specs.Sorts.{grove}
 use Rattle.model_shapes.specs.Values.{Name, Value}

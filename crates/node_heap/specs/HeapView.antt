@@ -1,4 +1,4 @@
--- What contracts see of a heap.
+-- Needn't be believed: the program's promise doesn't speak of it. What contracts see of a heap.
 use Rattle.std.specs.Prelude.{ℕ, refl}
 use Rattle.std.specs.Coded.{Coded, code_by, coded×, coded_ℕ}
 use Rattle.model_shapes.specs.Trees.{Trees}

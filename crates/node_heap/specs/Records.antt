@@ -54,6 +54,12 @@ abbrev pub PutsLast : Slab Record → Slab Record → ℕ → ℕ → Record →
 PutsLast old new parent key r =
     Becomes old new (linked r.last parent (Some key) None (Some key) key (Some parent) r.last None)
 
+-- it comes before the record at another key, in the row of a parent
+abbrev pub PutsBefore : Slab Record → Slab Record → ℕ → ℕ → ℕ → Record → Type 0
+PutsBefore old new parent next key r =
+    Becomes old new (linked r.previous parent (Some key) (Some next) (Some key) key (Some parent)
+    r.previous (Some next))
+
 -- the neighbours of a record have records
 pub record Neighbours (s : Slab Record) (r : Record) : Type 0 where
   pub parent : ForSome r.parent (ContainsKey s)

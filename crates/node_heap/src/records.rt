@@ -3,7 +3,7 @@ ghost use Rattle.std.specs.Prelude.{◌≡◌, Some, None};
 ghost use Rattle.std.specs.Option.{ForSome};
 ghost use Rattle.model_heap.specs.Lists.{holds};
 ghost use Rattle.slab.specs.Slab.{get, slab_len, ContainsKey};
-ghost use Rattle.node_heap.specs.Records.{Becomes, IsNew, forwarded, backwarded, placed, TakesOut, PutsLast, Neighbours};
+ghost use Rattle.node_heap.specs.Records.{Becomes, IsNew, forwarded, backwarded, placed, TakesOut, PutsLast, PutsBefore, Neighbours};
 
 use dom_terms::Text;
 use slab::Slab;
@@ -90,6 +90,23 @@ pub fn attach_last(records: &mut Slab<Record>, key: usize, parent: usize)
     forward(records, last, parent, Some(key));
     backward(records, None, parent, Some(key));
     place(records, key, Some(parent), last, None);
+}
+
+/// Puts the node at the key, which is a root, before another among the children of the parent.
+pub fn attach_before(records: &mut Slab<Record>, key: usize, parent: usize, next: usize)
+    requires there { ContainsKey records.old key }
+    requires parent { ContainsKey records.old parent }
+    requires next { ContainsKey records.old next }
+    requires neighbours { (r : _) → get records.old next ≡ Some r → Neighbours records.old r }
+    ensures puts_before { (r : _) → get records.old next ≡ Some r
+        → PutsBefore records.old records.new parent next key r }
+    ensures size { slab_len records.new ≡ slab_len records.old }
+    ensures capacity { records.new.capacity ≡ records.old.capacity }
+{
+    let previous = records[next].previous;
+    forward(records, previous, parent, Some(key));
+    backward(records, Some(next), parent, Some(key));
+    place(records, key, Some(parent), previous, Some(next));
 }
 
 // what follows `previous` among the children of the parent is now `to`

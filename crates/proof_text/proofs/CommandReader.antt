@@ -3,20 +3,20 @@ use Rattle.std.proofs.Common.{◌≡◌, ℕ, zero, suc, ◌≤◌, List, [], �
 use Rattle.model_terms.specs.Terms.{Term}
 use Rattle.model_terms.specs.Stores.{ProgVar, named}
 use Rattle.model_commands.specs.Commands as model
-use Rattle.model_commands.specs.Commands.{Command, Block, skip, assign, create_node, node_name, child_nodes, parent_node, list_item, append_child, remove_child, if_else, while_do, local, call}
+use Rattle.model_commands.specs.Commands.{Command, Block, skip, assign, create_node, node_name, child_nodes, parent_node, list_item, append_child, remove_child, insert_before, if_else, while_do, local, call}
 use Rattle.theory_syntax.specs.Commands.{block_with}
 use Rattle.model_text.specs.Lexemes.{Lexeme, terminal}
 use Rattle.model_grammar.specs.Words.{the}
 use Rattle.model_grammar.specs.Terms.{used_name, in_command, a_name, SpellsTerm, program_variable, text_literal, number_literal, negative_literal, constant, operation, null_word, nolist_word, yes_word, no_word}
 use Rattle.model_grammar.specs.Commands as g
-use Rattle.model_grammar.specs.Commands.{Bracketed, SpellsVariable, a_variable, SpellsCondition, SpellsSetting, to_value, to_answer, to_item, SpellsCommand, skip_word, braces, choice, loop, with_local, a_call, change, setting, SpellsBlock, in_braces, SpellsCommands, last_command, more_commands}
-use Rattle.model_text.proofs.OfTokens.{is_seen}
+use Rattle.model_grammar.specs.Commands.{Bracketed, SpellsVariable, a_variable, SpellsCondition, SpellsSetting, to_value, to_answer, to_item, SpellsCommand, skip_word, braces, choice, loop, with_local, a_call, change, insertion, setting, SpellsBlock, in_braces, SpellsCommands, last_command, more_commands}
+use Rattle.model_text.proofs.Usual.{is_seen}
 use Rattle.token_readers.specs.Reading.{Answer, Read, ◌>>=◌, ret, then, when, leaf}
 use Rattle.logic_text.specs.TermReaders.{term_at}
 use Rattle.logic_text.proofs.TermReader.{term_sound, term_only}
 use Rattle.logic_text.proofs.FormulaReader.{ends_with}
 use Rattle.proof_text.specs.Lists.{leaf_variable, bracketed_at}
-use Rattle.proof_text.specs.Commands.{cond_at, semicolon, block_rest, block_at, one_at, two_at, setting_at, choice_at, loop_at, local_at, call_at, change_at, command_at}
+use Rattle.proof_text.specs.Commands.{cond_at, semicolon, block_rest, block_at, one_at, two_at, three_at, setting_at, choice_at, loop_at, local_at, call_at, change_at, command_at}
 use Rattle.token_readers.proofs.Sound.{Sound, After, s_ret, s_then, s_when, s_case, s_deep, s_expect, s_expect_up, s_close}
 use Rattle.token_readers.proofs.Only.{Only, OrDeep, deep, read, Prefix_free, o_last, o_then}
 use Rattle.token_readers.proofs.Lists.{SpellsList, last, more, s_list, list_only}
@@ -92,6 +92,18 @@ two_sound n make L spelled =
     (s_then _ (T n) λ b t lb.
     s_close n (codes ")") refl (make a b) _ (spelled a b s t la lb)))
 
+three_sound : (n : ℕ) (make : Term → Term → Term → Command) (L : Command → List Lexeme → Type 0)
+    → ((a b c : Term) (s t u : List Lexeme) → SpellsTerm in_command a s
+    → SpellsTerm in_command b t → SpellsTerm in_command c u
+    → L (make a b c) (terminal (codes "(") ∷ (s ++ (terminal (codes ",") ∷ (t
+    ++ (terminal (codes ",") ∷ (u ++ the ")")))))))
+    → Sound n (three_at (term_at in_command n) make) L
+unfolding three_at
+three_sound n make L spelled =
+    s_expect (codes "(") refl L (s_then _ (T n) λ a s la. s_expect (codes ",") refl _
+    (s_then _ (T n) λ b t lb. s_expect (codes ",") refl _ (s_then _ (T n) λ c u lc.
+    s_close n (codes ")") refl (make a b c) _ (spelled a b c s t u la lb lc))))
+
 setting_sound : (n : ℕ) (x : ProgVar) → Sound n (setting_at (term_at in_command n) x)
     (SpellsSetting x)
 unfolding setting_at
@@ -113,8 +125,10 @@ change_sound n =
     change g.append_word la lb)
     (s_when n (codes "removeChild") (two_sound n remove_child _ λ a b s t la lb.
     change g.remove_word la lb)
+    (s_when n (codes "insertBefore") (three_sound n insert_before _ λ a b c s t u la lb lc.
+    insertion la lb lc)
     (s_then _ (variable_sound (suc n)) λ x s lx. s_expect_up n (codes ":=") refl _
-    (s_wider _ (λ c t l. setting lx l) (setting_sound n x))))
+    (s_wider _ (λ c t l. setting lx l) (setting_sound n x)))))
 
 module _ (most n : ℕ) (h : n ≤ most) (command : Read Command)
     (S : Sound n command SpellsCommand) where
@@ -247,7 +261,7 @@ setting_reads n x c s rest (to_item la lb) = o_then _ _ rest (O n) la refl
 
 command_reads : (most n : ℕ) (c : Command) (s rest : List Lexeme) → SpellsCommand c s
     → OrDeep (command_at most n (s ++ rest)) c rest
-unfolding command_at choice_at loop_at local_at call_at change_at two_at block_at
+unfolding command_at choice_at loop_at local_at call_at change_at two_at three_at block_at
 command_reads most zero c s rest l = deep
 command_reads most (suc n) c s rest skip_word = read
 command_reads most (suc n) c s rest (braces (in_braces {b = b} {inner = inner} l)) =
@@ -280,6 +294,8 @@ command_reads most (suc n) c s rest (change g.append_word la lb) = o_then _ _ re
     (o_then _ _ rest (O n) lb refl read)
 command_reads most (suc n) c s rest (change g.remove_word la lb) = o_then _ _ rest (O n) la refl
     (o_then _ _ rest (O n) lb refl read)
+command_reads most (suc n) c s rest (insertion la lb lc) = o_then _ _ rest (O n) la refl
+    (o_then _ _ rest (O n) lb refl (o_then _ _ rest (O n) lc refl read))
 command_reads most (suc n) c s rest (setting {right = t} (a_variable (a_name name)) l) =
     setting_reads n (used_name name) c t rest l
 

@@ -8,11 +8,10 @@ use Rattle.model_terms.specs.Terms.{Term, literal, variable}
 use Rattle.model_terms.specs.Conditions.{Cond, cond_true, cond_false, cond_variable, cond_equal, cond_at_most, cond_not, cond_and, cond_or}
 use Rattle.model_text.specs.Lexemes.{Lexeme, terminal, name_lexeme}
 use Rattle.model_grammar.specs.Words.{the}
-use Rattle.model_text.specs.FaultTokens.{AreOfTokens}
 use Rattle.model_grammar.specs.Terms.{used_name, in_command, a_name, SpellsTerm, program_variable, text_literal, number_literal, negative_literal, constant, operation, null_word, nolist_word, yes_word, no_word, plus_sign, minus_sign, append_sign}
 use Rattle.model_grammar.specs.Commands as g
 use Rattle.model_grammar.specs.Commands.{SpellsVariable, a_variable, SpellsCondition, bool_variable, comparison, joined}
-use Rattle.model_text.proofs.OfTokens.{is_seen}
+use Rattle.model_text.proofs.Usual.{AreUsual, is_seen}
 use Rattle.token_readers.specs.Reading.{Read, then, is_terminal}
 use Rattle.logic_text.specs.TermReaders.{term_at}
 use Rattle.logic_text.proofs.TermReader.{term_sound, term_only}
@@ -42,7 +41,7 @@ bracket_sound n condition S =
     (s_then _ S λ c s lc. joined_sound n condition S c s lc)
 
 lone_sound : (n : ℕ) (a : Term) (s : List Lexeme) → SpellsTerm in_command a s
-    → (c : Cond) (t : List Lexeme) → SpellsCondition c (s ++ t) → AreOfTokens t
+    → (c : Cond) (t : List Lexeme) → SpellsCondition c (s ++ t) → AreUsual t
     → Sound n (lone_name a) (Behind s SpellsCondition)
 lone_sound n a s (program_variable name) c t lc seen = s_ret n (cond_variable (used_name name)) _
     (bool_variable (a_variable (a_name name)))

@@ -1,10 +1,13 @@
 -- Reading a whole list of lexemes as a theory is exact.
-use Rattle.std.proofs.Common.{◌≡◌, ℕ, ◌+◌, List, length, Ok, refl, arith, codes}
+use Rattle.std.proofs.Common.{◌≡◌, ℕ, ◌+◌, List, length, Ok, refl, ◌∙◌, arith, codes}
 use Rattle.model_commands.specs.Theories.{Theory}
 use Rattle.model_text.specs.Lexemes.{Lexeme}
-use Rattle.model_text.specs.FaultTokens.{AreOfTokens, Begins, IsFaultToken}
+use Rattle.model_text.specs.Versions.{in_its_version}
+use Rattle.model_text.proofs.Versions.{version_length}
+use Rattle.model_text.proofs.Cuts.{Cut}
+use Rattle.model_grammar.proofs.VersionCuts.{cut_there}
+use Rattle.model_text.specs.FaultTokens.{AreOfTokens, IsFaultToken}
 use Rattle.model_grammar.specs.Theories.{SpellsRaw, SpellsTheory}
-use Rattle.model_grammar.specs.Sorts.{with_sorts}
 use Rattle.token_readers.specs.Reading.{Read, not_begun, the_terminal}
 use Rattle.token_readers.specs.Giving.{Fails}
 use Rattle.token_readers.specs.Spelling.{whole}
@@ -46,11 +49,10 @@ none_raw : (n : ℕ) (ts : List Lexeme) (fault : ReadFault) → Fails fault (who
 none_raw = whole_.fault_spells_none reader SpellsRaw (not_begun (the_terminal (codes "proc"))) refl
     sound_at only_at
 
-raw_fault : (n : ℕ) (ts : List Lexeme) (fault : ReadFault) → Fails fault (whole (reader n) ts)
+raw_cut : (n : ℕ) (ts : List Lexeme) (fault : ReadFault) → Fails fault (whole (reader n) ts)
     → (count : ℕ) → length ts ≡ count → (answer : TextFault)
-    → AtToken answer (FirstLeft count fault) → AreOfTokens ts
-    → AtToken answer (IsFaultToken SpellsRaw ts)
-raw_fault = whole_.fault_at_token reader SpellsRaw (not_begun (the_terminal (codes "proc"))) refl
+    → AtToken answer (FirstLeft count fault) → AtToken answer (Cut SpellsRaw ts)
+raw_cut = whole_.fault_cuts reader SpellsRaw (not_begun (the_terminal (codes "proc"))) refl
     sound_at only_at
 
 one_raw : (ts : List Lexeme) (t u : Theory) → SpellsRaw t ts → SpellsRaw u ts → t ≡ u
@@ -60,7 +62,8 @@ one_raw = whole_.one_value reader SpellsRaw (not_begun (the_terminal (codes "pro
 -- a list spells at most one theory
 pub one_theory : (ts : List Lexeme) (t u : Theory) → SpellsTheory t ts → SpellsTheory u ts → t ≡ u
 one_theory ts t u l m =
-    let same : l.raw ≡ m.raw = one_raw ts l.raw m.raw l.spelled m.spelled in cc (l.sorted, m.sorted)
+    let same : l.raw ≡ m.raw = one_raw (in_its_version ts) l.raw m.raw l.spelled m.spelled in
+    cc (l.sorted, m.sorted)
 
 -- what holds at a fault gives what else holds there
 at_token : (P Q : ℕ → Type 0) → ((token : ℕ) → P token → Q token) → (answer : TextFault)
@@ -68,38 +71,23 @@ at_token : (P Q : ℕ → Type 0) → ((token : ℕ) → P token → Q token) �
 at_token P Q f (faults.BadText token) p = f token p
 at_token P Q f faults.OutOfMemory p = tt
 
--- where the lexemes spell none but for the sorts they spell none with them
-pub none : (n : ℕ) (ts : List Lexeme) (fault : ReadFault) → Fails fault (whole (reader n) ts)
-    → (count : ℕ) (answer : TextFault) → AtToken answer (FirstLeft count fault)
+-- where the lexemes spell none in their version they spell none
+pub none : (n : ℕ) (ts : List Lexeme) (fault : ReadFault)
+    → Fails fault (whole (reader n) (in_its_version ts)) → (count : ℕ) (answer : TextFault)
+    → AtToken answer (FirstLeft count fault)
     → AtToken answer (λ token. (t : Theory) → SpellsTheory t ts → ⊥)
 none n ts fault e count answer t =
-    at_token (λ token. (t : Theory) → SpellsRaw t ts → ⊥)
+    at_token (λ token. (t : Theory) → SpellsRaw t (in_its_version ts) → ⊥)
     (λ token. (t : Theory) → SpellsTheory t ts → ⊥) (λ token no t l. no l.raw l.spelled) answer
-    (none_raw n ts fault e count answer t)
+    (none_raw n (in_its_version ts) fault e count answer t)
 
--- where no theory begins but for the sorts none begins with them, and the other way round
-begins_sorted : (front : List Lexeme) → Begins SpellsRaw front → Begins SpellsTheory front
-begins_sorted front b =
-    (with_sorts b.0, b.1, record { raw = b.0; spelled = b.2; sorted = refl }, b.3)
+-- ---- the fault token
 
-begins_raw : (front : List Lexeme) → Begins SpellsTheory front → Begins SpellsRaw front
-begins_raw front b = (b.2.raw, b.1, b.2.spelled, b.3)
-
--- so the fault token is the same
-fault_with_sorts : (ts : List Lexeme) (k : ℕ) → IsFaultToken SpellsRaw ts k
-    → IsFaultToken SpellsTheory ts k
-fault_with_sorts ts k f = record {
-  positive = f.positive;
-  in_range = f.in_range;
-  before = λ j lt. begins_sorted _ (f.before j lt);
-  here = λ le b. f.here le (begins_raw _ b);
-}
-
--- the fault token
-pub fault_token : (n : ℕ) (ts : List Lexeme) (fault : ReadFault) → Fails fault (whole (reader n) ts)
-    → (count : ℕ) → length ts ≡ count → (answer : TextFault)
-    → AtToken answer (FirstLeft count fault) → AreOfTokens ts
+pub fault_token : (n : ℕ) (ts : List Lexeme) (fault : ReadFault)
+    → Fails fault (whole (reader n) (in_its_version ts)) → (count : ℕ) → length ts ≡ count
+    → (answer : TextFault) → AtToken answer (FirstLeft count fault) → AreOfTokens ts
     → AtToken answer (IsFaultToken SpellsTheory ts)
 fault_token n ts fault e count same answer t each =
-    at_token (IsFaultToken SpellsRaw ts) (IsFaultToken SpellsTheory ts) (fault_with_sorts ts)
-    answer (raw_fault n ts fault e count same answer t each)
+    at_token (Cut SpellsRaw (in_its_version ts)) (IsFaultToken SpellsTheory ts)
+    (λ k. cut_there ts k each) answer
+    (raw_cut n (in_its_version ts) fault e count (version_length ts ∙ same) answer t)

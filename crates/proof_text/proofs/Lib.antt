@@ -11,3 +11,4 @@ pub mod LineLemmas
 pub mod SortedReader
 pub mod JudgedLoops
 pub mod HeldLoops
+pub mod WrittenTexts

@@ -8,6 +8,7 @@ use Rattle.model_text.specs.Lexemes.{Lexeme, terminal, step_word, name_lexeme, w
 use Rattle.model_grammar.specs.Words.{the, ◌⌢◌}
 use Rattle.model_grammar.specs.Writing.{printed, spaced, text_of, text_of_lines, in_brackets, term_lexemes, number_lexemes, argument_lexemes, reason_lexemes, procedure_lines, procedures_lines, step_line, logic_line, theory_text}
 use Rattle.model_grammar.proofs.Spaced.{spaced_rules}
+use Rattle.model_grammar.proofs.VersionTexts.{procedures_same}
 use Rattle.logic_text.proofs.ListLemmas.{drop_item}
 use Rattle.dom_terms.specs.declared.terms.Term.{Term}
 use Rattle.dom_terms.specs.Terms.{term_of, logic_var_of}
@@ -61,7 +62,7 @@ pub reason_text : (name : List ℕ) (premises : List ℕ) (arguments : List term
     (text : List ℕ)
     → (((text ++ spaced (the "by")) ++ spaced (terminal name ∷ []))
     ++ spaced (in_brackets (map number_lexemes premises))) ++ spaced (argument_lexemes arguments)
-    ≡ text ++ spaced (reason_lexemes (theories.by_rule name premises arguments))
+    ≡ text ++ spaced (reason_lexemes 1 (theories.by_rule name premises arguments))
 reason_text name premises arguments text =
     regroup (in_brackets (map number_lexemes premises)) (argument_lexemes arguments)
     ∙ ap (λ (w : List ℕ). text ++ (spaced (the "by") ++ (codes " " ++ (w
@@ -97,12 +98,12 @@ each_line line made (x ∷ items) =
     ∙ ap (λ (z : List ℕ). line_text (line (made x)) ++ z) (each_line line made items)
 
 procedures_text : (procedures : List Procedure)
-    → text_of_lines (procedures_lines (map procedure_of procedures))
-    ≡ joined_texts (map (λ f. text_of_lines (procedure_lines (procedure_of f))) procedures)
+    → text_of_lines (procedures_lines 1 (map procedure_of procedures))
+    ≡ joined_texts (map (λ f. text_of_lines (procedure_lines 1 (procedure_of f))) procedures)
 procedures_text [] = refl
 procedures_text (f ∷ procedures) =
-    lines_append (procedure_lines (procedure_of f)) (procedures_lines (map procedure_of procedures))
-    ∙ ap (λ (z : List ℕ). text_of_lines (procedure_lines (procedure_of f)) ++ z)
+    lines_append (procedure_lines 1 (procedure_of f)) (procedures_lines 1 (map procedure_of procedures))
+    ∙ ap (λ (z : List ℕ). text_of_lines (procedure_lines 1 (procedure_of f)) ++ z)
     (procedures_text procedures)
 
 -- the parts of the first line
@@ -117,16 +118,16 @@ header_text name params results sort text = simp spaced_rules refl
 -- five lines, those of the steps and the last
 pub procedure_text : (a b c d : List Lexeme) (steps : List Step) (text : List ℕ)
     → ((((((text ++ line_text a) ++ line_text b) ++ line_text c) ++ line_text d)
-    ++ codes "proof\n") ++ joined_texts (map (λ s. line_text (step_line (step_of s))) steps))
+    ++ codes "proof\n") ++ joined_texts (map (λ s. line_text (step_line 1 (step_of s))) steps))
     ++ codes "end\n"
     ≡ text ++ text_of_lines (a ∷ b ∷ c ∷ d ∷ the "proof"
-    ∷ (map step_line (map step_of steps) ++ the "end" ∷ []))
+    ∷ (map (step_line 1) (map step_of steps) ++ the "end" ∷ []))
 procedure_text a b c d steps text =
     rw (
-      lines_append (map step_line (map step_of steps)) (the "end" ∷ []),
-      each_line step_line step_of steps,
+      lines_append (map (step_line 1) (map step_of steps)) (the "end" ∷ []),
+      each_line (step_line 1) step_of steps,
     ) (regroup (text_of a) (text_of b) (text_of c) (text_of d)
-    (joined_texts (map (λ s. line_text (step_line (step_of s))) steps)))
+    (joined_texts (map (λ s. line_text (step_line 1 (step_of s))) steps)))
   where
     regroup : (a b c d e : List ℕ)
         → ((((((text ++ (a ++ newline ∷ [])) ++ (b ++ newline ∷ [])) ++ (c ++ newline ∷ []))
@@ -138,18 +139,26 @@ procedure_text a b c d steps text =
 pub whole_text : (theory : Theory)
     → ((line_text (the "domlogic" ⌢ number_lexemes theory.version))
     ++ joined_texts (map (λ x. line_text (logic_line (logic_var_of x))) theory.logic))
-    ++ joined_texts (map (λ f. text_of_lines (procedure_lines (procedure_of f))) theory.procedures)
+    ++ joined_texts (map (λ f. text_of_lines (procedure_lines 1 (procedure_of f))) theory.procedures)
     ≡ theory_text (theory_of theory)
 whole_text theory =
     append_assoc (line_text (the "domlogic" ⌢ number_lexemes theory.version)) _ _
     ∙ ap (λ (z : List ℕ). line_text (the "domlogic" ⌢ number_lexemes theory.version) ++ z)
     (ap (λ (z : List ℕ). z ++ joined_texts
-    (map (λ f. text_of_lines (procedure_lines (procedure_of f))) theory.procedures))
+    (map (λ f. text_of_lines (procedure_lines 1 (procedure_of f))) theory.procedures))
     (sym (each_line logic_line logic_var_of theory.logic))
     ∙ ap (λ (z : List ℕ). text_of_lines (map logic_line (map logic_var_of theory.logic)) ++ z)
     (sym (procedures_text theory.procedures))
     ∙ sym (lines_append (map logic_line (map logic_var_of theory.logic))
-    (procedures_lines (map procedure_of theory.procedures))))
+    (procedures_lines 1 (map procedure_of theory.procedures))))
     ∙ sym (line_first (the "domlogic" ⌢ number_lexemes theory.version)
     (map logic_line (map logic_var_of theory.logic)
-    ++ procedures_lines (map procedure_of theory.procedures)))
+    ++ procedures_lines 1 (map procedure_of theory.procedures)))
+    ∙ ap (λ (z : List ℕ). text_of (the "domlogic" ⌢ number_lexemes theory.version)
+    ++ (newline ∷ z))
+    (lines_append (map logic_line (map logic_var_of theory.logic))
+    (procedures_lines 1 (map procedure_of theory.procedures))
+    ∙ ap (λ (z : List ℕ). text_of_lines (map logic_line (map logic_var_of theory.logic)) ++ z)
+    (sym (procedures_same theory.version (map procedure_of theory.procedures)))
+    ∙ sym (lines_append (map logic_line (map logic_var_of theory.logic))
+    (procedures_lines theory.version (map procedure_of theory.procedures))))

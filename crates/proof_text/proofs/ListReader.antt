@@ -7,7 +7,7 @@ use Rattle.model_text.specs.Lexemes.{Lexeme, terminal, name_lexeme}
 use Rattle.model_grammar.specs.Words.{the}
 use Rattle.model_grammar.specs.Terms.{used_name, SpellsName, a_name, SpellsValueSort, node_word, list_word, int_word, str_word, bool_word, SpellsDataSort, tree_word, forest_word, grove_word}
 use Rattle.model_grammar.specs.Commands.{Listed, last_item, more_items, Bracketed, no_item, some_items, SpellsVariable, a_variable}
-use Rattle.model_text.proofs.OfTokens.{name_seen, node_seen, g_seen}
+use Rattle.model_text.proofs.Usual.{name_seen, node_seen, g_seen}
 use Rattle.token_readers.specs.Reading.{Read, ret, then, when, expect, leaf, sep_list}
 use Rattle.token_readers.specs.Leaves.{leaf_name}
 use Rattle.proof_text.specs.Lists.{comma, called, leaf_value_sort, leaf_data_sort, leaf_variable, bracketed_at}

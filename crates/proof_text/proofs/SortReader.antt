@@ -1,21 +1,37 @@
 -- The readers of the words of theories read what the grammar spells, and only that.
 use Rattle.model_limits.specs.Limits.{standard_limits}
-use Rattle.std.proofs.Common.{◌≡◌, ℕ, List, [], ◌∷◌, ◌++◌, Some, subst, codes, arith}
-use Rattle.std.specs.Prelude.{nat_le}
+use Rattle.std.proofs.Common.{◌≡◌, ℕ, Bool, true, false, List, [], ◌∷◌, ◌++◌, Some, refl, sym, ap, ◌∙◌, subst, bytes_eq, codes, arith}
+use Rattle.std.specs.Prelude.{◌||◌, nat_le}
+use Rattle.std.proofs.Math.Bool.{or-true}
 use Rattle.std.proofs.lemmas.Bool.{leb-true, le-leb}
+use Rattle.std.proofs.lemmas.Slice.Eq.{bytes_eq-Decides}
 use Rattle.model_shapes.specs.Sorts.{node_sort, list_sort, int_sort, str_sort, bool_sort, tree, forest, grove, Sort, value, shape, context}
 use Rattle.model_text.specs.Lexemes.{Lexeme, terminal, name_lexeme, step_word, number_lexeme, is_reserved}
+use Rattle.model_text.specs.Versions.{insert_word}
 use Rattle.model_grammar.specs.Terms as g
 use Rattle.model_grammar.specs.Terms.{SpellsShapeSort, data_sort, SpellsSort, value_sort_word, shape_sort_word}
-use Rattle.model_grammar.specs.Theories.{SpellsAnyWord, plain_word, reserved_word, step_itself, SpellsNumber, small_number}
-use Rattle.model_text.proofs.OfTokens.{name_seen, number_seen, node_seen, g_seen}
+use Rattle.model_grammar.specs.Theories.{SpellsAnyWord, plain_word, reserved_word, step_itself, insert_itself, SpellsNumber, small_number}
+use Rattle.model_text.proofs.Usual.{name_seen, number_seen, node_seen, g_seen}
 use Rattle.token_readers.specs.Leaves.{leaf_word, leaf_number}
 use Rattle.token_readers.specs.Reading.{leaf}
+use Rattle.token_readers.proofs.TerminalTests.{text_refl}
 use Rattle.logic_text.proofs.LeafReader.{chosen, taken}
 use Rattle.proof_text.specs.Theories.{leaf_shape_sort, shape_sort_called, leaf_sort}
 use Rattle.token_readers.proofs.Sound.{Sound, s_leaf}
 use Rattle.token_readers.proofs.Only.{Only, OrDeep, read, Prefix_free}
 use Rattle.proof_text.proofs.ListReader.{called_it}
+
+-- a terminal that some version reserves is a word
+reserved_is : (w : List ℕ) → (is_reserved w || bytes_eq w insert_word) ≡ true
+    → SpellsAnyWord w (terminal w ∷ [])
+reserved_is w e = by_test (is_reserved w) refl e
+  where
+    by_test : (b : Bool) → is_reserved w ≡ b → (b || bytes_eq w insert_word) ≡ true
+        → SpellsAnyWord w (terminal w ∷ [])
+    by_test true is h = reserved_word w is
+    by_test false is h =
+        subst (λ z. SpellsAnyWord z (terminal z ∷ [])) (sym ((bytes_eq-Decides w insert_word).0 h))
+        insert_itself
 
 word_is : (t : Lexeme) (a : List ℕ) → leaf_word t ≡ Some a → SpellsAnyWord a (t ∷ [])
 word_is (name_lexeme w) a e = let h : w ≡ a = cc in subst
@@ -23,8 +39,8 @@ word_is (name_lexeme w) a e = let h : w ≡ a = cc in subst
 word_is (step_word line) a e = let h : codes "step" ≡ a = cc in subst
     (λ z. SpellsAnyWord z (step_word line ∷ [])) h (step_itself line)
 word_is (terminal w) a e =
-    let h = chosen (is_reserved w) w a e in
-    subst (λ z. SpellsAnyWord z (terminal w ∷ [])) h.1 (reserved_word w h.0)
+    let h = chosen (is_reserved w || bytes_eq w insert_word) w a e in
+    subst (λ z. SpellsAnyWord z (terminal w ∷ [])) h.1 (reserved_is w h.0)
 word_is _ a e = absurd cc
 
 number_is : (t : Lexeme) (a : ℕ) → leaf_number t ≡ Some a → SpellsNumber a (t ∷ [])
@@ -102,8 +118,14 @@ word_only = record { only = λ a s rest l st. reads a s rest l }
     reads : (a : List ℕ) (s rest : List Lexeme) → SpellsAnyWord a s
         → OrDeep (leaf leaf_word (s ++ rest)) a rest
     reads a s rest (plain_word w) = read
-    reads a s rest (reserved_word w e) = taken (is_reserved w) w rest _ e
+    reads a s rest (reserved_word w e) =
+        taken (is_reserved w || bytes_eq w insert_word) w rest _
+        (ap (λ b. b || bytes_eq w insert_word) e)
     reads a s rest (step_itself line) = read
+    reads a s rest insert_itself =
+        taken (is_reserved insert_word || bytes_eq insert_word insert_word) insert_word rest _
+        (ap (λ b. is_reserved insert_word || b) (text_refl insert_word)
+        ∙ or-true (is_reserved insert_word))
 
 pub number_only : Only (leaf leaf_number) SpellsNumber Prefix_free
 number_only = record { only = λ a s rest l st. reads a s rest l }

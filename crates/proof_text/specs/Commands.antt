@@ -6,7 +6,7 @@ use Rattle.model_terms.specs.Variables.{prog}
 use Rattle.model_terms.specs.Terms.{Term, variable}
 use Rattle.model_terms.specs.Stores.{ProgVar, named}
 use Rattle.model_terms.specs.Conditions.{Cond, cond_true, cond_false, cond_variable, cond_equal, cond_at_most, cond_not, cond_and, cond_or}
-use Rattle.model_commands.specs.Commands.{Command, skip, block, assign, create_node, node_name, child_nodes, parent_node, list_item, append_child, remove_child, if_else, while_do, local, call, Block}
+use Rattle.model_commands.specs.Commands.{Command, skip, block, assign, create_node, node_name, child_nodes, parent_node, list_item, append_child, remove_child, insert_before, if_else, while_do, local, call, Block}
 use Rattle.theory_syntax.specs.Commands.{block_with}
 use Rattle.model_text.specs.Lexemes.{Lexeme}
 use Rattle.model_grammar.specs.Terms.{in_command}
@@ -71,6 +71,12 @@ two_at term make =
     expect (codes "(") (then term λ a. expect (codes ",") (then term λ b. expect (codes ")")
     (ret (make a b))))
 
+-- three terms in brackets
+unfoldable pub three_at : Read Term → (Term → Term → Term → Command) → Read Command
+three_at term make =
+    expect (codes "(") (then term λ a. expect (codes ",") (then term λ b. expect (codes ",")
+    (then term λ c. expect (codes ")") (ret (make a b c)))))
+
 -- what a variable is set to
 unfoldable pub setting_at : Read Term → ProgVar → Read Command
 setting_at term x =
@@ -104,7 +110,8 @@ unfoldable pub change_at : Read Term → Read Command
 change_at term =
     when (codes "appendChild") (two_at term append_child)
     (when (codes "removeChild") (two_at term remove_child)
-    (then (leaf leaf_variable) λ x. expect (codes ":=") (setting_at term x)))
+    (when (codes "insertBefore") (three_at term insert_before)
+    (then (leaf leaf_variable) λ x. expect (codes ":=") (setting_at term x))))
 
 unfoldable pub command_at : ℕ → ℕ → Read Command
 command_at most zero ts = Err Deep

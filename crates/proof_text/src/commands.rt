@@ -1,5 +1,6 @@
 // Commands.
 ghost use Rattle.std.specs.Prelude.{◌≡◌, map};
+ghost use Rattle.model_commands.specs.Commands.{insert_before};
 ghost use Rattle.model_grammar.specs.Terms.{in_command};
 ghost use Rattle.dom_terms.specs.Terms.{prog_var_of, term_of};
 ghost use Rattle.theory_syntax.specs.Commands.{block_of, command_of};
@@ -8,7 +9,7 @@ ghost use Rattle.token_readers.specs.Giving.{Gives};
 ghost use Rattle.token_readers.specs.Leaves.{lexemes_in};
 ghost use Rattle.logic_text.specs.TermReaders.{term_at};
 ghost use Rattle.proof_text.specs.Queries.{query_of, change_of};
-ghost use Rattle.proof_text.specs.Commands.{cond_at, semicolon, block_rest, block_at, one_at, two_at, setting_at, choice_at, loop_at, local_at, call_at, change_at, command_at};
+ghost use Rattle.proof_text.specs.Commands.{cond_at, semicolon, block_rest, block_at, one_at, two_at, three_at, setting_at, choice_at, loop_at, local_at, call_at, change_at, command_at};
 
 use crate::bracketed::{terms, variables};
 use crate::conditions::condition;
@@ -93,6 +94,23 @@ fn two(alloc: Global, depth: u32, change: Change, tokens: &mut Front) -> Result<
     Ok(changed(change, first, second))
 }
 
+// Three terms in brackets: a parent, a child and the child before which it goes.
+#[tactic(auto, unfolding(crate::specs::Commands::three_at))]
+#[inline(always)]
+fn three(alloc: Global, depth: u32, tokens: &mut Front) -> Result<Command, ReadFault>
+    ensures { Gives (λ found. (command_of found, lexemes_in tokens.new)) result
+        (three_at (term_at in_command depth) insert_before (lexemes_in tokens.old)) }
+{
+    expect(tokens, "(")?;
+    let parent = term(alloc, Place::Command, depth, tokens)?;
+    let parent = followed_by(parent, tokens, ",")?;
+    let begun = with(parent, term(alloc, Place::Command, depth, tokens))?;
+    let begun = followed_by(begun, tokens, ",")?;
+    let whole = with(begun, term(alloc, Place::Command, depth, tokens))?;
+    let ((parent, child), next) = followed_by(whole, tokens, ")")?;
+    Ok(Command::InsertBefore(parent, child, next))
+}
+
 // What the variable is set to.
 #[tactic(auto, unfolding(crate::specs::Commands::setting_at))]
 fn setting(alloc: Global, depth: u32, x: ProgVar, tokens: &mut Front) -> Result<Command, ReadFault>
@@ -129,6 +147,10 @@ fn other_command(alloc: Global, depth: u32, tokens: &mut Front) -> Result<Comman
     }
     if skip(tokens, "removeChild") {
         return two(alloc, depth, Change::Remove, tokens);
+    }
+    // the tokens have the word as a symbol in a file of version 2 alone
+    if skip(tokens, "insertBefore") {
+        return three(alloc, depth, tokens);
     }
     let x = followed_by(variable(alloc, tokens)?, tokens, ":=")?;
     setting(alloc, depth, x, tokens)

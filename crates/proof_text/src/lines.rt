@@ -12,6 +12,9 @@ ghost use Rattle.dom_terms.specs.Terms.{prog_var_of, logic_var_of, term_of};
 ghost use Rattle.model_commands.specs.Theories.{entails};
 ghost use Rattle.model_grammar.specs.Writing.{formula_lexemes, command_lexemes, procedure_lines};
 ghost use Rattle.model_grammar.specs.Writing.{theory_text};
+ghost use Rattle.model_grammar.specs.Sorts.{with_sorts};
+ghost use Rattle.model_round_trip.specs.Writable.{IsWritableTheory};
+ghost use Rattle.model_round_trip.specs.ReadBack.{ReadsAs};
 ghost use Rattle.formula_syntax.specs.Formulas.{formula_of};
 ghost use Rattle.formula_syntax.specs.Entailments.{entailment_of};
 ghost use Rattle.theory_syntax.specs.Commands.{command_of};
@@ -89,7 +92,7 @@ fn push_arguments(alloc: Global, text: &mut Text, arguments: &Terms) -> Result<(
 
 // Puts at the end why a step holds.
 fn push_reason(alloc: Global, text: &mut Text, reason: &Reason) -> Result<(), OutOfMemory>
-    ensures { OnOk result (text.new ≡ text.old ++ spaced (reason_lexemes (reason_of reason.now))) }
+    ensures { OnOk result (text.new ≡ text.old ++ spaced (reason_lexemes 1 (reason_of reason.now))) }
 {
     match reason {
         Reason::Auto => push_token(alloc, text, "auto"),
@@ -166,11 +169,11 @@ pub trait Lines: Sized {
 }
 
 impl Lines for Step {
-    ghost own_text = { λ step. line_text (step_line (step_of step)) };
+    ghost own_text = { λ step. line_text (step_line 1 (step_of step)) };
 
     #[tactic(auto, using(model_grammar::proofs::Spaced::spaced_rules))]
     fn push_lines(&self, alloc: Global, text: &mut Text) -> Result<(), OutOfMemory>
-        ensures { OnOk result (text.new ≡ text.old ++ line_text (step_line (step_of self.now))) }
+        ensures { OnOk result (text.new ≡ text.old ++ line_text (step_line 1 (step_of self.now))) }
     {
         push_str(alloc, text, "step")?;
         push_numeral(alloc, text, u64::from(self.number))?;
@@ -285,11 +288,11 @@ fn push_header(alloc: Global, text: &mut Text, procedure: &Procedure) -> Result<
 }
 
 impl Lines for Procedure {
-    ghost own_text = { λ procedure. text_of_lines (procedure_lines (procedure_of procedure)) };
+    ghost own_text = { λ procedure. text_of_lines (procedure_lines 1 (procedure_of procedure)) };
 
     fn push_lines(&self, alloc: Global, text: &mut Text) -> Result<(), OutOfMemory>
         ensures { OnOk result (text.new ≡ text.old
-            ++ text_of_lines (procedure_lines (procedure_of self.now))) }
+            ++ text_of_lines (procedure_lines 1 (procedure_of self.now))) }
     {
         push_header(alloc, text, self)?;
         push_condition_line(alloc, text, "requires", &self.pre)?;
@@ -303,9 +306,13 @@ impl Lines for Procedure {
 }
 
 /// The text of the theory: its tokens with one space between each two, or a newline before each of
-/// the words that begin a line; and a newline at the end.
+/// the words that begin a line; and a newline at the end. Where the theory can be written and each
+/// variable has the sort of its declaration, the text reads back as it, but for the lines of steps.
 pub fn write_theory(alloc: Global, theory: &Theory) -> Result<Text, OutOfMemory>
-    ensures { IfOk result (λ text. text ≡ theory_text (theory_of theory.now)) }
+    ensures written { IfOk result (λ text. text ≡ theory_text (theory_of theory.now)) }
+    ensures reads_back { IsWritableTheory (theory_of theory.now)
+        → with_sorts (theory_of theory.now) ≡ theory_of theory.now
+        → IfOk result (λ text. ReadsAs (theory_of theory.now) text) }
 {
     let mut text = Text::new(alloc);
     push_str(alloc, &mut text, "domlogic")?;
@@ -313,5 +320,7 @@ pub fn write_theory(alloc: Global, theory: &Theory) -> Result<Text, OutOfMemory>
     push_str(alloc, &mut text, "\n")?;
     push_each(alloc, &mut text, theory.logic.as_slice())?;
     push_each(alloc, &mut text, theory.procedures.as_slice())?;
+    // so each literal in it is UTF-8, as the law asks that it reads back by
+    text.is_utf8();
     Ok(text)
 }

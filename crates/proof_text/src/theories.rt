@@ -114,7 +114,7 @@ pub fn theory_from<J: StepJudge>(alloc: Global, tokens: Front) -> Result<ReadThe
     ensures fault_token { AreOfTokens (lexemes_in tokens.entry)
         → IfBadText result (IsFaultToken SpellsTheory (lexemes_in tokens.entry)) }
 {
-    match whole_theory::<J>(alloc, tokens) {
+    match whole_theory::<J>(alloc, tokens.in_its_version()) {
         Ok(found) => Ok(found),
         Err(fault) => Err(fault.of_whole(tokens.count())),
     }

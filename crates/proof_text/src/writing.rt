@@ -1,13 +1,17 @@
 // Conditions and commands as text.
-ghost use Rattle.std.specs.Prelude.{◌≡◌, [], ◌∷◌, ◌++◌, codes, map, OnOk, IfOk};
+ghost use Rattle.std.specs.Prelude.{◌≡◌, ℕ, [], ◌∷◌, ◌++◌, codes, map, OnOk, IfOk};
 ghost use Rattle.model_terms.specs.Conditions as conditions;
 ghost use Rattle.model_commands.specs.Commands as commands;
 ghost use Rattle.model_text.specs.Lexemes.{terminal};
+ghost use Rattle.model_text.specs.Versions.{seen_in, IsOfVersion};
+ghost use Rattle.model_text.specs.Nesting.{lexemes_of};
+ghost use Rattle.model_grammar.specs.Sorts.{Declared, sorted_command};
 ghost use Rattle.model_grammar.specs.Words.{the, ◌⌢◌};
 ghost use Rattle.model_grammar.specs.Writing.{spaced, text_of, bracketed, term_lexemes};
 ghost use Rattle.model_grammar.specs.Writing.{cond_lexemes, command_lexemes, block_lexemes};
 ghost use Rattle.model_grammar.specs.Writing.{name_lexemes, value_sort_lexemes, set_to};
-ghost use Rattle.model_grammar.specs.Writing.{in_brackets};
+ghost use Rattle.model_grammar.specs.Writing.{in_brackets, Each, IsWritableCommand};
+ghost use Rattle.model_round_trip.specs.ReadBack.{SpellsCommandAt};
 ghost use Rattle.dom_terms.specs.Sorts.{value_sort_of};
 ghost use Rattle.dom_terms.specs.Terms.{prog_var_of, term_of};
 ghost use Rattle.dom_terms.specs.Conditions.{cond_of};
@@ -151,6 +155,29 @@ fn push_on_two(
     Ok(())
 }
 
+// Puts the word of a change and its three operands at the end.
+#[tactic(auto, using(model_grammar::proofs::Spaced::spaced_rules))]
+fn push_on_three(
+    alloc: Global,
+    text: &mut Text,
+    word: &str,
+    first: &Term,
+    second: &Term,
+    third: &Term,
+) -> Result<(), OutOfMemory>
+    ensures { OnOk result (text.new ≡ text.old ++ spaced (terminal word.now ∷ []
+        ⌢ in_brackets (term_lexemes (term_of first.now) ∷ term_lexemes (term_of second.now)
+        ∷ term_lexemes (term_of third.now) ∷ []))) }
+{
+    push_token(alloc, text, word)?;
+    push_token(alloc, text, "(")?;
+    push_compared(alloc, text, first, ",", second)?;
+    push_token(alloc, text, ",")?;
+    push_term(alloc, text, third)?;
+    push_token(alloc, text, ")")?;
+    Ok(())
+}
+
 // Puts at the end what the document is asked for a variable.
 #[tactic(auto, using(model_grammar::proofs::Spaced::spaced_rules))]
 fn push_asked(
@@ -256,6 +283,9 @@ pub fn push_command(alloc: Global, text: &mut Text, command: &Command) -> Result
         Command::Item(x, list, place) => push_item(alloc, text, x, list, place),
         Command::Append(parent, child) => push_on_two(alloc, text, "appendChild", parent, child),
         Command::Remove(parent, child) => push_on_two(alloc, text, "removeChild", parent, child),
+        Command::InsertBefore(parent, child, next) => {
+            push_on_three(alloc, text, "insertBefore", parent, child, next)
+        }
         Command::If(cond, first, second) => {
             push_token(alloc, text, "if")?;
             push_condition(alloc, text, cond)?;
@@ -281,11 +311,22 @@ pub fn push_command(alloc: Global, text: &mut Text, command: &Command) -> Result
     }
 }
 
-/// The text of the command: its tokens with one space between each two.
+/// The text of the command: its tokens with one space between each two. Where the command can be
+/// written, its words are those of the version and its variables have the sorts that are declared,
+/// the text reads back as it in a file of the version.
 pub fn write_command(alloc: Global, command: &Command) -> Result<Text, OutOfMemory>
-    ensures { IfOk result (λ text. text ≡ text_of (command_lexemes (command_of command.now))) }
+    ensures written { IfOk result (λ text.
+        text ≡ text_of (command_lexemes (command_of command.now))) }
+    ensures reads_back { (version : ℕ) (declared : Declared)
+        → IsWritableCommand (command_of command.now)
+        → Each (IsOfVersion version) (command_lexemes (command_of command.now))
+        → sorted_command declared (command_of command.now) ≡ command_of command.now
+        → IfOk result (λ text. SpellsCommandAt declared (command_of command.now)
+        (seen_in version (lexemes_of text))) }
 {
     let mut text = Text::new(alloc);
     push_command(alloc, &mut text, command)?;
+    // so each literal in it is UTF-8, as the law asks that it reads back by
+    text.is_utf8();
     without_space(alloc, &text)
 }

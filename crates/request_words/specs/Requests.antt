@@ -1,4 +1,5 @@
--- The requests of the definitions that those of the program stand for, and what it says of words.
+-- Needn't be believed: the program's promise doesn't speak of it. The requests of the definitions
+-- that those of the program stand for, and what it says of words.
 use Rattle.std.specs.Prelude.{◌≡◌, ◌≤◌, Result, Ok, Err, Option, Some, None}
 use Rattle.model_answers.specs.Words as model
 use Rattle.model_generator.specs.Generated.{most_makers}

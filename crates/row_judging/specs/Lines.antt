@@ -1,4 +1,5 @@
--- The stages that the program tests. Needn't be believed: the line that is read off.
+-- Needn't be believed: the program's promise doesn't speak of it. The stages that the program
+-- tests, for the line that is read off.
 use Rattle.rule_table.specs.Lines.{Line}
 use Rattle.rule_patterns.specs.Patterns.{line_of}
 use Rattle.rule_patterns.specs.Stages as stages

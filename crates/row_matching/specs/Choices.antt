@@ -1,4 +1,5 @@
--- What is written at a step, and the choice that is read off with a variable for $x.
+-- Needn't be believed: the program's promise doesn't speak of it. What is written at a step, and
+-- the choice that is read off with a variable for $x.
 use mathlib.Core.Path.{◌≡◌, refl}
 use Rattle.std.specs.Prelude.{Some, List, [], ◌∷◌, map}
 use Rattle.model_formulas.specs.Nameless.{nameless}

@@ -1,5 +1,5 @@
--- The verdicts of the table, and the names of its side conditions, that those of the program stand
--- for.
+-- Needn't be believed: the program's promise doesn't speak of it. The verdicts of the table, and
+-- the names of its side conditions, that those of the program stand for.
 use Rattle.rule_table.specs.Conditions as table
 use Rattle.rule_table.specs.Verdicts as table_verdicts
 use Rattle.dom_terms.specs.declared.verdicts.SideName.{SideName}

@@ -1,4 +1,5 @@
--- The names of the rules of entailment.
+-- Needn't be believed: the program's promise doesn't speak of it. The names of the rules of
+-- entailment.
 use Rattle.std.specs.Prelude.{codes}
 use Rattle.model_shapes.specs.Values.{Name}
 use Rattle.rule_rows.specs.declared.names.EntailRule.{EntailRule}

@@ -1,4 +1,5 @@
--- The ways of rule_patterns that the program's ways stand for.
+-- Needn't be believed: the program's promise doesn't speak of it. The ways of rule_patterns that
+-- the program's ways stand for.
 use Rattle.std.specs.Prelude.{Bool, true}
 use Rattle.rule_patterns.specs.Ways as ways
 use Rattle.row_patterns.specs.Binders.{all_single}

@@ -6,7 +6,7 @@ use Rattle.model_terms.specs.VariableTests.{same_var}
 use Rattle.model_shapes.proofs.Tests.{nat-is, nat-refl}
 use Rattle.model_terms.specs.VariableTests.{same_var-is, same_var-refl}
 use Rattle.model_terms.specs.Terms.{Term}
-use Rattle.model_terms.specs.VariableTests.{decided}
+use Rattle.model_terms.specs.VariableTests.{decided_by}
 use Rattle.model_formulas.specs.Formulas.{Formula, conjunction, equality, falsity}
 use Rattle.model_commands.specs.Commands.{Command}
 use Rattle.model_commands.specs.Theories.{Judgement, entails, triple}
@@ -16,8 +16,8 @@ use Rattle.rule_table.specs.Conditions.{TermAt, same_texts, tested, literal_side
 use Rattle.rule_table.specs.Notation.{instead}
 use Rattle.rule_table.specs.Entries.{Row}
 use Rattle.rule_table.specs.Verdicts.{Written, Concludes, SomeLine, Verdict, IsVerdict}
-use Rattle.rule_table.specs.Equations as Te
-use Rattle.rule_table.specs.Equations.{different_literals}
+use Rattle.rule_table.specs.Entailments as Te
+use Rattle.rule_table.specs.Entailments.{different_literals}
 use Rattle.rule_table.proofs.SomeLetters.{readings_of, plain_letters, left_in, right_in, is_entailment}
 use Rattle.rule_table.proofs.Decisions.{test_holds, both_hold, at_sort, Form, an_order, an_equation, just_false, another, Kind, order_kind, equation_kind, false_kind, other_kind, kind_of, form_of, equation≢order, equation≢false, equation≢other, false≢order, false≢equation, false≢other}
 use Rattle.rule_table.proofs.Determined.{refuted, Like, Determined, verdict_on, none_cited}
@@ -164,7 +164,7 @@ module _ (o : Option (List Judgement)) (p q : Formula) (s : Sort) where
   concat_sorted a b e (yes t) =
       verdict_on (Te.concat ∷ []) written (Te.concat (record (chosen a b) { P = p }))
       (concat_line a b e t.0 t.1) (none_cited o) (
-        decided (same_pieces (pieces a) (pieces b)) (same_pieces-is (pieces a) (pieces b))
+        decided_by (same_pieces (pieces a) (pieces b)) (same_pieces-is (pieces a) (pieces b))
             (same_pieces-not (pieces a) (pieces b)),
         tt,
       )

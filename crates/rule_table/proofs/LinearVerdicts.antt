@@ -12,7 +12,7 @@ use Rattle.rule_table.specs.Letters.{Letters}
 use Rattle.rule_table.specs.Conditions.{TermAt, of_sort, tested, coefficient_side, sum_side}
 use Rattle.rule_table.specs.Entries.{Row}
 use Rattle.rule_table.specs.Verdicts.{Written, Concludes, AllMet, Verdict, IsVerdict}
-use Rattle.rule_table.specs.Equations as Te
+use Rattle.rule_table.specs.Entailments as Te
 use Rattle.rule_table.proofs.SomeLetters.{readings_of, plain_letters, left_in, right_in, is_entailment}
 use Rattle.rule_table.proofs.Decisions.{test_holds, both_hold, at_sort, all_at_sort, Form, an_order, an_equation, just_false, another, Kind, order_kind, equation_kind, false_kind, other_kind, kind_of, form_of}
 use Rattle.rule_table.proofs.Determined.{Each_line, refuted, Like, Determined, verdict_on, none_cited}

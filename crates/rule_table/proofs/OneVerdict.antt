@@ -5,15 +5,8 @@ use Rattle.std.specs.List.{flat_map}
 use Rattle.model_commands.specs.Theories.{Procedures}
 use Rattle.rule_table.specs.Conditions.{free_side, pure_side, literal_side, coefficient_side, sum_side, texts_side, modified_side, assigned_side, SideName}
 use Rattle.rule_table.specs.Entries.{Entry}
-use Rattle.rule_table.specs.Table.{groups, entailments, triples, table}
-use Rattle.rule_table.specs.Logic as Logic
-use Rattle.rule_table.specs.Equations as Equations
-use Rattle.rule_table.specs.Structure as Structure
-use Rattle.rule_table.specs.Monotony as Monotony
-use Rattle.rule_table.specs.Contexts as Contexts
-use Rattle.rule_table.specs.Variables as Variables
-use Rattle.rule_table.specs.Nodes as Nodes
-use Rattle.rule_table.specs.Lengths as Lengths
+use Rattle.rule_table.specs.Table.{entailments, triples, table}
+use Rattle.rule_table.specs.Entailments.{connectives, equations, structure, monotony, contexts, variables, nodes, lengths, groups}
 use Rattle.rule_table.specs.Rules.{rules}
 use Rattle.rule_table.specs.Axioms.{axioms}
 use Rattle.rule_table.specs.Verdicts.{Written, Verdict, IsVerdict, readings_in}
@@ -41,8 +34,8 @@ groups-fixed [] h = tt
 groups-fixed (group ∷ more) h =
     append-fixed group (flat_map (λ entries. entries) more) h.0 (groups-fixed more h.1)
 
-logic-fixed : AllFixed Logic.entries
-logic-fixed =
+connectives-fixed : AllFixed connectives
+connectives-fixed =
     ([], ((λ l. refl), tt)) &
     ([], ((λ l. refl), tt)) &
     ([], ((λ l. refl), tt)) &
@@ -63,7 +56,7 @@ logic-fixed =
     ([], ((λ l. refl), tt)) &
     (free_side ∷ [], ((λ l. refl), tt)) & tt
 
-equations-fixed : AllFixed Equations.entries
+equations-fixed : AllFixed equations
 equations-fixed =
     ([], ((λ l. refl), tt)) &
     ([], ((λ l. refl), tt)) &
@@ -72,7 +65,7 @@ equations-fixed =
     (coefficient_side ∷ sum_side ∷ [], ((λ l. refl), ((λ l. refl), ((λ l. refl), tt)))) &
     (texts_side ∷ [], ((λ l. refl), tt)) & tt
 
-structure-fixed : AllFixed Structure.entries
+structure-fixed : AllFixed structure
 structure-fixed =
     ([], ((λ l. refl), tt)) &
     ([], ((λ l. refl), tt)) &
@@ -100,7 +93,7 @@ structure-fixed =
     ([], ((λ l. refl), tt)) &
     ([], ((λ l. refl), tt)) & tt
 
-monotony-fixed : AllFixed Monotony.entries
+monotony-fixed : AllFixed monotony
 monotony-fixed =
     ([], ((λ l. refl), tt)) &
     ([], ((λ l. refl), tt)) &
@@ -124,7 +117,7 @@ monotony-fixed =
           & (λ l. refl) & (λ l. refl) & (λ l. refl) & (λ l. refl) & (λ l. refl) & tt),
     ) & tt
 
-contexts-fixed : AllFixed Contexts.entries
+contexts-fixed : AllFixed contexts
 contexts-fixed =
     ([], ((λ l. refl), tt)) &
     ([], ((λ l. refl), tt)) &
@@ -153,7 +146,7 @@ contexts-fixed =
     ([], ((λ l. refl), tt)) &
     ([], ((λ l. refl), tt)) & tt
 
-variables-fixed : AllFixed Variables.entries
+variables-fixed : AllFixed variables
 variables-fixed =
     (free_side ∷ [], ((λ l. refl), tt)) &
     ([], ((λ l. refl), tt)) &
@@ -164,7 +157,7 @@ variables-fixed =
     ([], ((λ l. refl), tt)) &
     ([], ((λ l. refl), tt)) & tt
 
-nodes-fixed : AllFixed Nodes.entries
+nodes-fixed : AllFixed nodes
 nodes-fixed =
     ([], ((λ l. refl), tt)) &
     ([], ((λ l. refl), tt)) &
@@ -183,7 +176,7 @@ nodes-fixed =
     ([], ((λ l. refl), tt)) &
     ([], ((λ l. refl), tt)) & tt
 
-lengths-fixed : AllFixed Lengths.entries
+lengths-fixed : AllFixed lengths
 lengths-fixed =
     ([], ((λ l. refl), tt)) &
     ([], ((λ l. refl), tt)) &
@@ -219,11 +212,13 @@ axioms-fixed =
     (assigned_side ∷ [], ((λ l. refl), tt)) &
     (assigned_side ∷ [], ((λ l. refl), tt)) &
     ([], ((λ l. refl), ((λ l. refl), tt))) &
-    ([], ((λ l. refl), tt)) & tt
+    ([], ((λ l. refl), tt)) &
+    ([], ((λ l. refl), ((λ l. refl), tt))) &
+    ([], ((λ l. refl), ((λ l. refl), tt))) & tt
 
 entailments-fixed : AllFixed entailments
 entailments-fixed =
-    groups-fixed groups (logic-fixed & equations-fixed & structure-fixed & monotony-fixed
+    groups-fixed groups (connectives-fixed & equations-fixed & structure-fixed & monotony-fixed
     & contexts-fixed & variables-fixed & nodes-fixed & lengths-fixed & tt)
 
 table-fixed : (procedures : Procedures) → AllFixed (table procedures)

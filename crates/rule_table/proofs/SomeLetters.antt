@@ -34,6 +34,9 @@ plain_letters = record {
   J = literal null;
   M = literal null;
   G = literal null;
+  V = literal null;
+  Y = literal null;
+  N = literal null;
   x = record { name = codes "x"; sort = value node_sort };
   v = named [] node_sort;
   W = order (pos 0) (literal null) (literal null);

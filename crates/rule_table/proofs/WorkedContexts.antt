@@ -5,7 +5,6 @@ use Rattle.model_terms.specs.Terms.{variable}
 use Rattle.model_terms.specs.VariableTests.{var_eq}
 use Rattle.model_terms.specs.Variables.{logic}
 use Rattle.model_formulas.specs.Nameless.{nameless}
-use Rattle.rule_table.specs.Nodes as No
 use Rattle.model_formulas.specs.Substitution.{FreeIn, closing_at}
 use Rattle.model_formulas.specs.Formulas.{Named, one_tree, concatenation, whole, disjunction, empty, Formula, truth, existential, application, bare_hole, hole_adjoint, context_adjoint, same_as}
 use Rattle.model_commands.specs.Theories.{entails}
@@ -13,12 +12,11 @@ use Rattle.rule_table.specs.Letters.{Letters, LogicVar, as_logic, as_term}
 use Rattle.rule_table.specs.Notation.{◌and◌, ◌∗◌, ◌·∗◌, for_some}
 use Rattle.rule_table.specs.Verdicts.{IsVerdict, instance_verdict, shape_verdict, premises_verdict, side_verdict, readings_in}
 use Rattle.rule_table.specs.Conditions.{free_side}
-use Rattle.rule_table.specs.Contexts as Co
-use Rattle.rule_table.specs.Variables as Va
+use Rattle.rule_table.specs.Entailments.{contexts, variables, nodes}
 use Rattle.rule_table.proofs.SomeLetters.{a_step, plain_letters, left_in, right_in, sort_in}
 
 -- ((true -o true) @t true) entails true at tt concludes no hole_adj_out
-pub adjoint_at_a_context : IsVerdict (readings_in Co.entries (codes "hole_adj_out"))
+pub adjoint_at_a_context : IsVerdict (readings_in contexts (codes "hole_adj_out"))
     (a_step [] []
     (entails (application tree (hole_adjoint truth truth) truth) truth (context tree tree)))
     shape_verdict
@@ -28,13 +26,13 @@ adjoint_at_a_context m = ⊎_elim (λ y. wrong y.0 (ap sort_in y.1.2)) (λ none.
     wrong l e = cc
 
 -- at t it does
-pub adjoint_at_data : IsVerdict (readings_in Co.entries (codes "hole_adj_out"))
+pub adjoint_at_data : IsVerdict (readings_in contexts (codes "hole_adj_out"))
     (a_step [] [] (entails (application tree (hole_adjoint truth truth) truth) truth (shape tree)))
     instance_verdict
 adjoint_at_data = inl (record plain_letters { k = tree }, (((refl, tt, refl), refl), tt))
 
 -- ((?t @t ?t) @t true) entails (?t @t (?t @t true)) at t
-pub assoc_at_data : IsVerdict (readings_in Co.entries (codes "app_assoc"))
+pub assoc_at_data : IsVerdict (readings_in contexts (codes "app_assoc"))
     (a_step [] [] (entails
     (application tree (application tree (bare_hole tree) (bare_hole tree)) truth)
     (application tree (bare_hole tree) (application tree (bare_hole tree) truth)) (shape tree)))
@@ -46,7 +44,7 @@ assoc_at_data =
     )
 
 -- and at ft
-pub assoc_at_a_context : IsVerdict (readings_in Co.entries (codes "app_assoc"))
+pub assoc_at_a_context : IsVerdict (readings_in contexts (codes "app_assoc"))
     (a_step [] [] (entails
     (application tree (application tree (bare_hole tree) (bare_hole tree)) truth)
     (application tree (bare_hole tree) (application tree (bare_hole tree) truth))
@@ -59,7 +57,7 @@ assoc_at_a_context =
     )
 
 -- ((K @t P) * Q) is no reading of app_star_left at a context sort: there it is `.*`
-pub star_at_a_context : IsVerdict (readings_in Co.entries (codes "app_star_left"))
+pub star_at_a_context : IsVerdict (readings_in contexts (codes "app_star_left"))
     (a_step [] [] (entails (application forest (bare_hole forest ·∗ truth) truth)
     (application forest (bare_hole forest) truth ∗ truth) (context forest forest)))
     shape_verdict
@@ -74,7 +72,7 @@ star_at_a_context m = ⊎_elim (λ y. whole y.0 (ap sort_in y.1.2))
     left l e = cc
 
 -- ctx_adj_in at t with its premise at t, where `o-g` asks for g
-pub premise_at_another_sort : IsVerdict (readings_in Co.entries (codes "ctx_adj_in"))
+pub premise_at_another_sort : IsVerdict (readings_in contexts (codes "ctx_adj_in"))
     (a_step [] (entails (application tree truth truth) truth (shape tree) ∷ [])
     (entails truth (context_adjoint grove truth truth) (shape tree)))
     premises_verdict
@@ -98,7 +96,7 @@ abbrev z_as_formula : Formula
 z_as_formula = same_as (as_term z)
 
 -- $z entails (exists $z . ($z and $z)): some, but for the condition
-pub free_in_what_is_given : IsVerdict (readings_in Va.entries (codes "some"))
+pub free_in_what_is_given : IsVerdict (readings_in variables (codes "some"))
     (a_step [] [] (entails z_as_formula (for_some z (z_as_formula and z_as_formula)) (shape tree)))
     (side_verdict free_side)
 free_in_what_is_given = (
@@ -130,12 +128,12 @@ cases_named t f =
     (one_tree (same_as (variable (logic t (shape tree)))))
     (same_as (variable (logic f (shape forest)))))))
 
-pub cases_of_a_forest : IsVerdict (readings_in No.entries (codes "forest_cases"))
+pub cases_of_a_forest : IsVerdict (readings_in nodes (codes "forest_cases"))
     (a_step [] [] (entails truth (nameless (cases_named (codes "t") (codes "f"))) (shape forest)))
     instance_verdict
 cases_of_a_forest = inl (plain_letters, (((refl, tt, refl), refl), tt))
 
-pub cases_with_one_name : IsVerdict (readings_in No.entries (codes "forest_cases"))
+pub cases_with_one_name : IsVerdict (readings_in nodes (codes "forest_cases"))
     (a_step [] [] (entails truth (nameless (cases_named (codes "a") (codes "a"))) (shape forest)))
     instance_verdict
 cases_with_one_name = inl (plain_letters, (((refl, tt, refl), refl), tt))

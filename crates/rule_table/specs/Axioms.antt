@@ -6,15 +6,15 @@ use Rattle.model_shapes.specs.Values.{null, int}
 use Rattle.model_terms.specs.Variables.{bound}
 use Rattle.model_terms.specs.Terms.{literal, variable, raised}
 use Rattle.model_formulas.specs.Formulas.{Formula, at_most, existential, application, empty, node_formula, one_tree, one_root, length_is}
-use Rattle.model_commands.specs.Commands.{create_node, node_name, child_nodes, parent_node, list_item, append_child, remove_child}
-use Rattle.rule_table.specs.Letters.{Letters, one_node, other_node}
+use Rattle.model_commands.specs.Commands.{create_node, node_name, child_nodes, parent_node, list_item, append_child, remove_child, insert_before}
+use Rattle.rule_table.specs.Letters.{Letters, one_node, other_node, third_node}
 use Rattle.rule_table.specs.Notation.{hoare, ◌and◌, ◌or◌, ◌∗◌, ◌⊹◌, ◌⊸◌, ◌equals◌, prog_term}
 use Rattle.rule_table.specs.Conditions.{assigned, assigned_term}
 use Rattle.rule_table.specs.Lines.{Line, always, ◌provided◌}
 use Rattle.rule_table.specs.Entries.{Entry, ◌is◌}
 
 module _ (letters : Letters) where
-  open letters use {P, R, K, E, F, G, I, L, T, J, S, v, k}
+  open letters use {P, R, K, E, F, G, I, L, T, J, S, V, v, k}
 
   -- S#I[p]%L, and T#J[Q]%M
   abbrev node_with : Formula → Formula
@@ -91,15 +91,20 @@ module _ (letters : Letters) where
   create_axiom = always (hoare (empty grove and (E equals T)) (create_node v E) new_root grove)
       provided assigned_term v T
 
+  -- ((((0h -o (K @t S#I[p]%L)) @h U) and E = I) and F = J): the tree U, which is to move, stands in
+  -- a hole of the sort h, and the parent in what is left where the hole is empty
+  abbrev before_move : DataSort → Formula → Formula → Formula
+  before_move h U p =
+      (application h (empty h ⊸ application tree K (node_with p)) U and (E equals I)) and (F equals J)
+
+  -- (K @t S#I[(P * <T#J[Q]%M>)]%L)
+  abbrev moved_last : Formula
+  moved_last = application tree K (node_with (P ∗ one_tree child))
+
   -- {((((0h -o (K @t S#I[P]%L)) @h U) and E = I) and F = J)} appendChild(E, F)
-  -- {(K @t S#I[(P * <T#J[Q]%M>)]%L)}: the moved tree U stands in a hole of the sort h, and the
-  -- parent in what is left where the hole is empty
+  -- {(K @t S#I[(P * <T#J[Q]%M>)]%L)}
   abbrev pub append_axiom : DataSort → Formula → DataSort → Line
-  append_axiom h U d = always (hoare
-      ((application h (empty h ⊸ application tree K (node_with P)) U
-      and (E equals I)) and (F equals J))
-      (append_child E F)
-      (application tree K (node_with (P ∗ one_tree child))) d)
+  append_axiom h U d = always (hoare (before_move h U P) (append_child E F) moved_last d)
 
   -- U is <T#J[Q]%M>, in any data
   abbrev pub append_in_forest : Line
@@ -108,6 +113,37 @@ module _ (letters : Letters) where
   -- U is [T#J[Q]%M], in a grove
   abbrev pub append_in_grove : Line
   append_in_grove = append_axiom grove (one_root child) grove
+
+  -- Y#V[A]%N, the child before which another goes
+  abbrev next_child : Formula
+  next_child = third_node letters
+
+  -- {(((((0h -o (K @t S#I[((P * <Y#V[A]%N>) * R)]%L)) @h U) and E = I) and F = J) and G = V)}
+  -- insertBefore(E, F, G) {(K @t S#I[(((P * <T#J[Q]%M>) * <Y#V[A]%N>) * R)]%L)}: the next child is
+  -- one of the parent's where the hole is empty
+  abbrev pub insert_before_axiom : DataSort → Formula → DataSort → Line
+  insert_before_axiom h U d = always (hoare
+      (before_move h U ((P ∗ one_tree next_child) ∗ R) and (G equals V))
+      (insert_before E F G)
+      (application tree K (node_with (((P ∗ one_tree child) ∗ one_tree next_child) ∗ R))) d)
+
+  abbrev pub insert_before_in_forest : Line
+  insert_before_in_forest = insert_before_axiom forest (one_tree child) k
+
+  abbrev pub insert_before_in_grove : Line
+  insert_before_in_grove = insert_before_axiom grove (one_root child) grove
+
+  -- {(((((0h -o (K @t S#I[P]%L)) @h U) and E = I) and F = J) and G = null)} insertBefore(E, F, G)
+  -- {(K @t S#I[(P * <T#J[Q]%M>)]%L)}
+  abbrev pub insert_last_axiom : DataSort → Formula → DataSort → Line
+  insert_last_axiom h U d = always (hoare
+      (before_move h U P and (G equals literal null)) (insert_before E F G) moved_last d)
+
+  abbrev pub insert_last_in_forest : Line
+  insert_last_in_forest = insert_last_axiom forest (one_tree child) k
+
+  abbrev pub insert_last_in_grove : Line
+  insert_last_in_grove = insert_last_axiom grove (one_root child) grove
 
   -- {(((K @t S#I[((P * <T#J[Q]%M>) * R)]%L) and E = I) and F = J)} removeChild(E, F)
   -- {((K @t S#I[(P * R)]%L) + [T#J[Q]%M])}
@@ -128,4 +164,6 @@ axioms =
     (codes "parent_none" is parent_none_axiom ∷ []) ∷
     (codes "create" is create_axiom ∷ []) ∷
     (codes "append" is append_in_forest ∷ append_in_grove ∷ []) ∷
-    (codes "remove" is remove_axiom ∷ []) ∷ []
+    (codes "remove" is remove_axiom ∷ []) ∷
+    (codes "insert_before" is insert_before_in_forest ∷ insert_before_in_grove ∷ []) ∷
+    (codes "insert_last" is insert_last_in_forest ∷ insert_last_in_grove ∷ []) ∷ []

@@ -55,6 +55,9 @@ pub record Letters : Type 0 where
   pub J : Term
   pub M : Term
   pub G : Term
+  pub V : Term
+  pub Y : Term
+  pub N : Term
   -- the logic variable, written $x in the rows
   pub x : LogicVar
   -- comparisons, each with the number that it is multiplied by
@@ -85,3 +88,7 @@ one_node l p = node_formula l.S l.I p l.L
 -- T#J[Q]%M, the other
 abbrev pub other_node : Letters → Formula
 other_node l = node_formula l.T l.J l.Q l.M
+
+-- Y#V[A]%N, a third
+abbrev pub third_node : Letters → Formula
+third_node l = node_formula l.Y l.V l.A l.N

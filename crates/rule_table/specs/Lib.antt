@@ -6,15 +6,8 @@ pub mod Notation
 pub mod Conditions
 pub mod Lines
 pub mod Entries
-pub mod Logic
-pub mod Equations
-pub mod Structure
-pub mod Monotony
-pub mod Contexts
 pub mod Closed
-pub mod Variables
-pub mod Nodes
-pub mod Lengths
+pub mod Entailments
 pub mod Rules
 pub mod Axioms
 pub mod Table

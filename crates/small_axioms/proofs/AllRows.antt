@@ -25,6 +25,8 @@ rows-bare a.ParentNone = (λ l. bare, tt)
 rows-bare a.Create = (λ l. bare, tt)
 rows-bare a.Append = (λ l. bare, (λ l. bare, tt))
 rows-bare a.Remove = (λ l. bare, tt)
+rows-bare a.InsertBefore = (λ l. bare, (λ l. bare, tt))
+rows-bare a.InsertLast = (λ l. bare, (λ l. bare, tt))
 
 pub axiom-at-step : (rule : Axiom) (earlier : List Step) (judgement : Judgement) (ns : List ℕ)
     (arguments : List Term) (has_none cites_nothing : Bool) (v w : Verdict)

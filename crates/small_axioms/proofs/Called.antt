@@ -30,4 +30,5 @@ module _ (name : Name) where
   called-fits =
       one-more a.Name _ _ _ (one-more a.Children _ _ _ (one-more a.Item _ _ _
       (one-more a.ItemNone _ _ _ (one-more a.Parent _ _ _ (one-more a.ParentNone _ _ _
-      (one-more a.Create _ _ _ (one-more a.Append _ _ _ (one-more a.Remove _ None [] refl))))))))
+      (one-more a.Create _ _ _ (one-more a.Append _ _ _ (one-more a.Remove _ _ _
+      (one-more a.InsertBefore _ _ _ (one-more a.InsertLast _ None [] refl))))))))))

@@ -4,9 +4,11 @@ pub mod Assigned
 pub mod BelowOne
 pub mod Listed
 pub mod Fits
+pub mod InsertFits
 pub mod Seen
 pub mod Judged
 pub mod Steps
 pub mod Called
 pub mod AllRows
 pub mod NewNames
+pub mod Sound

@@ -2,13 +2,13 @@
 use Rattle.std.proofs.Common.{◌≡◌, refl, true, List, [], ◌∷◌}
 use Rattle.model_shapes.proofs.Truth.{false≢true}
 use Rattle.model_formulas.specs.Formulas.{Formula}
-use Rattle.model_commands.specs.Commands.{Command, create_node, node_name, child_nodes, parent_node, list_item, append_child, remove_child}
+use Rattle.model_commands.specs.Commands.{Command, create_node, node_name, child_nodes, parent_node, list_item, append_child, remove_child, insert_before}
 use Rattle.model_commands.specs.Theories.{Judgement}
 use Rattle.rule_table.specs.Lines.{always}
 use Rattle.rule_table.specs.Conditions.{Condition, assigned, assigned_term}
-use Rattle.rule_table.specs.Axioms.{name_axiom, children_axiom, item_axiom, item_none_axiom, parent_axiom, parent_none_axiom, create_axiom, append_in_forest, append_in_grove, remove_axiom}
-use Rattle.small_axioms.specs.Parts.{target, first_term, second_term, command_part}
-use Rattle.small_axioms.specs.Readings.{new_name, first_conjunct, innermost, read_node, read_item, read_item_none, read_parent, read_parent_none, read_create, read_append, read_remove}
+use Rattle.rule_table.specs.Axioms.{name_axiom, children_axiom, item_axiom, item_none_axiom, parent_axiom, parent_none_axiom, create_axiom, append_in_forest, append_in_grove, remove_axiom, insert_before_in_forest, insert_before_in_grove, insert_last_in_forest, insert_last_in_grove}
+use Rattle.small_axioms.specs.Parts.{target, first_term, second_term, third_term, command_part}
+use Rattle.small_axioms.specs.Readings.{new_name, first_conjunct, innermost, read_node, read_item, read_item_none, read_parent, read_parent_none, read_create, read_append, read_remove, read_insert_before, read_insert_last}
 use Rattle.small_axioms.specs.Tests.{same_kind}
 use Rattle.small_axioms.proofs.Exact.{Bare, ReadOff}
 
@@ -48,6 +48,12 @@ pub remove-kept : (c : Command) → same_kind (remove_child (first_term c) (seco
     → remove_child (first_term c) (second_term c) ≡ c
 remove-kept (remove_child e f) h = refl
 remove-kept c h = false≢true h
+
+pub insert-kept : (c : Command)
+    → same_kind (insert_before (first_term c) (second_term c) (third_term c)) c ≡ true
+    → insert_before (first_term c) (second_term c) (third_term c) ≡ c
+insert-kept (insert_before e f g) h = refl
+insert-kept c h = false≢true h
 
 -- CONDITIONS: the variable that is set isn't in the node
 abbrev pub not_in_node : (Judgement → Formula) → Judgement → List Condition
@@ -182,4 +188,52 @@ remove-read = record {
   its_kind = λ l. refl;
   its_parts = λ l. refl;
   its_command = λ j. remove-kept (command_part j);
+}
+
+abbrev pub before_forest-read : ReadOff insert_before_in_forest
+before_forest-read = record {
+  letters = read_insert_before;
+  conditions = no_condition;
+  again = λ l. refl;
+  its_conditions = λ l. refl;
+  bare = λ l. bare;
+  its_kind = λ l. refl;
+  its_parts = λ l. refl;
+  its_command = λ j. insert-kept (command_part j);
+}
+
+abbrev pub before_grove-read : ReadOff insert_before_in_grove
+before_grove-read = record {
+  letters = read_insert_before;
+  conditions = no_condition;
+  again = λ l. refl;
+  its_conditions = λ l. refl;
+  bare = λ l. bare;
+  its_kind = λ l. refl;
+  its_parts = λ l. refl;
+  its_command = λ j. insert-kept (command_part j);
+}
+
+abbrev pub last_forest-read : ReadOff insert_last_in_forest
+last_forest-read = record {
+  letters = read_insert_last;
+  conditions = no_condition;
+  again = λ l. refl;
+  its_conditions = λ l. refl;
+  bare = λ l. bare;
+  its_kind = λ l. refl;
+  its_parts = λ l. refl;
+  its_command = λ j. insert-kept (command_part j);
+}
+
+abbrev pub last_grove-read : ReadOff insert_last_in_grove
+last_grove-read = record {
+  letters = read_insert_last;
+  conditions = no_condition;
+  again = λ l. refl;
+  its_conditions = λ l. refl;
+  bare = λ l. bare;
+  its_kind = λ l. refl;
+  its_parts = λ l. refl;
+  its_command = λ j. insert-kept (command_part j);
 }

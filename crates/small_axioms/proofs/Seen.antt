@@ -7,7 +7,7 @@ use Rattle.dom_terms.specs.declared.terms.Term.{Term}
 use Rattle.theory_syntax.specs.declared.commands.Command.{Command}
 use Rattle.theory_syntax.specs.declared.commands.Command.TheOpen.{Command-F}
 use Rattle.theory_syntax.specs.declared.commands.Command.TheFolds.{fold-roll-Command}
-use Rattle.theory_syntax.specs.declared.commands.Command.TheVariants.{Create, Name, Parent, Children, Item, Append, Remove, rolls-Create, rolls-Name, rolls-Parent, rolls-Children, rolls-Item, rolls-Append, rolls-Remove}
+use Rattle.theory_syntax.specs.declared.commands.Command.TheVariants.{Create, Name, Parent, Children, Item, Append, Remove, InsertBefore, rolls-Create, rolls-Name, rolls-Parent, rolls-Children, rolls-Item, rolls-Append, rolls-Remove, rolls-InsertBefore}
 use Rattle.theory_syntax.specs.Commands.{command_of, command_step}
 
 pub create-seen : (command : Command) (x : ProgVar) (e : Term) → command ≡ Create x e
@@ -51,3 +51,9 @@ pub remove-seen : (command : Command) (e f : Term) → command ≡ Remove e f
 remove-seen command e f is =
     ap command_of (is ∙ sym (rolls-Remove e f))
     ∙ fold-roll-Command model.Command command_step (Command-F.Remove e f)
+
+pub insert-seen : (command : Command) (e f g : Term) → command ≡ InsertBefore e f g
+    → command_of command ≡ model.insert_before (term_of e) (term_of f) (term_of g)
+insert-seen command e f g is =
+    ap command_of (is ∙ sym (rolls-InsertBefore e f g))
+    ∙ fold-roll-Command model.Command command_step (Command-F.InsertBefore e f g)

@@ -14,4 +14,4 @@ abbrev pub axiom_called : Name → Option Axiom
 axiom_called name =
     called name a.Name (called name a.Children (called name a.Item (called name a.ItemNone
     (called name a.Parent (called name a.ParentNone (called name a.Create (called name a.Append
-    (called name a.Remove None))))))))
+    (called name a.Remove (called name a.InsertBefore (called name a.InsertLast None))))))))))

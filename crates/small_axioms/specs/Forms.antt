@@ -18,6 +18,7 @@ use Rattle.small_axioms.specs.declared.forms.Form.{Form}
 use Rattle.small_axioms.specs.declared.parts.Node.{Node}
 use Rattle.small_axioms.specs.declared.parts.Appended.{Appended}
 use Rattle.small_axioms.specs.declared.parts.Family.{Family}
+use Rattle.small_axioms.specs.declared.parts.Inserted.{Inserted}
 use Rattle.dom_terms.specs.declared.sorts.DataSort.{DataSort}
 use Rattle.dom_terms.specs.declared.sorts.DataSort.TheVariants as s
 use Rattle.small_axioms.specs.declared.forms.Form.TheVariants as f
@@ -134,3 +135,39 @@ remove_pre context parts parent child =
 abbrev pub remove_post : Formula → Family → Formula
 remove_post context parts =
     grove_sum (application tree context (shrunk_node parts)) (one_root (whole_node parts.child))
+
+-- where a node is put last by a reference: the reference is null
+abbrev pub last_pre : DataSort → Appended → Term → Term → Term → Formula
+last_pre h parts parent child next =
+    conjunction (append_pre h parts parent child) (equality (plain next) (literal null))
+
+-- where a node is put before another: ((0h -o (K @t N)) @h U), the next one among N's children
+abbrev pub taken_before : DataSort → Inserted → Formula
+taken_before h parts =
+    application (data_sort_of h) (hole_adjoint (empty (data_sort_of h))
+    (application tree (nameless (formula_of parts.context.now)) (written_family parts.family)))
+    (moved h (whole_node parts.mover))
+
+-- and what is asked for before
+abbrev pub before_pre : DataSort → Inserted → Term → Term → Term → Formula
+before_pre h parts parent child next =
+    conjunction (conjunction (conjunction (taken_before h parts)
+    (equality (plain parent) (plain parts.family.node.number.now)))
+    (equality (plain child) (plain parts.mover.number.now)))
+    (equality (plain next) (plain parts.family.child.number.now))
+
+-- the node with the moved one before the next one, and what is asked for after
+abbrev pub joined_children : Inserted → Formula
+joined_children parts =
+    concatenation whole (concatenation whole (concatenation whole
+    (nameless (formula_of parts.family.before.now)) (one_tree (whole_node parts.mover)))
+    (one_tree (whole_node parts.family.child))) (nameless (formula_of parts.family.rest.now))
+
+abbrev pub joined_node : Inserted → Formula
+joined_node parts =
+    node_formula (plain parts.family.node.name.now) (plain parts.family.node.number.now)
+    (joined_children parts) (plain parts.family.node.list.now)
+
+abbrev pub before_post : Inserted → Formula
+before_post parts =
+    application tree (nameless (formula_of parts.context.now)) (joined_node parts)

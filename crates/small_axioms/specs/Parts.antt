@@ -6,7 +6,7 @@ use Rattle.model_terms.specs.Terms.{Term, literal}
 use Rattle.model_terms.specs.Stores.{ProgVar, named}
 use Rattle.std.specs.Prelude.{[]}
 use Rattle.model_formulas.specs.Formulas.{Formula, truth, conjunction, equality, node_formula, one_tree, one_root, concatenation, application, hole_adjoint, length_is}
-use Rattle.model_commands.specs.Commands.{Command, skip, create_node, node_name, child_nodes, parent_node, list_item, append_child, remove_child}
+use Rattle.model_commands.specs.Commands.{Command, skip, create_node, node_name, child_nodes, parent_node, list_item, append_child, remove_child, insert_before}
 use Rattle.model_commands.specs.Theories.{Judgement, entails, triple}
 
 -- the first of two parts, or the only one
@@ -81,7 +81,7 @@ target (parent_node x e) = x
 target (list_item x e f) = x
 target c = named [] node_sort
 
--- its first term, and its second one
+-- its first term, its second one and its third one
 abbrev pub first_term : Command → Term
 first_term (create_node x e) = e
 first_term (node_name x e) = e
@@ -90,13 +90,19 @@ first_term (parent_node x e) = e
 first_term (list_item x e f) = e
 first_term (append_child e f) = e
 first_term (remove_child e f) = e
+first_term (insert_before e f g) = e
 first_term c = literal null
 
 abbrev pub second_term : Command → Term
 second_term (list_item x e f) = f
 second_term (append_child e f) = f
 second_term (remove_child e f) = f
+second_term (insert_before e f g) = f
 second_term c = literal null
+
+abbrev pub third_term : Command → Term
+third_term (insert_before e f g) = g
+third_term c = literal null
 
 -- the parts of a triple
 abbrev pub pre_part : Judgement → Formula

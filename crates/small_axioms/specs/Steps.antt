@@ -1,4 +1,5 @@
--- A triple that is written at a step which cites nothing and has no argument.
+-- Needn't be believed: the program's promise doesn't speak of it. A triple that is written at a
+-- step which cites nothing and has no argument.
 use Rattle.std.specs.Prelude.{[], Some}
 use Rattle.model_commands.specs.Theories.{Judgement, nameless_judgement}
 use Rattle.rule_table.specs.Verdicts.{Written}

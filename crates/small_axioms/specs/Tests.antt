@@ -9,7 +9,7 @@ use Rattle.model_shapes.specs.Tests.{same_data_sort}
 use Rattle.model_shapes.specs.Sorts.{DataSort}
 use Rattle.model_formulas.specs.Formulas.{Formula}
 use Rattle.model_formulas.specs.SameFormulas.{same_formula}
-use Rattle.model_commands.specs.Commands.{Command, create_node, node_name, child_nodes, parent_node, list_item, append_child, remove_child}
+use Rattle.model_commands.specs.Commands.{Command, create_node, node_name, child_nodes, parent_node, list_item, append_child, remove_child, insert_before}
 use Rattle.model_commands.specs.Theories.{Judgement}
 use Rattle.rule_table.specs.Lines.{Line}
 use Rattle.rule_table.specs.Conditions.{assigned_side}
@@ -25,6 +25,7 @@ same_kind (parent_node x e) (parent_node y f) = true
 same_kind (list_item x e f) (list_item y g h) = true
 same_kind (append_child e f) (append_child g h) = true
 same_kind (remove_child e f) (remove_child g h) = true
+same_kind (insert_before e f g) (insert_before e' f' g') = true
 same_kind c d = false
 
 -- two formulas and a sort are those of a triple, which are given first

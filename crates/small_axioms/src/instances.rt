@@ -1,9 +1,10 @@
 // The verdict on a triple by the axiom of a name.
-ghost use Rattle.std.specs.Prelude.{IfOk};
+ghost use Rattle.std.specs.Prelude.{◌≡◌, IfOk};
 ghost use Rattle.rule_table.specs.Axioms.{axioms};
 ghost use Rattle.rule_table.specs.Verdicts.{IsVerdict, readings_in};
 ghost use Rattle.row_patterns.specs.Verdicts.{verdict_in};
-ghost use Rattle.small_axioms.specs.Steps.{written};
+ghost use Rattle.triple_laws.specs.Steps.{HoldsAnywhere};
+ghost use Rattle.small_axioms.specs.Steps.{judgement_of, written};
 
 use crate::names::axiom_of;
 use crate::verdicts::alone_verdict;
@@ -13,10 +14,12 @@ use theory_syntax::Triple;
 
 /// The verdict on the triple by the axiom of that name, as at a step that cites nothing and has no
 /// arguments, so it is never of the kind Premises. A name of no axiom has no rows: its verdict is
-/// that the conclusion doesn't fit. No memory is taken.
+/// that the conclusion doesn't fit. An instance holds in every context. No memory is taken.
 pub fn axiom_instance(_alloc: Global, name: &str, triple: &Triple) -> Result<Verdict, OutOfMemory>
-    ensures { IfOk result (λ v. IsVerdict (readings_in axioms name.now) (written triple.now)
+    ensures exact { IfOk result (λ v. IsVerdict (readings_in axioms name.now) (written triple.now)
         (verdict_in v)) }
+    ensures sound { IfOk result
+        (λ v. v ≡ Verdict.Instance → HoldsAnywhere (judgement_of triple.now)) }
 {
     match axiom_of(name) {
         Some(axiom) => Ok(alone_verdict(axiom, triple)),

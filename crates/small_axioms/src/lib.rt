@@ -1,10 +1,12 @@
 //! The axioms of the commands of the document, and whether a triple is an instance of one.
-//! Promises the verdict of the table of rules on what is written at a step, by any of the nine. No
+//! Promises the verdict of the table of rules on what is written at a step, by any of the eleven. No
 //! memory is taken. Stands on the theories of the program and on rule_table.
 #![tactic(auto)]
 
 mod axioms;
 mod forms;
+mod insert_axioms;
+mod inserting;
 mod instances;
 mod matching;
 mod moving;

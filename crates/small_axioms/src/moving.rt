@@ -15,7 +15,7 @@ use dom_terms::{DataSort, Term, same_data_sort};
 use formula_syntax::{Formula, Side};
 
 // whether the formula is `E = F`
-fn is_equation(left: &Term, right: &Term, p: &Formula) -> bool
+pub(crate) fn is_equation(left: &Term, right: &Term, p: &Formula) -> bool
     ensures { result ≡ tests.same_formula (equality (plain left.now) (plain right.now))
         (nameless (formula_of p.now)) }
 {
@@ -63,7 +63,7 @@ fn is_without(hole: DataSort, parts: &Appended, p: &Formula) -> bool
 }
 
 // whether the formula is the node alone, in a hole of the sort
-fn is_moved(hole: DataSort, mover: &Node, p: &Formula) -> bool
+pub(crate) fn is_moved(hole: DataSort, mover: &Node, p: &Formula) -> bool
     ensures { result ≡ tests.same_formula (moved hole (whole_node mover.now))
         (nameless (formula_of p.now)) }
 {
@@ -122,7 +122,7 @@ pub(crate) fn is_append_pre(
 }
 
 // whether the formula is `(P * <N>)`
-fn is_beside(before: &Formula, child: &Node, p: &Formula) -> bool
+pub(crate) fn is_beside(before: &Formula, child: &Node, p: &Formula) -> bool
     ensures { result ≡ tests.same_formula
         (concatenation whole (nameless (formula_of before.now)) (one_tree (whole_node child.now)))
         (nameless (formula_of p.now)) }
@@ -169,7 +169,7 @@ fn is_written_family(parts: &Family, p: &Formula) -> bool
 }
 
 // whether the formula is `(K @t N)`, the node with its child between the others
-fn is_family_in(context: &Formula, parts: &Family, p: &Formula) -> bool
+pub(crate) fn is_family_in(context: &Formula, parts: &Family, p: &Formula) -> bool
     ensures { result ≡ tests.same_formula
         (application tree (nameless (formula_of context.now)) (written_family parts.now))
         (nameless (formula_of p.now)) }

@@ -28,6 +28,10 @@ pub enum Axiom {
     Append,
     /// `remove`
     Remove,
+    /// `insert_before`
+    InsertBefore,
+    /// `insert_last`
+    InsertLast,
 }
 
 // The first axiom of that name.
@@ -44,6 +48,8 @@ fn find_axiom(name: &str) -> Option<Axiom>
         "create" => Some(Axiom::Create),
         "append" => Some(Axiom::Append),
         "remove" => Some(Axiom::Remove),
+        "insert_before" => Some(Axiom::InsertBefore),
+        "insert_last" => Some(Axiom::InsertLast),
         _ => None,
     }
 }

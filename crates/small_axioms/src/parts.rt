@@ -92,18 +92,16 @@ pub(crate) struct Family<'a> {
     pub(crate) rest: &'a Formula,
 }
 
-// the parts of such a node
-pub(crate) fn family_parts<'a>(p: &'a Formula, otherwise: &'a Term) -> Family<'a>
-    ensures node { whole_node result.node
-        ≡ parts.node_at (plain otherwise.now) (nameless (formula_of p.now)) }
+// the parts of such a node, from what is known of the node itself
+fn family_of<'a>(node: Node<'a>, otherwise: &'a Term) -> Family<'a>
+    ensures node { whole_node result.node ≡ whole_node node.entry }
     ensures before { nameless (formula_of result.before.now)
-        ≡ parts.before_child (nameless (formula_of p.now)) }
+        ≡ parts.before_child (whole_node node.entry) }
     ensures child { whole_node result.child
-        ≡ parts.node_at (plain otherwise.now) (parts.child_at (nameless (formula_of p.now))) }
+        ≡ parts.node_at (plain otherwise.now) (parts.child_at (whole_node node.entry)) }
     ensures rest { nameless (formula_of result.rest.now)
-        ≡ parts.second_part (parts.children_part (nameless (formula_of p.now))) }
+        ≡ parts.second_part (parts.children_part (whole_node node.entry)) }
 {
-    let node = node_parts(p, otherwise);
     let beside = first_part(node.children);
     let before = first_part(beside);
     let one = second_part(beside);
@@ -116,6 +114,21 @@ pub(crate) fn family_parts<'a>(p: &'a Formula, otherwise: &'a Term) -> Family<'a
         child,
         rest,
     }
+}
+
+// the parts of such a node
+pub(crate) fn family_parts<'a>(p: &'a Formula, otherwise: &'a Term) -> Family<'a>
+    ensures node { whole_node result.node
+        ≡ parts.node_at (plain otherwise.now) (nameless (formula_of p.now)) }
+    ensures before { nameless (formula_of result.before.now)
+        ≡ parts.before_child (nameless (formula_of p.now)) }
+    ensures child { whole_node result.child
+        ≡ parts.node_at (plain otherwise.now) (parts.child_at (nameless (formula_of p.now))) }
+    ensures rest { nameless (formula_of result.rest.now)
+        ≡ parts.second_part (parts.children_part (nameless (formula_of p.now))) }
+{
+    let node = node_parts(p, otherwise);
+    family_of(node, otherwise)
 }
 
 /// What is asked of a node that is moved: the context, the node that takes it, and itself.
@@ -150,5 +163,39 @@ pub(crate) fn appended_parts<'a>(p: &'a Formula, otherwise: &'a Term) -> Appende
         context,
         taker,
         mover,
+    }
+}
+
+/// What is asked of a node that is put before another: the context, the node that takes it with the
+/// other one among its children, and itself.
+#[derive(Clone, Copy)]
+pub(crate) struct Inserted<'a> {
+    pub(crate) context: &'a Formula,
+    pub(crate) family: Family<'a>,
+    pub(crate) mover: Node<'a>,
+}
+
+// its parts, in what holds before but for the reference
+pub(crate) fn inserted_parts<'a>(p: &'a Formula, otherwise: &'a Term) -> Inserted<'a>
+    ensures context { nameless (formula_of result.context.now)
+        ≡ parts.first_part (parts.left_part (nameless (formula_of p.now))) }
+    ensures node { whole_node result.family.node ≡ parts.node_at (plain otherwise.now)
+        (parts.second_part (parts.left_part (nameless (formula_of p.now)))) }
+    ensures before { nameless (formula_of result.family.before.now) ≡ parts.before_child
+        (parts.second_part (parts.left_part (nameless (formula_of p.now)))) }
+    ensures next { whole_node result.family.child ≡ parts.node_at (plain otherwise.now)
+        (parts.child_at (parts.second_part (parts.left_part (nameless (formula_of p.now))))) }
+    ensures rest { nameless (formula_of result.family.rest.now)
+        ≡ parts.second_part (parts.children_part
+        (parts.second_part (parts.left_part (nameless (formula_of p.now))))) }
+    ensures mover { whole_node result.mover
+        ≡ parts.node_at (plain otherwise.now) (parts.mover_part (nameless (formula_of p.now))) }
+{
+    let moved = appended_parts(p, otherwise);
+    let family = family_of(moved.taker, otherwise);
+    Inserted {
+        context: moved.context,
+        family,
+        mover: moved.mover,
     }
 }

@@ -19,6 +19,7 @@ use crate::axioms::{
     is_append, is_children, is_create, is_item, is_item_none, is_name, is_parent, is_parent_none,
     is_remove,
 };
+use crate::insert_axioms::{is_insert_before, is_insert_last};
 use crate::names::Axiom;
 use crate::occurring::{sets_in, term_mentions};
 use crate::parts::{first_part, right_part, second_part};
@@ -130,6 +131,22 @@ fn remove_verdict(triple: &Triple) -> Verdict
     verdict_where(fits, false)
 }
 
+fn insert_before_verdict(triple: &Triple) -> Verdict
+    ensures { IsVerdict (table.insert_before_in_forest ∷ table.insert_before_in_grove ∷ [])
+        (written triple.now) (verdict_in result) }
+{
+    let fits = is_insert_before(triple);
+    verdict_where(fits, false)
+}
+
+fn insert_last_verdict(triple: &Triple) -> Verdict
+    ensures { IsVerdict (table.insert_last_in_forest ∷ table.insert_last_in_grove ∷ [])
+        (written triple.now) (verdict_in result) }
+{
+    let fits = is_insert_last(triple);
+    verdict_where(fits, false)
+}
+
 /// The verdict on the triple alone.
 pub(crate) fn alone_verdict(rule: Axiom, triple: &Triple) -> Verdict
     ensures { IsVerdict (readings_in table.axioms (name_of rule)) (written triple.now)
@@ -145,6 +162,8 @@ pub(crate) fn alone_verdict(rule: Axiom, triple: &Triple) -> Verdict
         Axiom::Create => create_verdict(triple),
         Axiom::Append => append_verdict(triple),
         Axiom::Remove => remove_verdict(triple),
+        Axiom::InsertBefore => insert_before_verdict(triple),
+        Axiom::InsertLast => insert_last_verdict(triple),
     }
 }
 

@@ -13,3 +13,4 @@ pub mod BracketLemmas
 pub mod ReservedLemmas
 pub mod SourceLemmas
 pub mod WithinLemmas
+pub mod FrontLemmas

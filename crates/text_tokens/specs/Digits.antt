@@ -1,4 +1,4 @@
--- A number with one more digit; nothing here is to be believed.
+-- Needn't be believed: the program's promise doesn't speak of it. A number with one more digit.
 use Rattle.std.specs.Prelude.{ℕ, ◌+◌, ◌-◌, ◌*◌, ◌&&◌, Option, Some, None, nat_le, if◌then◌else◌}
 use Rattle.std.specs.Char.{is_ascii_digit}
 

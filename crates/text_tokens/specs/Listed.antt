@@ -1,4 +1,5 @@
--- What the grammar sees of the tokens of a list.
+-- Needn't be believed: the program's promise doesn't speak of it. What the grammar sees of the
+-- tokens of a list.
 use Rattle.std.specs.Prelude.{List, map}
 use Rattle.model_text.specs.Lexemes.{Lexeme, lexeme_of}
 use Rattle.text_tokens.specs.declared.tokens.Token.{Token}

@@ -1,5 +1,5 @@
--- The piece of the definition that a piece of the text stands for, and what a text begins with;
--- nothing here is to be believed.
+-- Needn't be believed: the program's promise doesn't speak of it. The piece of the definition that
+-- a piece of the text stands for, and what a text begins with.
 use Rattle.model_text.specs.Tokens as model
 use Rattle.model_text.specs.Tokens.{gap_piece, token_piece, no_piece, is_blank}
 use Rattle.text_tokens.specs.declared.pieces.Piece.{Piece}

@@ -1,4 +1,5 @@
--- What the grammar sees of the tokens of a source.
+-- Needn't be believed: the program's promise doesn't speak of it. What the grammar sees of the
+-- tokens of a source.
 use Rattle.std.specs.Prelude.{List}
 use Rattle.model_text.specs.Lexemes.{Lexeme}
 use Rattle.text_tokens.specs.declared.sources.Source.{Source}

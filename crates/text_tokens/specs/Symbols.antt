@@ -1,4 +1,4 @@
--- How a symbol begins and goes on; nothing here is to be believed.
+-- Needn't be believed: the program's promise doesn't speak of it. How a symbol begins and goes on.
 use Rattle.std.specs.Prelude.{ℕ, Bool, false, List, [], ◌∷◌, nat_eq, codes}
 use Rattle.std.specs.List.{list_any}
 

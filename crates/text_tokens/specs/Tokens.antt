@@ -1,4 +1,5 @@
--- The token of the definition that a token stands for.
+-- Needn't be believed: the program's promise doesn't speak of it. The token of the definition that
+-- a token stands for.
 use Rattle.model_text.specs.Tokens as model
 use Rattle.model_text.specs.Tokens.{word_token, logic_token, number_token, literal_token, symbol_token, bad_token}
 use Rattle.text_tokens.specs.declared.tokens.Token.{Token}

@@ -1,4 +1,4 @@
--- The ASCII characters of words; nothing here is to be believed.
+-- Needn't be believed: the program's promise doesn't speak of it. The ASCII characters of words.
 use Rattle.std.specs.Prelude.{ℕ, Bool, ◌||◌, ◌==◌}
 use Rattle.std.specs.Char.{is_ascii_alphabetic, is_ascii_digit}
 

@@ -34,6 +34,6 @@ pub use lexemes::Lexeme;
 pub use limits::{bytes_limit, token_limit};
 pub use numbers::number_value;
 pub use reading::token_list;
-pub use reserved::is_reserved;
+pub use reserved::{is_insert, is_reserved};
 pub use sources::Source;
 pub use tokens::{Token, TokenKind, Tokens};

@@ -2,6 +2,7 @@
 ghost use Rattle.std.specs.Prelude.{◌≡◌, ℕ, List, ◌∷◌, bytes_eq};
 ghost use Rattle.std.specs.List.{list_any};
 ghost use Rattle.model_text.specs.Lexemes.{is_reserved};
+ghost use Rattle.model_text.specs.Versions.{insert_word};
 
 use dom_terms::same_bytes;
 
@@ -63,6 +64,14 @@ pub(crate) fn is_word_reserved(word: &str) -> bool
         [first, ..] => is_among(words_from(*first), word),
         [] => false,
     }
+}
+
+/// Whether the word is the one that version 2 alone reserves.
+#[inline(always)]
+pub fn is_insert(word: &str) -> bool
+    ensures { result ≡ bytes_eq word.now insert_word }
+{
+    is_same(word, "insertBefore")
 }
 
 /// Whether the word is no name.

@@ -7,7 +7,7 @@ ghost use Rattle.text_tokens.specs.Sources.{lexemes_from};
 
 use crate::ascii::AsciiFront;
 use crate::ascii_watching::stopped;
-use crate::fronts::Front;
+use crate::fronts::{Front, Left};
 use crate::limits::token_limit;
 use crate::reading::token_list;
 use crate::sources::Source;
@@ -37,13 +37,13 @@ impl<'a> Source<'a> {
     }
 
     /// All of them, for a reader.
-    #[tactic(auto, unfolding(crate::specs::Lexemes::lexemes_in))]
+    #[tactic(auto, unfolding(crate::specs::Lexemes::lexemes_left))]
     pub fn front(&self) -> Front
         ensures { lexemes_in result ≡ lexemes_from self.now }
     {
         match self {
-            Source::Ascii(front) => Front::Ascii(*front),
-            Source::Listed(tokens) => Front::Listed(tokens.as_slice()),
+            Source::Ascii(front) => Front::of_left(Left::Ascii(*front)),
+            Source::Listed(tokens) => Front::of_left(Left::Listed(tokens.as_slice())),
         }
     }
 }

@@ -10,7 +10,7 @@ use Rattle.model_formulas.proofs.SameFormulas.{term-is, same_formula-both}
 use Rattle.model_terms.specs.Stores.{ProgVar, same_name}
 use Rattle.model_terms.proofs.StoreLaws.{same_name-is, same_name-refl}
 use Rattle.model_terms.specs.Conditions.{Cond, cond_true, cond_false, cond_variable, cond_equal, cond_at_most, cond_not, cond_and, cond_or}
-use Rattle.model_commands.specs.Commands.{Command, skip, block, assign, create_node, node_name, child_nodes, parent_node, list_item, append_child, remove_child, if_else, while_do, local, call, Block, stop, ◌then◌}
+use Rattle.model_commands.specs.Commands.{Command, skip, block, assign, create_node, node_name, child_nodes, parent_node, list_item, append_child, remove_child, insert_before, if_else, while_do, local, call, Block, stop, ◌then◌}
 use Rattle.theory_syntax.specs.SameCommands.{same_terms, same_vars, same_cond, same_command, same_block}
 
 term-refl : (t : Term) → same_term t t ≡ true
@@ -93,6 +93,9 @@ mutual
       rw (h.0, h.1) refl
   command-is (remove_child t i) (remove_child u j) e = let h = two-terms t i u j e in
       rw (h.0, h.1) refl
+  command-is (insert_before t i o) (insert_before u j q) e =
+      let h = both_true (same_term t u) (same_term i j && same_term o q) e in
+      let k = two-terms i o j q h.1 in rw (term-is t u h.0, k.0, k.1) refl
   command-is (if_else c a b) (if_else d a' b') e =
       let h = both_true (same_cond c d) (same_block a a' && same_block b b') e in
       let k = both_true (same_block a a') (same_block b b') h.1 in
@@ -130,6 +133,9 @@ mutual
       (join (same_term t t) (same_term i i) (term-refl t) (term-refl i))
   command-refl (append_child t i) = join (same_term t t) (same_term i i) (term-refl t) (term-refl i)
   command-refl (remove_child t i) = join (same_term t t) (same_term i i) (term-refl t) (term-refl i)
+  command-refl (insert_before t i o) =
+      join (same_term t t) _ (term-refl t)
+      (join (same_term i i) (same_term o o) (term-refl i) (term-refl o))
   command-refl (if_else c a b) =
       join (same_cond c c) _ (cond-refl c)
       (join (same_block a a) (same_block b b) (block-refl a) (block-refl b))

@@ -1,5 +1,6 @@
--- The commands of the definitions, those of PODS 2008 with blocks, choice, loops, local variables
--- and calls, that the commands of the program stand for.
+-- Needn't be believed: the program's promise doesn't speak of it. The commands of the definitions,
+-- those of PODS 2008 with blocks, choice, loops, local variables and calls, that the commands of
+-- the program stand for.
 use Rattle.std.specs.Prelude.{List, [], ◌∷◌, map}
 use Rattle.model_commands.specs.Commands as model
 use Rattle.model_commands.specs.Commands.{stop, ◌then◌}
@@ -28,6 +29,8 @@ command_step (Command-F.Append parent child) =
     model.append_child (term_of parent) (term_of child)
 command_step (Command-F.Remove parent child) =
     model.remove_child (term_of parent) (term_of child)
+command_step (Command-F.InsertBefore parent child next) =
+    model.insert_before (term_of parent) (term_of child) (term_of next)
 command_step (Command-F.If cond first second) =
     model.if_else (cond_of cond) (block_with first) (block_with second)
 command_step (Command-F.While cond block) = model.while_do (cond_of cond) (block_with block)

@@ -1,5 +1,5 @@
--- The triples, judgements and steps of the definitions, those of PODS 2008, that those of the
--- program stand for.
+-- Needn't be believed: the program's promise doesn't speak of it. The triples, judgements and steps
+-- of the definitions, those of PODS 2008, that those of the program stand for.
 use Rattle.std.specs.Prelude.{map}
 use Rattle.model_formulas.specs.Formulas.{Named}
 use Rattle.model_formulas.specs.Entailments.{EntailmentOf}

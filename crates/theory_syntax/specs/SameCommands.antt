@@ -1,11 +1,11 @@
--- Equality of commands as a test that computes. Nothing here is to be believed: the contract of the
--- call that answers it speaks of equality.
+-- Needn't be believed: the contract of the call that answers it speaks of equality. Equality of
+-- commands as a test that computes.
 use Rattle.std.specs.Prelude.{Bool, true, false, ◌&&◌, List, [], ◌∷◌, bytes_eq}
 use Rattle.model_terms.specs.Terms.{Term}
 use Rattle.model_formulas.specs.SameFormulas.{same_term}
 use Rattle.model_terms.specs.Stores.{ProgVar, same_name}
 use Rattle.model_terms.specs.Conditions.{Cond, cond_true, cond_false, cond_variable, cond_equal, cond_at_most, cond_not, cond_and, cond_or}
-use Rattle.model_commands.specs.Commands.{Command, skip, block, assign, create_node, node_name, child_nodes, parent_node, list_item, append_child, remove_child, if_else, while_do, local, call, Block, stop, ◌then◌}
+use Rattle.model_commands.specs.Commands.{Command, skip, block, assign, create_node, node_name, child_nodes, parent_node, list_item, append_child, remove_child, insert_before, if_else, while_do, local, call, Block, stop, ◌then◌}
 
 -- of lists of terms
 abbrev pub same_terms : List Term → List Term → Bool
@@ -45,6 +45,8 @@ abbrev mutual
       same_name x y && (same_term t u && same_term i j)
   same_command (append_child t i) (append_child u j) = same_term t u && same_term i j
   same_command (remove_child t i) (remove_child u j) = same_term t u && same_term i j
+  same_command (insert_before t i o) (insert_before u j q) =
+      same_term t u && (same_term i j && same_term o q)
   same_command (if_else c a b) (if_else d a' b') =
       same_cond c d && (same_block a a' && same_block b b')
   same_command (while_do c a) (while_do d b) = same_cond c d && same_block a b

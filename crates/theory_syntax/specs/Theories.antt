@@ -1,4 +1,5 @@
--- The procedures and theories of the definitions that those of the program stand for.
+-- Needn't be believed: the program's promise doesn't speak of it. The procedures and theories of
+-- the definitions that those of the program stand for.
 use Rattle.std.specs.Prelude.{map}
 use Rattle.model_formulas.specs.Formulas.{Named}
 use Rattle.model_commands.specs.Theories as model

@@ -31,6 +31,8 @@ pub enum Command {
     Append(Term, Term),
     /// `removeChild(E, F)`
     Remove(Term, Term),
+    /// `insertBefore(E, F, G)`
+    InsertBefore(Term, Term, Term),
     /// `if B {..} else {..}`
     If(Cond, Block, Block),
     /// `while B {..}`
@@ -86,6 +88,11 @@ impl Copied for Command {
             Self::Remove(parent, child) => {
                 let (parent, child) = copies(alloc, parent, child)?;
                 Ok(Self::Remove(parent, child))
+            }
+            Self::InsertBefore(parent, child, next) => {
+                let moved = copies(alloc, parent, child)?;
+                let ((parent, child), next) = with(moved, next.copy(alloc))?;
+                Ok(Self::InsertBefore(parent, child, next))
             }
             Self::If(cond, first, second) => {
                 let blocks = with(copied_block(alloc, first)?, copied_block(alloc, second))?;

@@ -109,6 +109,9 @@ fn do_agree(left: &Command, right: &Command) -> bool
         }
         (Command::Append(a, b), Command::Append(c, d))
         | (Command::Remove(a, b), Command::Remove(c, d)) => same_term(a, c) && same_term(b, d),
+        (Command::InsertBefore(a, b, c), Command::InsertBefore(d, e, f)) => {
+            same_term(a, d) && same_term(b, e) && same_term(c, f)
+        }
         (Command::If(a, b, c), Command::If(d, e, f)) => {
             same_condition(a, d) && do_blocks_agree(b, e) && do_blocks_agree(c, f)
         }

@@ -3,8 +3,9 @@ use Rattle.std.proofs.Common.{◌≡◌, ℕ, suc, ◌+◌, ◌<◌, ◌≤◌, 
 use Rattle.std.specs.List.{list_any}
 use Rattle.std.specs.Prelude.{bytes_eq}
 use Rattle.model_text.specs.Lexemes.{Lexeme, terminal}
-use Rattle.model_text.specs.FaultTokens.{AreOfTokens}
-use Rattle.model_text.proofs.OfTokens.{terminals, is_seen, seen_both}
+use Rattle.model_text.proofs.OfTokens.{terminals}
+use Rattle.model_text.proofs.Usual.{AreUsual, is_seen, seen_both}
+use Rattle.model_text.proofs.Cuts.{split_rest}
 use Rattle.token_readers.specs.Reading.{is_terminal}
 use Rattle.token_readers.proofs.TerminalTests.{is_terminal_is}
 use Rattle.token_readers.specs.Reading.{Stop, At, Deep, Answer, Read, ◌>>=◌, ret, fail, then, either, when, rest_or, expect, leaf, begins, begun, the_terminal}
@@ -39,39 +40,17 @@ ok_parts {A} a b s t e =
     let h : (a, s) ≡ (b, t) = ok_pair (a, s) (b, t) e in
     (ap (λ (z : A × List Lexeme). z.0) h, ap (λ (z : A × List Lexeme). z.1) h)
 
--- two ways to cut one list, with rests of one length
-pub split_rest : (a b p r : List Lexeme) → p ++ r ≡ a ++ b → length r ≡ length b → (p ≡ a) × (r ≡ b)
-split_rest [] b [] r e l = (refl, e)
-split_rest (x ∷ a) b [] r e l = absurd (omega (
-  arith,
-  ap
-      (length {A = Lexeme}) e,
-  length-append a b,
-))
-split_rest [] b (y ∷ p) r e l = absurd (omega (
-  arith,
-  ap
-      (length {A = Lexeme}) e,
-  length-append p r,
-))
-split_rest (x ∷ a) b (y ∷ p) r e l =
-    let h : y ≡ x = cc in
-    let t : p ++ r ≡ a ++ b = cc in
-    let k = split_rest a b p r t l in
-    let k0 : p ≡ a = k.0 in
-    (cc, k.1)
-
 abbrev pub Language : Type 0 → Type 1
 Language A = A → List Lexeme → Type 0
 
 -- r reads L, and answers of depth only where the list has n tokens or more.
 pub record Sound {A : Type 0} (n : ℕ) (r : Read A) (L : A → List Lexeme → Type 0) : Type 0 where
-  pub some : (a : A) × (s : List Lexeme) × L a s × AreOfTokens s
+  pub some : (a : A) × (s : List Lexeme) × L a s × AreUsual s
   pub found : (ts : List Lexeme) (a : A) (rest : List Lexeme) → r ts ≡ Ok (a, rest)
       → (s : List Lexeme) × (ts ≡ s ++ rest) × L a s
   pub viable : (ts : List Lexeme) (k : ℕ) → r ts ≡ Err (At k)
       → (p : List Lexeme) × (rest : List Lexeme) × (ts ≡ p ++ rest) × (k ≡ length rest) × (a : A)
-      × (s : List Lexeme) × L a (p ++ s) × AreOfTokens s
+      × (s : List Lexeme) × L a (p ++ s) × AreUsual s
   pub local_ok : (p : List Lexeme) (t : Lexeme) (rest : List Lexeme) (a : A)
       → r (p ++ (t ∷ rest)) ≡ Ok (a, t ∷ rest)
       → (s : List Lexeme) → r (p ++ (t ∷ s)) ≡ Ok (a, t ∷ s)
@@ -143,7 +122,7 @@ s_ret {A} n a L l = record {
 -- ---- nothing
 
 pub s_fail : {A : Type 0} (n : ℕ) (a : A) (s : List Lexeme) (L : A → List Lexeme → Type 0) → L a s
-    → AreOfTokens s → Sound n fail L
+    → AreUsual s → Sound n fail L
 s_fail {A} n a s L l seen = record {
   some = (a, s, l, seen);
   found = λ ts b rest e. absurd cc;
@@ -277,7 +256,7 @@ module _ {X A : Type 0} (n k : ℕ) (nk : k ≤ suc n) (f : Lexeme → Option X)
 
   begins_viable : (ts : List Lexeme) (j : ℕ) → begins f r other ts ≡ Err (At j)
       → (p : List Lexeme) × (rest : List Lexeme) × (ts ≡ p ++ rest) × (j ≡ length rest) × (a : A)
-      × (s : List Lexeme) × L a (p ++ s) × AreOfTokens s
+      × (s : List Lexeme) × L a (p ++ s) × AreUsual s
   begins_viable [] j e = S2.viable [] j e
   begins_viable (t ∷ ts) j e =
       elim (option_cases (f t)) [
@@ -414,7 +393,7 @@ leaf_none : {A : Type 0} (f : Lexeme → Option A) (t : Lexeme) (ts : List Lexem
 leaf_none f t ts e = rw e refl
 
 module _ {A : Type 0} (n : ℕ) (f : Lexeme → Option A) (L : A → List Lexeme → Type 0)
-    (has : (a : A) × (s : List Lexeme) × L a s × AreOfTokens s)
+    (has : (a : A) × (s : List Lexeme) × L a s × AreUsual s)
     (each : (t : Lexeme) (a : A) → f t ≡ Some a → L a (t ∷ [])) where
   leaf_found : (ts : List Lexeme) (a : A) (rest : List Lexeme) → leaf f ts ≡ Ok (a, rest)
       → (s : List Lexeme) × (ts ≡ s ++ rest) × L a s
@@ -433,7 +412,7 @@ module _ {A : Type 0} (n : ℕ) (f : Lexeme → Option A) (L : A → List Lexeme
 
   leaf_viable : (ts : List Lexeme) (k : ℕ) → leaf f ts ≡ Err (At k)
       → (p : List Lexeme) × (rest : List Lexeme) × (ts ≡ p ++ rest) × (k ≡ length rest) × (a : A)
-      × (s : List Lexeme) × L a (p ++ s) × AreOfTokens s
+      × (s : List Lexeme) × L a (p ++ s) × AreUsual s
   leaf_viable [] k e = let h : 0 ≡ k = cc in ([], [], refl, sym h, has.0, has.1, has.2, has.3)
   leaf_viable (t ∷ ts) k e =
       elim (option_cases (f t)) [
@@ -502,7 +481,7 @@ module _ {A : Type 0} (n : ℕ) (f : Lexeme → Option A) (L : A → List Lexeme
 
 -- no answer at all
 pub s_deep : {A : Type 0} (r : Read A) (L : A → List Lexeme → Type 0)
-    → ((ts : List Lexeme) → r ts ≡ Err Deep) → (a : A) (s : List Lexeme) → L a s → AreOfTokens s
+    → ((ts : List Lexeme) → r ts ≡ Err Deep) → (a : A) (s : List Lexeme) → L a s → AreUsual s
     → Sound 0 r L
 s_deep r L d a s l seen = record {
   some = (a, s, l, seen);

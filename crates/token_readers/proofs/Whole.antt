@@ -1,11 +1,11 @@
 -- A reader of whole lists is exact, with its fault token.
-use Rattle.std.proofs.Common.{◌≡◌, ℕ, suc, ◌-◌, ◌<◌, ◌≤◌, Bool, true, List, [], ◌∷◌, ◌++◌, length, take, drop, Ok, Err, refl, sym, ap, subst, ◌∙◌, append_assoc, append-nil, arith, ◌⊎◌, inl, inr, length-append}
-use Rattle.std.proofs.lemmas.List.{take-append-drop, take-append-le}
+use Rattle.std.proofs.Common.{◌≡◌, ℕ, suc, ◌-◌, ◌<◌, ◌≤◌, Bool, true, List, [], ◌∷◌, ◌++◌, length, Ok, Err, refl, sym, ap, subst, ◌∙◌, append-nil, arith, ◌⊎◌, inl, inr, length-append}
 use Rattle.model_text.specs.Lexemes.{Lexeme}
 use Rattle.token_readers.specs.Reading.{At, Deep, Answer, Read, ◌>>=◌}
 use Rattle.token_readers.specs.Spelling.{ended, whole}
-use Rattle.model_text.specs.FaultTokens.{AreOfTokens, Begins, IsFaultToken}
-use Rattle.model_text.proofs.OfTokens.{seen_both, seen_rest, seen_front}
+use Rattle.model_text.specs.FaultTokens.{AreOfTokens, IsFaultToken}
+use Rattle.model_text.proofs.Usual.{of_tokens}
+use Rattle.model_text.proofs.Cuts.{Cut, cut_fault}
 use Rattle.token_readers.specs.Giving.{Fails}
 use Rattle.token_readers.specs.Faults.{AtToken, LeavesWithin, FirstLeft}
 use Rattle.token_readers.specs.declared.fault.ReadFault.{ReadFault}
@@ -30,51 +30,6 @@ ok_read : {A : Type 0} (x : Answer A) (a : A) (rest : List Lexeme) → OrDeep x 
     → (x ≡ Err Deep → ⊥) → x ≡ Ok (a, rest)
 ok_read x a rest deep h = absurd (h refl)
 ok_read x a rest read h = refl
-
-take_front : (p s : List Lexeme) (j : ℕ) → j ≤ length p → take j (p ++ s) ≡ take j p
-take_front p s j h = take-append-le j p s h
-
-begins_front : {A : Type 0} (L : A → List Lexeme → Type 0) (p : List Lexeme) (j : ℕ) → AreOfTokens p
-    → Begins L p → Begins L (take j p)
-begins_front L p j each b = (
-  b.0,
-  drop j p ++ b.1,
-  subst (λ (z : List Lexeme). L b.0 z)
-      (ap (λ (z : List Lexeme). z ++ b.1) (sym (take-append-drop j p))
-      ∙ append_assoc (take j p) (drop j p) b.1) b.2,
-  seen_both (drop j p) b.1 (seen_rest j p each) b.3,
-)
-
-take_next : (p : List Lexeme) (t : Lexeme) (s : List Lexeme)
-    → take (suc (length p)) (p ++ (t ∷ s)) ≡ p ++ (t ∷ [])
-take_next [] t s = refl
-take_next (x ∷ p) t s = ap (λ (z : List Lexeme). x ∷ z) (take_next p t s)
-
-no_longer : {A : Type 0} (L : A → List Lexeme → Type 0) (ts p rest : List Lexeme) → ts ≡ p ++ rest
-    → ((t : Lexeme) (s : List Lexeme) → rest ≡ t ∷ s → (a : A) (u : List Lexeme)
-    → L a (p ++ (t ∷ u)) → ⊥)
-    → suc (length p) ≤ length ts → Begins L (take (suc (length p)) ts) → ⊥
-no_longer L ts p [] e dead le x = omega (arith, ap (length {A = Lexeme}) e, length-append p [])
-no_longer L ts p (t ∷ s) e dead le x =
-    let h : take (suc (length p)) ts ≡ p ++ (t ∷ []) = ap (take (suc (length p))) e
-    ∙ take_next p t s in
-    let y : Begins L (p ++ (t ∷ [])) = subst (λ (z : List Lexeme). Begins L z) h x in
-    dead t s refl y.0 y.1 (subst (λ (z : List Lexeme). L y.0 z) (append_assoc p (t ∷ []) y.1) y.2)
-
-cut_fault : {A : Type 0} (L : A → List Lexeme → Type 0) (ts p rest : List Lexeme) → AreOfTokens ts
-    → ts ≡ p ++ rest → Begins L p
-    → ((t : Lexeme) (s : List Lexeme) → rest ≡ t ∷ s → (a : A) (u : List Lexeme)
-    → L a (p ++ (t ∷ u)) → ⊥)
-    → IsFaultToken L ts (suc (length p))
-cut_fault L ts p rest each e b dead = record {
-  positive = omega arith;
-  in_range = omega (arith, ap (length {A = Lexeme}) e, length-append p rest);
-  before = λ j lt.
-      let h : take j ts ≡ take j p = ap (take j) e ∙ take_front p rest j (omega arith) in
-      subst (λ (z : List Lexeme). Begins L z) (sym h) (begins_front L p j
-      (seen_front p rest (subst AreOfTokens e each)) b);
-  here = λ le x. no_longer L ts p rest e dead le x;
-}
 
 module _ {A : Type 0} (r : ℕ → Read A) (L : A → List Lexeme → Type 0) (stops : List Lexeme → Bool)
     (at_end : stops [] ≡ true)
@@ -112,34 +67,41 @@ module _ {A : Type 0} (r : ℕ → Read A) (L : A → List Lexeme → Type 0) (s
       let y = ok_read (r n ts) b [] (whole_reads n b ts lb) ((S n).ends ts (omega arith)) in
       (ok_parts a b [] [] (sym x ∙ y)).0
 
-  -- where it spells nothing, the fault token
-  pub whole_fault : (n : ℕ) (ts : List Lexeme) (k : ℕ) → AreOfTokens ts
-      → whole (r n) ts ≡ Err (At k) → IsFaultToken L ts (suc (length ts - k))
-  whole_fault n ts k each e =
+  -- where it spells nothing, it is cut there
+  pub whole_cut : (n : ℕ) (ts : List Lexeme) (k : ℕ) → whole (r n) ts ≡ Err (At k)
+      → Cut L ts (suc (length ts - k))
+  whole_cut n ts k e =
       elim (bind_err (r n ts) (λ (x : A × List Lexeme). ended x.0 x.1) (At k) e) [
         | inl h ↦
             let v = (S n).viable ts k h in
             let len : length ts - k ≡ length v.0 = omega
-            (arith, ap (length {A = Lexeme}) v.2, length-append v.0 v.1, v.3) in
-            subst (λ (z : ℕ). IsFaultToken L ts (suc z)) (sym len)
-            (cut_fault L ts v.0 v.1 each v.2 (v.4, v.5, v.6, v.7) λ t s es a u la.
-            let h2 : r n (v.0 ++ (t ∷ s)) ≡ Err (At (suc (length s))) =
-            subst (λ (z : List Lexeme). r n (v.0 ++ z) ≡ Err (At (length z))) es
-            (subst (λ (z : List Lexeme). r n z ≡ Err (At (length v.1))) v.2
-            (subst (λ (z : ℕ). r n ts ≡ Err (At z)) v.3 h)) in
-            never_err (r n (v.0 ++ (t ∷ u))) a [] (suc (length u))
-            (whole_reads n a (v.0 ++ (t ∷ u)) la) ((S n).local_err v.0 t s h2 u))
+            (arith, ap (length {A = Lexeme}) v.2, length-append v.0 v.1, v.3) in record {
+              front = v.0;
+              rest = v.1;
+              whole = v.2;
+              number = ap suc len;
+              value = v.4;
+              more = v.5;
+              spells = v.6;
+              usual = v.7;
+              dead = λ t s es a u la.
+                  let h2 : r n (v.0 ++ (t ∷ s)) ≡ Err (At (suc (length s))) =
+                  subst (λ (z : List Lexeme). r n (v.0 ++ z) ≡ Err (At (length z))) es
+                  (subst (λ (z : List Lexeme). r n z ≡ Err (At (length v.1))) v.2
+                  (subst (λ (z : ℕ). r n ts ≡ Err (At z)) v.3 h)) in
+                  never_err (r n (v.0 ++ (t ∷ u))) a [] (suc (length u))
+                  (whole_reads n a (v.0 ++ (t ∷ u)) la) ((S n).local_err v.0 t s h2 u);
+            }
         | inr x ↦
             let f = (S n).found ts x.0.0 x.0.1 x.1 in
-            more_fault n ts k each x.0.0 x.0.1 f.0 x.1 x.2 f.1 f.2
+            more_cut n ts k x.0.0 x.0.1 f.0 x.1 x.2 f.1 f.2
       ]
     where
-      more_fault : (n : ℕ) (ts : List Lexeme) (k : ℕ) → AreOfTokens ts
-          → (b : A) (rest s : List Lexeme) → r n ts ≡ Ok (b, rest) → ended b rest ≡ Err (At k)
-          → ts ≡ s ++ rest → L b s
-          → IsFaultToken L ts (suc (length ts - k))
-      more_fault n ts k each b [] s e h cut l = absurd cc
-      more_fault n ts k each b (t ∷ rest) s e h cut l =
+      more_cut : (n : ℕ) (ts : List Lexeme) (k : ℕ) (b : A) (rest s : List Lexeme)
+          → r n ts ≡ Ok (b, rest) → ended b rest ≡ Err (At k)
+          → ts ≡ s ++ rest → L b s → Cut L ts (suc (length ts - k))
+      more_cut n ts k b [] s e h cut l = absurd cc
+      more_cut n ts k b (t ∷ rest) s e h cut l =
           let ke : suc (length rest) ≡ k = cc in
           let len : length ts - k ≡ length s = omega (
             arith,
@@ -147,20 +109,31 @@ module _ {A : Type 0} (r : ℕ → Read A) (L : A → List Lexeme → Type 0) (s
                 (length {A = Lexeme}) cut,
             length-append s (t ∷ rest),
             ke,
-          ) in
-          subst (λ (z : ℕ). IsFaultToken L ts (suc z)) (sym len)
-          (cut_fault L ts s (t ∷ rest) each cut (
-            b,
-            [],
-            subst (λ (z : List Lexeme). L b z)
-                (sym (append-nil s)) l,
-            tt,
-          ) λ t2 s2 es a u la.
-          let h2 : r n (s ++ (t2 ∷ s2)) ≡ Ok (b, t2 ∷ s2) =
-          subst (λ (z : List Lexeme). r n (s ++ z) ≡ Ok (b, z)) es
-          (subst (λ (z : List Lexeme). r n z ≡ Ok (b, t ∷ rest)) cut e) in
-          never_more (r n (s ++ (t2 ∷ u))) a b t2 u (whole_reads n a (s ++ (t2 ∷ u)) la)
-          ((S n).local_ok s t2 s2 b h2 u))
+          ) in record {
+            front = s;
+            rest = t ∷ rest;
+            whole = cut;
+            number = ap suc len;
+            value = b;
+            more = [];
+            spells = subst (λ (z : List Lexeme). L b z) (sym (append-nil s)) l;
+            usual = tt;
+            dead = λ t2 s2 es a u la.
+                let h2 : r n (s ++ (t2 ∷ s2)) ≡ Ok (b, t2 ∷ s2) =
+                subst (λ (z : List Lexeme). r n (s ++ z) ≡ Ok (b, z)) es
+                (subst (λ (z : List Lexeme). r n z ≡ Ok (b, t ∷ rest)) cut e) in
+                never_more (r n (s ++ (t2 ∷ u))) a b t2 u (whole_reads n a (s ++ (t2 ∷ u)) la)
+                ((S n).local_ok s t2 s2 b h2 u);
+          }
+
+  -- and there is the fault token
+  pub whole_fault : (n : ℕ) (ts : List Lexeme) (k : ℕ) → AreOfTokens ts
+      → whole (r n) ts ≡ Err (At k) → IsFaultToken L ts (suc (length ts - k))
+  whole_fault n ts k each e =
+      let c = whole_cut n ts k e in
+      subst (λ (z : ℕ). IsFaultToken L ts z) (sym c.number)
+      (cut_fault L ts c.front c.rest each c.whole
+      (c.value, c.more, c.spells, of_tokens c.more c.usual) c.dead)
 
   -- what is spelled is read, or nothing is said
   pub whole_or_deep : (n : ℕ) (ts : List Lexeme) (a : A) → L a ts
@@ -223,3 +196,13 @@ module _ {A : Type 0} (r : ℕ → Read A) (L : A → List Lexeme → Type 0) (s
   fault_at_token n ts (reading.Text left) e count same (faults.BadText token) t each =
       let place : suc (length ts - left) ≡ token = omega arith in
       subst (λ (z : ℕ). IsFaultToken L ts z) place (whole_fault n ts left each e)
+
+  -- the same, as the place where the list is cut
+  pub fault_cuts : (n : ℕ) (ts : List Lexeme) (fault : ReadFault)
+      → Fails fault (whole (r n) ts) → (count : ℕ) → length ts ≡ count → (answer : TextFault)
+      → AtToken answer (FirstLeft count fault) → AtToken answer (Cut L ts)
+  fault_cuts n ts fault e count same faults.OutOfMemory t = tt
+  fault_cuts n ts reading.Memory e count same (faults.BadText token) t = absurd t
+  fault_cuts n ts (reading.Text left) e count same (faults.BadText token) t =
+      let place : suc (length ts - left) ≡ token = omega arith in
+      subst (λ (z : ℕ). Cut L ts z) place (whole_cut n ts left e)

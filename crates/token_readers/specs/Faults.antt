@@ -1,4 +1,5 @@
--- What is said of a whole list of tokens that gave nothing.
+-- Needn't be believed: the program's promise doesn't speak of it. What is said of a whole list of
+-- tokens that gave nothing.
 use Rattle.std.specs.Prelude.{◌≡◌, ℕ, ◌+◌, ◌-◌, ◌≤◌, Result, Ok, Err}
 use Rattle.token_readers.specs.declared.fault.ReadFault.{ReadFault}
 use Rattle.token_readers.specs.declared.fault.ReadFault.TheVariants as reading

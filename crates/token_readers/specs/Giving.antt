@@ -1,4 +1,5 @@
--- What a function of the program gives, against a reader of lists.
+-- Needn't be believed: the program's promise doesn't speak of it. What a function of the program
+-- gives, against a reader of lists.
 use Rattle.std.specs.Prelude.{◌≡◌, Result, Ok, Err}
 use Rattle.token_readers.specs.declared.fault.ReadFault.{ReadFault}
 use Rattle.token_readers.specs.declared.fault.ReadFault.TheVariants as faults

@@ -1,6 +1,8 @@
--- What single lexemes stand for in the grammar.
+-- Needn't be believed: the program's promise doesn't speak of it. What single lexemes stand for in
+-- the grammar.
 use Rattle.model_limits.specs.Limits.{standard_limits}
-use Rattle.std.specs.Prelude.{◌≡◌, ℕ, nat_le, cond, List, Option, Some, None, codes}
+use Rattle.std.specs.Prelude.{◌≡◌, ℕ, nat_le, cond, ◌||◌, List, Option, Some, None, bytes_eq, codes}
+use Rattle.model_text.specs.Versions.{insert_word}
 use Rattle.model_text.specs.Lexemes.{Lexeme, terminal, step_word, name_lexeme, number_lexeme, is_reserved}
 use Rattle.token_readers.specs.Reading.{first}
 pub use Rattle.text_tokens.specs.Lexemes.{lexeme_seen, listed, lexemes_in}
@@ -14,7 +16,7 @@ leaf_name _ = None
 abbrev pub leaf_word : Lexeme → Option (List ℕ)
 leaf_word (name_lexeme w) = Some w
 leaf_word (step_word line) = Some (codes "step")
-leaf_word (terminal w) = cond (is_reserved w) (Some w) None
+leaf_word (terminal w) = cond (is_reserved w || bytes_eq w insert_word) (Some w) None
 leaf_word _ = None
 
 -- a number of at most 32 bits

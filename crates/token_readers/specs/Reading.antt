@@ -1,6 +1,6 @@
--- Readers of a list of lexemes: each gives a value and the rest, or where the reading stopped.
--- These are what the program's readers are compared with; what they read is said by the grammar
--- alone.
+-- Needn't be believed: what they read is said by the grammar alone. Readers of a list of lexemes:
+-- each gives a value and the rest, or where the reading stopped. The program's readers are compared
+-- with them.
 use Rattle.std.specs.Prelude.{◌≡◌, ℕ, zero, suc, Bool, true, false, not, cond, List, [], ◌∷◌, ◌++◌, length, Option, Some, None, Result, Ok, Err, bytes_eq, option_map}
 use Rattle.model_text.specs.Lexemes.{Lexeme, terminal}
 

@@ -1,4 +1,5 @@
--- Reading a list of lexemes to its end.
+-- Needn't be believed: the program's promise doesn't speak of it. Reading a list of lexemes to its
+-- end.
 use Rattle.std.specs.Prelude.{suc, List, [], ◌∷◌, length, Result, Ok, Err}
 use Rattle.model_text.specs.Lexemes.{Lexeme}
 use Rattle.token_readers.specs.Reading.{Stop, At, Read, ◌>>=◌}

@@ -8,7 +8,7 @@ ghost use Rattle.token_readers.specs.Leaves.{lexeme_seen, lexemes_in, leaf_name,
 use crate::fault::ReadFault;
 use dom_terms::Text;
 use std::alloc::Global;
-use text_tokens::{Front, Lexeme, TokenKind, is_reserved};
+use text_tokens::{Front, Lexeme, TokenKind, is_insert, is_reserved};
 
 fn name_of(token: Lexeme) -> Option<&str>
     ensures { option_map (λ text. text.now) result ≡ leaf_name (lexeme_seen token.entry) }
@@ -21,8 +21,9 @@ fn word_of(token: Lexeme) -> Option<&str>
 {
     match token.kind {
         TokenKind::Word => Some(token.text),
-        // no symbol that is read from bytes is a reserved word, but one made by hand may be
-        TokenKind::Symbol if is_reserved(token.text) => Some(token.text),
+        // no symbol that is read from bytes is a reserved word, but one made by hand may be, and the
+        // word that version 2 reserves is lent as one
+        TokenKind::Symbol if is_reserved(token.text) || is_insert(token.text) => Some(token.text),
         _ => None,
     }
 }

@@ -4,19 +4,21 @@ use mathlib.Core.HLevel.{Stable}
 use Rattle.model_shapes.specs.Shapes.{holes, Shaped, SameAt}
 use Rattle.model_shapes.specs.Sorts.{DataSort, shape, context, tree, forest, grove, node_sort}
 use Rattle.model_shapes.specs.Trees.{Trees, none, node, beside, fill, node_uses, WellFormed}
-use Rattle.model_shapes.specs.Values.{node_number}
+use Rattle.model_shapes.specs.Values.{Value, null, node_number}
 use Rattle.model_shapes.proofs.Basics.{node_uses-fill, holes-beside, fill-fill}
 use Rattle.model_shapes.proofs.Filling.{fill-right, put-Shaped, inner-WellFormed}
 use Rattle.model_shapes.proofs.Shapes.{SameAt-sym, SameAt-trans, SameAt-eq, same-Shaped, same-node_uses, same-WellFormed}
 use Rattle.model_formulas.specs.Formulas.{Formula, node_formula, application, hole_adjoint, empty, concatenation, whole, one_tree, one_root, conjunction, equality}
-use Rattle.model_formulas.specs.Satisfaction.{Environment, Meets, Proper, with_store}
-use Rattle.model_terms.specs.Terms.{Term}
-use Rattle.model_commands.specs.Commands.{append_child}
+use Rattle.model_formulas.specs.Satisfaction.{Environment, Meets, Proper, meaning_of, with_store}
+use Rattle.model_terms.specs.Terms.{Term, literal}
+use Rattle.model_terms.specs.Computing.{Computes}
+use Rattle.model_shapes.specs.Things.{val}
+use Rattle.model_commands.specs.Commands.{Command, append_child, insert_before}
 use Rattle.model_commands.specs.SortTests.{is_sorted, BodiesSorted}
 use Rattle.model_groves.specs.Groves.{nodes_where, numbered, node_at, without, adding, positive}
 use Rattle.model_machine.specs.ClassicalTriples.{Ends, Stands}
 use Rattle.model_groves.specs.Picks.{Pick}
-use Rattle.model_machine.specs.Machine.{beginning, run, runs, becomes, faults, cycle, appending}
+use Rattle.model_machine.specs.Machine.{beginning, run, runs, becomes, faults, cycle, appending, inserting_at, move}
 use Rattle.model_commands.specs.Sorting.{Sorted}
 use Rattle.model_commands.proofs.Sorting.{sorted-command}
 use Rattle.model_terms.specs.Stores.{Store, lookup, value_of}
@@ -38,7 +40,7 @@ alone_at tree p = p
 alone_at forest p = one_tree p
 alone_at grove p = one_root p
 
-alone-meets : (h : DataSort) (p : Formula) (e : Environment) (u : Trees) → (h ≡ tree → ⊥)
+pub alone-meets : (h : DataSort) (p : Formula) (e : Environment) (u : Trees) → (h ≡ tree → ⊥)
     → Meets (alone_at h p) e (shape h) u → Shaped (shape tree) u × Meets p e (shape tree) u
 alone-meets tree p e u n m = absurd (n refl)
 alone-meets forest p e u n m = m
@@ -63,14 +65,15 @@ appending-lands J i j t q m st g w e used h =
     zero-uses = omega (arith, node-taken-out i j g, w.nodes_once i, ap (node_uses i) e)
 
 module _ (ps : Procedures) (bodies : BodiesSorted ps) (h d : DataSort) (not-tree : h ≡ tree → ⊥)
-    (k : Formula) (a b s i : Term) (p : Formula) (l t j : Term) (q : Formula) (m : Term)
-    (fits : is_sorted ps (append_child a b) ≡ true) (e : Environment) (st : Store)
+    (k : Formula) (s i : Term) (p : Formula) (l t j : Term) (q : Formula) (m : Term)
+    (cmd : Command) (fits : is_sorted ps cmd ≡ true) (e : Environment) (st : Store)
     (pr : Proper (with_store (lookup st) e))
+    -- the command moves a tree to the end of the children of a node
+    (moves : (x v : ℕ) → val (node_number x) ≡ meaning_of (with_store (lookup st) e) i
+    → val (node_number v) ≡ meaning_of (with_store (lookup st) e) j → (g : Trees) (pick : Pick)
+    → move ps pick (run cmd) st g
+    ≡ appending (node_at (node_number x) g) (node_at (node_number v) g) st g)
   where
-    -- what its terms are
-    so : Sorted ps (append_child a b)
-    so = sorted-command ps (append_child a b) fits
-
     abbrev env : Environment
     env = with_store (lookup st) e
 
@@ -220,25 +223,24 @@ module _ (ps : Procedures) (bodies : BodiesSorted ps) (h d : DataSort) (not-tree
     abbrev hole_round_parent : Formula
     hole_round_parent = hole_adjoint (empty h) (application tree k (node_formula s i p l))
 
-    pub append-sound : (r : Trees) → Shaped (shape d) r
-        → Meets (conjunction (conjunction (application h hole_round_parent (alone_at h child))
-        (equality a i)) (equality b j)) env (shape d) r
+    to-the-end-sound : (r : Trees) → Shaped (shape d) r
+        → Meets (application h hole_round_parent (alone_at h child)) env (shape d) r
         → (c : Trees) → Shaped (context d grove) c → Shaped (shape grove) (fill c r)
         → (picks : List Pick)
-        → Ends ⊥ (Stands d c post e) (runs ps picks (beginning (append_child a b) st (fill c r)))
-    append-sound r wr mt c wc w picks = stable-goal (λ n. mt.0.0 (λ x. x.2 (λ y.
+        → Ends ⊥ (Stands d c post e) (runs ps picks (beginning cmd st (fill c r)))
+    to-the-end-sound r wr mt c wc w picks = stable-goal (λ n. mt (λ x. x.2 (λ y.
         n (with_parts x.0 x.1 y.0 y.1 y.2.0 y.2.1 (alone-meets h child env y.0 not-tree y.2.2)))))
       where
         stable-goal : Stable (Ends ⊥ (Stands d c post e) (runs ps picks
-            (beginning (append_child a b) st (fill c r))))
+            (beginning cmd st (fill c r))))
         stable-goal = stable-ends d c post e (runs ps picks
-            (beginning (append_child a b) st (fill c r)))
+            (beginning cmd st (fill c r)))
 
         with_parts : (c1 : Trees) → Shaped (context h d) c1 → (u : Trees) → Shaped (shape h) u
             → SameAt d r (fill c1 u) → Meets hole_round_parent env (context h d) c1
             → Shaped (shape tree) u × Meets child env (shape tree) u
             → Ends ⊥ (Stands d c post e) (runs ps picks
-            (beginning (append_child a b) st (fill c r)))
+            (beginning cmd st (fill c r)))
         with_parts c1 wc1 u wu samer adj mu = stable-goal (λ n.
             adj none (nothing-Shaped h not-tree) refl emptied (λ x. x.2 (λ y.
             n (with_parent x.0 x.1 y.0 y.1 y.2.0 y.2.1 (node-met s i p l env y.0 y.2.2)))))
@@ -268,23 +270,74 @@ module _ (ps : Procedures) (bodies : BodiesSorted ps) (h d : DataSort) (not-tree
                 → Shaped (shape tree) n → SameAt d (fill c1 none) (fill c2 n)
                 → Meets k env (context tree d) c2 → NodeMet s i p l env n
                 → Ends ⊥ (Stands d c post e) (runs ps picks
-                (beginning (append_child a b) st (fill c r)))
+                (beginning cmd st (fill c r)))
             with_parent c2 wc2 n wn same mk x =
                 let at : Trees = node v.name v.number v.kids v.list none in
                 let g : Trees = fill (fill c c1) at in
                 let whole-at : Shaped (shape grove) g =
                 subst (λ z. Shaped (shape grove) (fill (fill c c1) z)) v.is start-whole in
-                on-same ps bodies d c post e (append_child a b) st (fill c r) g picks fits
+                on-same ps bodies d c post e cmd st (fill c r) g picks fits
                 (proper-store st e pr) whole-at (SameAt-sym grove (fill c r) g
                 (subst (λ z. SameAt grove (fill c r) (fill (fill c c1) z)) v.is start-same))
-                (one-step ps (Stands d c post e) picks (run (append_child a b)) st g (λ pick.
-                subst (λ z. Lands (Stands d c post e) (appending (node_at z g)
-                (node_at (value_of st b) g) st g))
-                (sym (valued node_sort a i (node_number x.number) st e so.0 x.number_is mt.0.1))
-                (subst (λ z. Lands (Stands d c post e)
-                (appending (node_at (node_number x.number) g) (node_at z g) st g))
-                (sym (valued node_sort b j (node_number v.number) st e so.1 v.number_is mt.1))
+                (one-step ps (Stands d c post e) picks (run cmd) st g (λ pick.
+                subst (Lands (Stands d c post e))
+                (sym (moves x.number v.number x.number_is v.number_is g pick))
                 (append-lands c wc c1 wc1 c2 wc2 mk u n v x
                 (subst (λ z. SameAt d (fill c1 none) (fill c2 z)) x.is same) whole-at
                 (subst (Shaped (shape tree)) v.is mu.0) (subst (Shaped (shape tree)) x.is wn)
-                (subst (Meets child env (shape tree)) v.is mu.1)))))
+                (subst (Meets child env (shape tree)) v.is mu.1))))
+
+-- appendChild and, before null, insertBefore
+module _ (ps : Procedures) (bodies : BodiesSorted ps) (h d : DataSort) (not-tree : h ≡ tree → ⊥)
+    (k : Formula) (a b s i : Term) (p : Formula) (l t j : Term) (q : Formula) (m : Term)
+    (e : Environment) (st : Store) (pr : Proper (with_store (lookup st) e))
+  where
+    abbrev around_parent : Formula
+    around_parent = application h (hole_adjoint (empty h) (application tree k
+        (node_formula s i p l))) (alone_at h (node_formula t j q m))
+
+    abbrev at_the_end : Formula
+    at_the_end = application tree k (node_formula s i (concatenation whole p
+        (one_tree (node_formula t j q m))) l)
+
+    -- what two terms name
+    two-named : (x v : ℕ) → Computes node_sort a → Computes node_sort b
+        → val (node_number x) ≡ meaning_of (with_store (lookup st) e) i
+        → meaning_of (with_store (lookup st) e) a ≡ meaning_of (with_store (lookup st) e) i
+        → val (node_number v) ≡ meaning_of (with_store (lookup st) e) j
+        → meaning_of (with_store (lookup st) e) b ≡ meaning_of (with_store (lookup st) e) j
+        → (value_of st a ≡ node_number x) × (value_of st b ≡ node_number v)
+    two-named x v ca cb xi ai vj bj = (
+      valued node_sort a i (node_number x) st e ca xi ai,
+      valued node_sort b j (node_number v) st e cb vj bj,
+    )
+
+    pub append-sound : is_sorted ps (append_child a b) ≡ true → (r : Trees) → Shaped (shape d) r
+        → Meets (conjunction (conjunction around_parent (equality a i)) (equality b j))
+        (with_store (lookup st) e) (shape d) r
+        → (c : Trees) → Shaped (context d grove) c → Shaped (shape grove) (fill c r)
+        → (picks : List Pick)
+        → Ends ⊥ (Stands d c at_the_end e)
+        (runs ps picks (beginning (append_child a b) st (fill c r)))
+    append-sound fits r wr mt =
+        to-the-end-sound ps bodies h d not-tree k s i p l t j q m (append_child a b) fits e st pr
+        (λ x v xi vj g pick.
+        let so = sorted-command ps (append_child a b) fits in
+        let n = two-named x v so.0 so.1 xi mt.0.1 vj mt.1 in
+        λ y. appending (node_at (n.0 y) g) (node_at (n.1 y) g) st g) r wr mt.0.0
+
+    pub last-sound : (f : Term) → is_sorted ps (insert_before a b f) ≡ true → (r : Trees)
+        → Shaped (shape d) r
+        → Meets (conjunction (conjunction (conjunction around_parent (equality a i))
+        (equality b j)) (equality f (literal null))) (with_store (lookup st) e) (shape d) r
+        → (c : Trees) → Shaped (context d grove) c → Shaped (shape grove) (fill c r)
+        → (picks : List Pick)
+        → Ends ⊥ (Stands d c at_the_end e)
+        (runs ps picks (beginning (insert_before a b f) st (fill c r)))
+    last-sound f fits r wr mt =
+        to-the-end-sound ps bodies h d not-tree k s i p l t j q m (insert_before a b f) fits e st
+        pr (λ x v xi vj g pick.
+        let so = sorted-command ps (insert_before a b f) fits in
+        let n = two-named x v so.0 so.1 xi mt.0.0.1 vj mt.0.1 in
+        let o : value_of st f ≡ null = valued node_sort f (literal null) null st e so.2 refl mt.1 in
+        λ y. inserting_at (o y) (node_at (n.0 y) g) (node_at (n.1 y) g) st g) r wr mt.0.0.0

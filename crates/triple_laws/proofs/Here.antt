@@ -2,8 +2,8 @@
 use Rattle.std.proofs.Common.{◌≡◌, ℕ, ◌≤◌, ◌+◌, List, refl, ap, ◌∙◌, arith, true, cond}
 use Rattle.std.proofs.Math.Decide.{ℕ_discrete}
 use Rattle.model_shapes.specs.Trees.{Trees, none, node, beside, node_uses, list_uses, one_if}
-use Rattle.model_groves.specs.Groves.{nodes_where, has_root, numbered, listed, parental, without, adding}
-use Rattle.model_groves.proofs.InContext.{adding-none}
+use Rattle.model_groves.specs.Groves.{nodes_where, has_root, numbered, listed, parental, without, adding, adding_before}
+use Rattle.model_groves.proofs.InContext.{adding-none, adding_before-none}
 use Rattle.model_groves.proofs.Decided.{yes-is}
 
 module _ (s : List ℕ) (i : ℕ) (k : Trees) (l : ℕ) where
@@ -32,6 +32,12 @@ module _ (s : List ℕ) (i : ℕ) (k : Trees) (l : ℕ) where
       ap (λ b. node s i (cond b (beside (adding i t k) t) (adding i t k)) l none)
       (yes-is (ℕ_discrete i i) refl)
       ∙ ap (λ z. node s i (beside z t) l none) (adding-none i t k o)
+
+  pub before-here : (t : Trees) → node_uses i k ≡ 0 → adding_before i t alone ≡ beside t alone
+  before-here t o =
+      ap (λ b. cond b (beside t (node s i (adding_before i t k) l none))
+      (node s i (adding_before i t k) l none)) (yes-is (ℕ_discrete i i) refl)
+      ∙ ap (λ z. beside t (node s i z l none)) (adding_before-none i t k o)
 
   -- its number is used once by itself, and so is its list number
   tally-own : (n : ℕ) (d : Dec (n ≡ n)) → one_if d ≡ 1

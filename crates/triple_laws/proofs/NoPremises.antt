@@ -39,7 +39,8 @@ axioms-bare : EachBare axioms
 axioms-bare =
     ((λ l. refl) & tt) & ((λ l. refl) & tt) & ((λ l. refl) & tt) & ((λ l. refl) & tt)
     & ((λ l. refl) & tt) & ((λ l. refl) & tt) & ((λ l. refl) & tt)
-    & ((λ l. refl) & (λ l. refl) & tt) & ((λ l. refl) & tt) & tt
+    & ((λ l. refl) & (λ l. refl) & tt) & ((λ l. refl) & tt)
+    & ((λ l. refl) & (λ l. refl) & tt) & ((λ l. refl) & (λ l. refl) & tt) & tt
 
 pub axiom-cites-nothing : (name : Name) (w : Written) → IsInstance (readings_in axioms name) w
     → w.premises ≡ Some []

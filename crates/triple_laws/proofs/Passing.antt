@@ -3,7 +3,7 @@ use Rattle.std.proofs.Common.{◌≡◌, ℕ, List, [], ◌∷◌, ◌++◌, ◌
 use Rattle.model_shapes.specs.Sorts.{Sort}
 use Rattle.model_shapes.specs.Things.{val}
 use Rattle.model_shapes.specs.Values.{str, int}
-use Rattle.model_formulas.specs.Satisfaction.{Environment, with_store, meaning_of, number_of, text_of}
+use Rattle.model_formulas.specs.Satisfaction.{Environment, with_store, meaning_of, number_of, text_meant}
 use Rattle.model_terms.specs.Terms.{Term, variable, InTerm, literal, sum, difference, appended, Substitution}
 use Rattle.model_terms.specs.VariableTests.{var_eq}
 use Rattle.model_terms.specs.Variables.{bound, Var, prog, logic}
@@ -35,8 +35,8 @@ meaning-agrees (difference a b) e e' h =
     λ i. val (int (number_of (meaning-agrees a e e' (λ x m. h x (inl m)) i)
     -ℤ number_of (meaning-agrees b e e' (λ x m. h x (inr m)) i)))
 meaning-agrees (appended a b) e e' h =
-    λ i. val (str (text_of (meaning-agrees a e e' (λ x m. h x (inl m)) i)
-    ++ text_of (meaning-agrees b e e' (λ x m. h x (inr m)) i)))
+    λ i. val (str (text_meant (meaning-agrees a e e' (λ x m. h x (inl m)) i)
+    ++ text_meant (meaning-agrees b e e' (λ x m. h x (inr m)) i)))
 
 value-agrees : (t : Term) (st st' : Store)
     → ((x : ProgVar) → InTerm (as_var x) t → value_in st x ≡ value_in st' x)

@@ -7,12 +7,13 @@ use Rattle.triple_laws.proofs.Framing as Fr
 use Rattle.triple_laws.proofs.LogicVariables as Lo
 use Rattle.triple_laws.proofs.ReadAxioms as Re
 use Rattle.triple_laws.proofs.AppendAxiom as Ap
+use Rattle.triple_laws.proofs.InsertAxiom as In
 use Rattle.triple_laws.proofs.RemoveAxiom as Rm
 use Rattle.triple_laws.proofs.CreateAxiom as Cr
 use Rattle.triple_laws.proofs.Calls as Ca
 use Rattle.model_shapes.specs.Sorts.{DataSort, forest, grove}
 use Rattle.model_formulas.specs.Formulas.{Formula}
-use Rattle.model_commands.specs.Commands.{Command, assign, create_node, node_name, child_nodes, parent_node, list_item, append_child, remove_child, if_else, while_do, call}
+use Rattle.model_commands.specs.Commands.{Command, assign, create_node, node_name, child_nodes, parent_node, list_item, append_child, remove_child, insert_before, if_else, while_do, call}
 use Rattle.model_commands.specs.SortTests.{BodiesSorted}
 use Rattle.model_commands.specs.Scopes.{IsScoped}
 use Rattle.model_commands.specs.Sorting.{CallFits, Sorted}
@@ -152,22 +153,40 @@ module _ (ps : Procedures) (bodies : BodiesSorted ps) (n : ℕ) where
   append_in_forest : SoundRow (in_steps ps n) Ax.append_in_forest
   append_in_forest l so w c h e st pr r wr mt around wc wf picks long =
       Ap.append-sound ps bodies forest l.k (λ q. cc) l.K l.E l.F l.S l.I l.P l.L l.T l.J l.Q l.M
-      (step-sorted ps (append_child l.E l.F) so)
-      e
-      st pr r wr mt around wc wf picks
+      e st pr (step-sorted ps (append_child l.E l.F) so) r wr mt around wc wf picks
 
   append_in_grove : SoundRow (in_steps ps n) Ax.append_in_grove
   append_in_grove l so w c h e st pr r wr mt around wc wf picks long =
       Ap.append-sound ps bodies grove grove (λ q. cc) l.K l.E l.F l.S l.I l.P l.L l.T l.J l.Q l.M
-      (step-sorted ps (append_child l.E l.F) so)
-      e
-      st pr r wr mt around wc wf picks
+      e st pr (step-sorted ps (append_child l.E l.F) so) r wr mt around wc wf picks
 
   remove : SoundRow (in_steps ps n) Ax.remove_axiom
   remove l so w c h e st pr r wr mt around wc wf picks long =
       Rm.remove-sound ps bodies l.K l.E l.F l.S l.I l.P l.T l.J l.Q l.M l.R l.L
       (step-sorted ps (remove_child l.E l.F) so) e st pr r wr mt
       around wc wf picks
+
+  insert_before_in_forest : SoundRow (in_steps ps n) Ax.insert_before_in_forest
+  insert_before_in_forest l so w c h e st pr r wr mt around wc wf picks long =
+      In.insert-sound ps bodies forest l.k (λ q. cc) l.K l.E l.F l.G l.S l.I l.P l.Y l.V l.A l.N
+      l.R l.L l.T l.J l.Q l.M (step-sorted ps (insert_before l.E l.F l.G) so) e st pr r wr mt
+      around wc wf picks
+
+  insert_before_in_grove : SoundRow (in_steps ps n) Ax.insert_before_in_grove
+  insert_before_in_grove l so w c h e st pr r wr mt around wc wf picks long =
+      In.insert-sound ps bodies grove grove (λ q. cc) l.K l.E l.F l.G l.S l.I l.P l.Y l.V l.A l.N
+      l.R l.L l.T l.J l.Q l.M (step-sorted ps (insert_before l.E l.F l.G) so) e st pr r wr mt
+      around wc wf picks
+
+  insert_last_in_forest : SoundRow (in_steps ps n) Ax.insert_last_in_forest
+  insert_last_in_forest l so w c h e st pr r wr mt around wc wf picks long =
+      Ap.last-sound ps bodies forest l.k (λ q. cc) l.K l.E l.F l.S l.I l.P l.L l.T l.J l.Q l.M
+      e st pr l.G (step-sorted ps (insert_before l.E l.F l.G) so) r wr mt around wc wf picks
+
+  insert_last_in_grove : SoundRow (in_steps ps n) Ax.insert_last_in_grove
+  insert_last_in_grove l so w c h e st pr r wr mt around wc wf picks long =
+      Ap.last-sound ps bodies grove grove (λ q. cc) l.K l.E l.F l.S l.I l.P l.L l.T l.J l.Q l.M
+      e st pr l.G (step-sorted ps (insert_before l.E l.F l.G) so) r wr mt around wc wf picks
 
   -- EACH AXIOM, AND EACH RULE
   pub axioms-sound : SoundEntries (in_steps ps n) Ax.axioms
@@ -180,7 +199,9 @@ module _ (ps : Procedures) (bodies : BodiesSorted ps) (n : ℕ) where
       (parent_none & tt) &
       (create & tt) &
       (append_in_forest & append_in_grove & tt) &
-      (remove & tt) & tt
+      (remove & tt) &
+      (insert_before_in_forest & insert_before_in_grove & tt) &
+      (insert_last_in_forest & insert_last_in_grove & tt) & tt
 
   pub rules-sound : Scoped ps → HoldBelow ps n → SoundEntries (in_steps ps n) (Tr.rules ps)
   rules-sound scoped below =

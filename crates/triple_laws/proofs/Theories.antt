@@ -4,10 +4,10 @@ use Rattle.model_shapes.specs.Values.{Name}
 use Rattle.model_files.specs.FileFaults.{IsWellFormedTheory}
 use Rattle.model_commands.specs.SortTests.{BodiesSorted}
 use Rattle.model_machine.specs.LocalTriples.{MeetsItsSpecification}
-use Rattle.model_commands.specs.Theories.{Theory, Judgement, entails, triple, Step, Procedure, Procedures, procedures_of, procedure_named, own_triple}
+use Rattle.model_commands.specs.Theories.{Theory, Judgement, Reason, auto, by_rule, entails, triple, Step, Procedure, Procedures, procedures_of, procedure_named, own_triple}
 use Rattle.model_machine.proofs.Plain.{classical-plain}
 use Rattle.model_files.proofs.WellFormedTheories.{well-formed-bodies, well-formed-scopes}
-use Rattle.rule_table.specs.Accepted.{Each, IsProved, IsAccepted}
+use Rattle.rule_table.specs.Accepted.{Each, InstanceBy, IsProved, IsAccepted}
 use Rattle.rule_table.specs.Table.{table}
 use Rattle.rule_table.specs.Table.{entailments}
 use Rattle.rule_table.specs.Table.{triples}
@@ -17,7 +17,9 @@ use Rattle.entailment_laws.specs.Judgements.{Fitting, JudgementHolds, AllProved}
 use Rattle.entailment_laws.proofs.Instances.{some-is, named-instance}
 use Rattle.entailment_laws.proofs.Sound.{entailments_sound}
 use Rattle.entailment_laws.proofs.SoundRows.{SoundEntries, sound-append}
+use Rattle.entailment_laws.proofs.Steps.{step-sound}
 use Rattle.triple_laws.specs.BySteps.{in_steps, locally, HoldBelow}
+use Rattle.triple_laws.specs.Steps.{HoldsAnywhere, HoldsBySteps}
 use Rattle.triple_laws.proofs.Fitting.{step-sorted}
 use Rattle.triple_laws.proofs.Proofs.{StepsFitting, procedure-holds, procedure-fits}
 use Rattle.triple_laws.proofs.StepsFit.{well-formed-steps}
@@ -118,6 +120,17 @@ table-of-triples-sound theory w n below name written premises fit cites h i =
     (triples-sound ps bodies n (well-formed-scopes theory w) below) name written premises fit cites
     h i
 
+-- and of a step by any rule of the table
+pub step-holds : (theory : Theory) (earlier : List Step) (reason : Reason) (judgement : Judgement)
+    → InstanceBy (procedures_of theory) reason earlier judgement
+    → HoldsBySteps theory earlier reason judgement
+step-holds theory earlier auto judgement i w fit n below = i
+step-holds theory earlier (by_rule name citations arguments) judgement i w fit n below =
+    let ps : Procedures = procedures_of theory in
+    step-sound (in_steps ps n) (table ps)
+    (table-sound ps (well-formed-bodies theory w) (well-formed-scopes theory w) n below) name
+    citations arguments earlier judgement (fitting-judgement ps n judgement fit) i
+
 -- AN AXIOM in every context
 pub axiom-holds : (theory : Theory) → IsWellFormedTheory theory → (name : Name)
     (written : Written) → Fitting (locally (procedures_of theory)) written.conclusion
@@ -129,3 +142,7 @@ axiom-holds theory w name written fit i =
     any-length ps bodies written.conclusion fit
     (λ n. named-instance (in_steps ps n) axioms (axioms-sound ps bodies n) name written []
     (fitting-judgement ps n written.conclusion fit) (axiom-cites-nothing name written i) tt i)
+
+pub axiom-anywhere : (name : Name) (written : Written) → IsInstance (readings_in axioms name) written
+    → HoldsAnywhere written.conclusion
+axiom-anywhere name written i theory w fit = axiom-holds theory w name written fit i

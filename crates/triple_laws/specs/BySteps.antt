@@ -1,5 +1,5 @@
--- Needn't be believed for what accepted theories promise: how triples are read in the laws of
--- single rules, in every context, and for the runs of so many steps.
+-- Needn't be believed: accepted theories promise triples, not these. How triples are read in the
+-- laws of single rules, in every context, and for the runs of so many steps.
 use Rattle.std.specs.Prelude.{◌≡◌, ℕ, ◌≤◌, ◌<◌, List, Some, Bool, true, ◌&&◌}
 use Rattle.std.specs.List.{list_all}
 use Rattle.model_commands.specs.Commands.{Command}

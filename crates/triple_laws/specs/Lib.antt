@@ -1,1 +1,2 @@
 pub mod BySteps
+pub mod Steps

@@ -1,4 +1,5 @@
--- The program variables that a command changes, as a list.
+-- Needn't be believed: the program's promise doesn't speak of it. The program variables that a
+-- command changes, as a list.
 use Rattle.std.specs.Prelude.{List}
 use Rattle.model_terms.specs.Stores.{ProgVar}
 use Rattle.model_commands.specs.Commands.{Command, Among, Modifies}

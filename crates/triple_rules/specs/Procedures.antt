@@ -1,4 +1,5 @@
--- The procedures of a theory, as the definitions have them.
+-- Needn't be believed: the program's promise doesn't speak of it. The procedures of a theory, as
+-- the definitions have them.
 use Rattle.std.specs.Prelude.{List, map}
 use Rattle.model_commands.specs.Theories as model
 use Rattle.theory_syntax.specs.declared.theories.Procedure.{Procedure}

@@ -1,4 +1,5 @@
--- What is written at a step for a triple, as the table of rules has it.
+-- Needn't be believed: the program's promise doesn't speak of it. What is written at a step for a
+-- triple, as the table of rules has it.
 use Rattle.std.specs.Prelude.{map}
 use Rattle.model_commands.specs.Theories.{nameless_judgement}
 use Rattle.model_files.specs.Sizes.{JudgementIsSmall}

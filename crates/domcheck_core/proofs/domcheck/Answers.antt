@@ -13,11 +13,11 @@ returns-else-is_err-clause-answered g c = answered _ _ _ _ c.in-Ok.ensures.answe
 
 pub returns-else-is_err-clause-exactly : goal.returns-else-is_err-clause-exactly
 returns-else-is_err-clause-exactly g c = λ s output a.
-    inl (same_answer _ _ _ _ c.in-Ok.ensures.answer s output a)
+    inl (same_answer _ _ _ _ c.in-Ok.ensures.answer _ _ (search rules) s output a)
 
 pub returns-else-is_err-clause-complete : goal.returns-else-is_err-clause-complete
 returns-else-is_err-clause-complete g c = λ s output a no_read no_write.
-    inl (same_answer _ _ _ _ c.in-Ok.ensures.answer s output a)
+    inl (same_answer _ _ _ _ c.in-Ok.ensures.answer _ _ (search rules) s output a)
 
 pub returns-else-is_err-clause-possible : goal.returns-else-is_err-clause-possible
 returns-else-is_err-clause-possible g c = possible _ _ _ _ c.in-Ok.ensures.answer

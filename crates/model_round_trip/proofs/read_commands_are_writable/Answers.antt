@@ -1,10 +1,11 @@
-use Rattle.model_round_trip.proofs.OneSpelling.{command_written}
-use Rattle.model_round_trip.proofs.Readable.{command_readable}
-use Rattle.model_round_trip.proofs.ReadTexts.{as_read}
+use Rattle.model_round_trip.proofs.Laws.{command_can, command_literals, command_words}
 use Rattle.model_round_trip.proofs.read_commands_are_writable.Goals as goal
 
 pub returns-clause-writable : goal.returns-clause-writable
-returns-clause-writable c = λ d lexemes l h. command_readable l h
+returns-clause-writable c = command_can
 
 pub returns-clause-literals : goal.returns-clause-literals
-returns-clause-literals c = λ d lexemes l h. as_read (command_written l) h
+returns-clause-literals c = command_literals
+
+pub returns-clause-words : goal.returns-clause-words
+returns-clause-words c = command_words

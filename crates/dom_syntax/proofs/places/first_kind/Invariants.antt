@@ -6,6 +6,6 @@ use Rattle.dom_syntax.proofs.places.first_kind.Given as goal
 
 abbrev pub invariant-loop-kind : goal.invariant-loop-kind
 invariant-loop-kind g l =
-    find (λ kind. not (g.P.Place.tests l.place kind)) kinds
-    ≡ find (λ kind. not (g.P.Place.tests l.place kind))
+    find (λ kind. not (g.P.Place.tests l.place l.there kind)) kinds
+    ≡ find (λ kind. not (g.P.Place.tests l.place l.there kind))
     (map kind_of (drop l.kind-index l.kind-items))

@@ -1,4 +1,5 @@
--- A list as a type that may hold the type that holds it: it holds its items, in order.
+-- Needn't be believed: the program's promise doesn't speak of it. A list as a type that may hold
+-- the type that holds it: it holds its items, in order.
 use mathlib.Core.Path.{◌≡◌, refl, sym}
 use mathlib.Core.List.{List, []}
 use mathlib.Core.Former.{Former, this, list, via, children}

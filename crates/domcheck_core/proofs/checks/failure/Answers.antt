@@ -1,7 +1,7 @@
 use Rattle.rule_table.specs.Accepted.{fails}
 use Rattle.row_patterns.specs.Verdicts.{verdict_in}
 use Rattle.theory_syntax.specs.Theories.{theory_of}
-use Rattle.domcheck_core.specs.Answers.{Verdict}
+use Rattle.domcheck_core.specs.Answers.{CheckVerdict}
 use Rattle.domcheck_core.proofs.Judged.{said}
 use Rattle.domcheck_core.proofs.Verdicts.{failure-no-end, bad-place, has-procedure, has-step, has-rule, fail-verdict}
 use Rattle.domcheck_core.proofs.checks.failure.Goals as goal
@@ -26,7 +26,7 @@ rule_at-requires c =
 
 pub returns : goal.returns
 returns c =
-    said (λ r. r.status) (λ r. r.output) (Verdict (theory_of c.args.theory.now)) _ _
+    said (λ r. r.status) (λ r. r.output) (CheckVerdict (theory_of c.args.theory.now)) _ _
     c.reported.result
     (fail-verdict c.args.theory.now c.args.procedure c.args.step
     c.procedure_at-procedure.result.now c.step_at-step.result.now c.rule_at.result.now

@@ -1,6 +1,6 @@
 use Rattle.rule_table.specs.Accepted.{gap}
 use Rattle.theory_syntax.specs.Theories.{theory_of}
-use Rattle.domcheck_core.specs.Answers.{Verdict}
+use Rattle.domcheck_core.specs.Answers.{CheckVerdict}
 use Rattle.domcheck_core.proofs.Judged.{said}
 use Rattle.domcheck_core.proofs.Verdicts.{gap-no-end, bad-place, has-procedure, has-step, gap-verdict}
 use Rattle.domcheck_core.proofs.checks.gap.Goals as goal
@@ -16,7 +16,7 @@ step_at-step-requires c =
 
 pub returns : goal.returns
 returns c =
-    said (λ r. r.status) (λ r. r.output) (Verdict (theory_of c.args.theory.now)) _ _
+    said (λ r. r.status) (λ r. r.output) (CheckVerdict (theory_of c.args.theory.now)) _ _
     c.reported.result
     (gap-verdict c.args.theory.now c.args.procedure c.args.step
     c.procedure_at-procedure.result.now c.step_at-step.result.now

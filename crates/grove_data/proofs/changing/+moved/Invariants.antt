@@ -7,6 +7,6 @@ use Rattle.grove_data.proofs.changing.+moved.Given as goal
 
 abbrev pub invariant-moved_among-loop-tree : goal.invariant-moved_among-loop-tree
 invariant-moved_among-loop-tree l =
-    moving l.parent (out-Tree l.child).id (tree_of l.child) (forest_of l.forest)
-    ≡ beside (forest_of l.moved) (moving l.parent (out-Tree l.child).id (tree_of l.child)
+    moving l.place (out-Tree l.child).id (tree_of l.child) (forest_of l.forest)
+    ≡ beside (forest_of l.moved) (moving l.place (out-Tree l.child).id (tree_of l.child)
     (forest_of (drop l.tree-index l.tree-items)))

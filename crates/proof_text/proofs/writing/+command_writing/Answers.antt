@@ -4,7 +4,7 @@ use Rattle.dom_terms.specs.Terms.{prog_var_of, term_of}
 use Rattle.dom_terms.specs.Conditions.{cond_of}
 use Rattle.theory_syntax.specs.Commands.{command_of, block_of}
 use Rattle.theory_syntax.specs.declared.commands.Command.TheOpen.{Command-F}
-use Rattle.theory_syntax.specs.declared.commands.Command.TheVariants.{rolls-Create, rolls-Name, rolls-Parent, rolls-Children, rolls-Append, rolls-Remove, rolls-If, rolls-While, rolls-Local}
+use Rattle.theory_syntax.specs.declared.commands.Command.TheVariants.{rolls-Create, rolls-Name, rolls-Parent, rolls-Children, rolls-Append, rolls-Remove, rolls-InsertBefore, rolls-If, rolls-While, rolls-Local}
 use Rattle.model_commands.specs.Commands as model
 use Rattle.proof_text.proofs.MarkLemmas.{goes_on, ends, lexemes_of_command, block_text, seen}
 use Rattle.proof_text.proofs.writing.+command_writing.Goals as goal
@@ -80,6 +80,16 @@ push_command-returns-in-Remove t c =
     = seen _ (Command-F.Remove c.in-Remove.parent c.in-Remove.child)
     (c.in-Remove.is ∙ sym (rolls-Remove c.in-Remove.parent c.in-Remove.child)) in
     rw e c.push_on_two-in-Remove.ensures
+
+pub push_command-returns-in-InsertBefore : goal.push_command-returns-in-InsertBefore
+push_command-returns-in-InsertBefore t c =
+    let e : command_of c.args.command.now
+    ≡ model.insert_before (term_of c.in-InsertBefore.parent) (term_of c.in-InsertBefore.child)
+    (term_of c.in-InsertBefore.next)
+    = seen _ (Command-F.InsertBefore c.in-InsertBefore.parent c.in-InsertBefore.child
+    c.in-InsertBefore.next) (c.in-InsertBefore.is ∙ sym (rolls-InsertBefore
+    c.in-InsertBefore.parent c.in-InsertBefore.child c.in-InsertBefore.next)) in
+    rw e c.push_on_three.ensures
 
 pub push_command-returns-in_ok-push_block-in-If-2 :
     goal.push_command-returns-in_ok-push_block-in-If-2
