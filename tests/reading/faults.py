@@ -15,7 +15,8 @@ ONE_WAY = """id cut true_in false_out and_in and_left and_right or_left or_right
     len_empty len_zero len_tree len_star len_some len_unique len_nonneg""".split()
 OF_TRIPLES = """skip assign seq if while local call frame consequence eliminate disjunction
     absurd instance name children item item_none parent parent_none create append remove""".split()
-RULES = {*BOTH_WAYS, *(name + "_back" for name in BOTH_WAYS), *ONE_WAY, *OF_TRIPLES}
+OF_VERSION_2 = ["insert_before", "insert_last"]
+RULES = {*BOTH_WAYS, *(name + "_back" for name in BOTH_WAYS), *ONE_WAY, *OF_TRIPLES, *OF_VERSION_2}
 
 
 def has_repeat(items):
@@ -62,9 +63,18 @@ def program_variables(formula):
     return {node[1] for node in walk(formula) if node[0] == "prog"}
 
 
+def is_of_version(command, theory):
+    """Says whether the theory's version has all commands in it. No text has one that it doesn't."""
+    return theory.version == 2 or all(node[:1] != ("insertBefore",) for node in walk(command))
+
+
+def is_rule_of(theory, rule):
+    return rule in RULES and (theory.version == 2 or rule not in OF_VERSION_2)
+
+
 def head_faults(theory):
     """The kinds at the place of the version and the logic variables."""
-    if theory.version != 1:
+    if theory.version not in (1, 2):
         yield "version"
     if has_repeat([name for name, _ in theory.logic]):
         yield "twice"
@@ -74,6 +84,8 @@ def procedure_faults(theory, place, scope):
     """The kinds at a procedure's header and body, in the order of the table."""
     procedure = theory.procedures[place]
     _, params, results, sort, pre, post, body, _ = procedure
+    if not is_of_version(body, theory):
+        yield "version"
     earlier = [it.name for it in theory.procedures[:place]]
     if procedure.name in earlier or has_repeat([name for name, _ in declared_by(procedure)]):
         yield "twice"
@@ -95,9 +107,11 @@ def is_judgement(judgement, scope):
             and all(is_command(command, scope) for command in commands))
 
 
-def step_faults(step, place, scope):
+def step_faults(theory, step, place, scope):
     """The kinds at a step, in the order of the table."""
     judgement = step.judgement
+    if judgement[0] == "triple" and not is_of_version(judgement[2], theory):
+        yield "version"
     if has_unknown((judgement, step.arguments), scope):
         yield "unknown"
     are_sorted = all(term_sort(argument, scope) for argument in step.arguments)
@@ -105,7 +119,7 @@ def step_faults(step, place, scope):
         yield "sort"
     if judgement[0] == "triple":
         yield from command_faults(judgement[2], scope)
-    if step.rule is not None and step.rule not in RULES:
+    if step.rule is not None and not is_rule_of(theory, step.rule):
         yield "rule"
     if step.number != place:
         yield "number"
@@ -118,4 +132,4 @@ def file_faults(theory):
         scope = scope_of(theory, procedure)
         yield from ((at + 1, 0, kind) for kind in procedure_faults(theory, at, scope))
         for place, step in enumerate(procedure.steps, 1):
-            yield from ((at + 1, place, kind) for kind in step_faults(step, place, scope))
+            yield from ((at + 1, place, kind) for kind in step_faults(theory, step, place, scope))

@@ -1,5 +1,8 @@
-"""The grove of a run, and its steps."""
-from reading.documents import Tree
+"""The grove of a run, and its steps.
+
+A grove may be a chain of a hundred thousand nodes, or a root with as many children. So nothing here
+goes into itself for each level of a grove, and no step looks at all nodes.
+"""
 from reading.limits import DEFAULTS, DEPTH, LAST_I64, LAST_U32, NODES, TEXT_BYTES, Refused
 from reading.sorts import declared_by
 from reading.texts import command_text, quoted
@@ -9,20 +12,79 @@ class Faulted(Exception):
     """A command's fault; its kind."""
 
 
+class Row:
+    """The numbers of a node's children in their order, in blocks that stay short."""
+
+    MOST = 500
+
+    def __init__(self):
+        self.blocks = []
+
+    def numbers(self):
+        return [number for block in self.blocks for number in block]
+
+    def item(self, place):
+        """Returns the number at a place, counted from 0, or None."""
+        if place < 0:
+            return None
+        for block in self.blocks:
+            if place < len(block):
+                return block[place]
+            place -= len(block)
+        return None
+
+    def found(self, number, of_block):
+        """Returns where its block stands, and where it stands in the block."""
+        block = of_block[number]
+        at = next(at for at, it in enumerate(self.blocks) if it is block)
+        return at, block.index(number)
+
+    def put(self, number, following, of_block):
+        """Puts a number before another one, or at the end for None."""
+        if following is not None:
+            at, place = self.found(following, of_block)
+        else:
+            self.blocks = self.blocks or [[]]
+            at, place = len(self.blocks) - 1, len(self.blocks[-1])
+        block = self.blocks[at]
+        block.insert(place, number)
+        of_block[number] = block
+        if len(block) > self.MOST:
+            rear = block[self.MOST // 2 :]
+            del block[self.MOST // 2 :]
+            self.blocks.insert(at + 1, rear)
+            of_block.update((it, rear) for it in rear)
+
+    def take_out(self, number, of_block):
+        at, place = self.found(number, of_block)
+        del self.blocks[at][place], of_block[number]
+        if not self.blocks[at]:
+            del self.blocks[at]
+
+
 class Grove:
-    """The nodes by number: name, list number, parent (None at a root), the children's numbers."""
+    """The nodes by number: name, list number, parent (None at a root), the row of the children.
+
+    Besides the owner of each list, the block in which each child stands, and the greatest numbers;
+    no node ever leaves a grove.
+    """
 
     def __init__(self, trees):
         self.name, self.childlist, self.parent, self.children = {}, {}, {}, {}
-        for tree in trees:
-            self.add(tree, None)
+        self.owner, self.of_block, self.last_node, self.last_list = {}, {}, 0, 0
+        waiting = [(tree, None) for tree in reversed(trees)]
+        while waiting:
+            tree, parent = waiting.pop()
+            self.add(tree.name, tree.node, tree.childlist)
+            self.link(tree.node, parent)
+            waiting += ((child, tree.node) for child in reversed(tree.children))
 
-    def add(self, tree, parent):
-        self.name[tree.node], self.childlist[tree.node] = tree.name, tree.childlist
-        self.parent[tree.node] = parent
-        self.children[tree.node] = [child.node for child in tree.children]
-        for child in tree.children:
-            self.add(child, tree.node)
+    def add(self, name, node, childlist):
+        """Adds a root without children."""
+        self.name[node], self.childlist[node], self.parent[node] = name, childlist, None
+        self.children[node], self.owner[childlist] = Row(), node
+        self.last_node = max(self.last_node, node)
+        self.last_list = max(self.last_list, childlist)
 
     def known(self, *nodes):
         """Faults where one is null or absent."""
@@ -32,36 +94,53 @@ class Grove:
     def create(self, name):
         if len(self.name) >= NODES:
             raise Refused(8, "limit nodes")
-        node = 1 + max(self.name, default=0)
-        childlist = 1 + max(self.childlist.values(), default=0)
+        node, childlist = self.last_node + 1, self.last_list + 1
         if max(node, childlist) > LAST_U32:
             raise Refused(8, "limit identifier")
-        self.add(Tree(name, node, (), childlist), None)
+        self.add(name, node, childlist)
         return node
 
     def item(self, childlist, place):
-        owner = next((it for it in self.childlist if self.childlist[it] == childlist), None)
-        if owner is None:
+        if childlist not in self.owner:
             raise Faulted("NoList")
-        children = self.children[owner]
-        return children[place] if 0 <= place < len(children) else None
+        return self.children[self.owner[childlist]].item(place)
 
-    def move(self, node, parent):
-        """Moves a node's tree to the end of a parent's children, or to the roots for None."""
-        if self.parent[node] is not None:
-            self.children[self.parent[node]].remove(node)
+    def link(self, node, parent, following=None):
+        """Puts a root among the children of a parent, if any, before one of them or at the end."""
         self.parent[node] = parent
         if parent is not None:
-            self.children[parent].append(node)
+            self.children[parent].put(node, following, self.of_block)
 
-    def append(self, parent, node):
-        self.known(parent, node)
+    def move(self, node, parent, following=None):
+        """Takes a node's tree out of its place and puts it elsewhere, as `link` says."""
+        if self.parent[node] is not None:
+            self.children[self.parent[node]].take_out(node, self.of_block)
+        self.link(node, parent, following)
+
+    def outside(self, parent, node):
+        """Faults where the node is the parent or an ancestor of it."""
         above = parent
         while above is not None:
             if above == node:
                 raise Faulted("Cycle")
             above = self.parent[above]
+
+    def append(self, parent, node):
+        self.known(parent, node)
+        self.outside(parent, node)
         self.move(node, parent)
+
+    def insert(self, parent, node, following):
+        """Moves a node's tree just before another child of the parent, or to their end for null."""
+        self.known(parent, node)
+        if following is not None:
+            self.known(following)
+        if node == following:
+            raise Faulted("SelfRef")
+        self.outside(parent, node)
+        if following is not None and self.parent[following] != parent:
+            raise Faulted("NotChild")
+        self.move(node, parent, following)
 
     def remove(self, parent, node):
         self.known(parent, node)
@@ -69,13 +148,28 @@ class Grove:
             raise Faulted("NotChild")
         self.move(node, None)
 
-    def tree_text(self, node):
-        children = " * ".join(f"<{self.tree_text(child)}>" for child in self.children[node]) or "0f"
-        return f"{quoted(self.name[node])}#{node}[{children}]%{self.childlist[node]}"
-
     def text(self):
+        """Returns the text of the grove, its roots in the order of their numbers."""
         roots = sorted(node for node, parent in self.parent.items() if parent is None)
-        return " + ".join(f"[{self.tree_text(root)}]" for root in roots) or "0g"
+        # What is still to be printed, the next one last: texts, and the numbers of nodes.
+        waiting, found = self.between(roots, "[", "] + [", "]") or ["0g"], []
+        while waiting:
+            one = waiting.pop()
+            if isinstance(one, str):
+                found.append(one)
+            else:
+                waiting.append(f"]%{self.childlist[one]}")
+                waiting += self.between(self.children[one].numbers(), "<", "> * <", ">") or ["0f"]
+                waiting.append(f"{quoted(self.name[one])}#{one}[")
+        return "".join(found)
+
+    @staticmethod
+    def between(nodes, first, middle, last):
+        """Returns the nodes with the texts around them, the first one last; nothing for no node."""
+        found = [last] if nodes else []
+        for node in reversed(nodes):
+            found += [node, middle]
+        return [*found[:-1], first] if nodes else found
 
 
 def value_of(term, store):
@@ -195,6 +289,9 @@ class Machine:
 
     def on_appendChild(self, parent, node):
         self.grove.append(*self.values([parent, node]))
+
+    def on_insertBefore(self, parent, node, following):
+        self.grove.insert(*self.values([parent, node, following]))
 
     def on_removeChild(self, parent, node):
         self.grove.remove(*self.values([parent, node]))

@@ -77,6 +77,9 @@ def condition_formula(condition):
     return (head, *map(condition_formula, parts))
 
 
+SETTING_NOTHING = ("skip", "appendChild", "removeChild", "insertBefore")
+
+
 def modified(command):
     """Returns the variables that it assigns or sets as results, but a local's own in its block."""
     head, *parts = command
@@ -87,4 +90,4 @@ def modified(command):
     if head in ("block", "if", "while"):
         blocks = parts if head == "block" else parts[1:]
         return set().union(*map(modified, blocks))
-    return set() if head in ("skip", "appendChild", "removeChild") else {parts[0]}
+    return set() if head in SETTING_NOTHING else {parts[0]}

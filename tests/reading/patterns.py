@@ -6,17 +6,21 @@ from collections import defaultdict, namedtuple
 from reading.limits import DATA_SORTS
 from reading.rules import AXIOMS, ENTAILMENTS, PLACES, TRIPLES
 from reading.theories import TheoryReader
-from reading.tokens import tokens_of
+from reading.tokens import RESERVED_IN_2, tokens_of
 
 # A reading of a rule. A judgement is (left, right, sort) or (pre, command, post, sort), where the
 # sort may be None; conditions are lists of words; `anywhere` are letters that may have two sorts.
 Reading = namedtuple("Reading", "arguments premises conclusion conditions anywhere")
 
-FORMULAS, TERMS = set("PQRABKH"), set("EFGSTIJLM")
+FORMULAS, TERMS = set("PQRABKH"), set("EFGSTIJLMVWN")
 
 
 class PatternReader(TheoryReader):
     """The grammar of files with letters, which are ("letter", NAME) wherever they stand."""
+
+    def __init__(self, tokens):
+        super().__init__(tokens)
+        self.reserved = RESERVED_IN_2
 
     def letter(self):
         return ("letter", self.of_kind("word"))

@@ -8,8 +8,8 @@ well sorted, but where `at` names one (`data`: a data sort), and a premise at th
 conclusion, but where `at` names one (`place`: where its formulas stand in the conclusion; `$x`: the
 sort of that variable). h, j and k stand for data sorts, and Z[P] for each of the PLACES.
 
-Formulas are P Q R A B K H, terms E F G S T I J L M, commands C and, in a rule for blocks, BL; x is
-a program variable, s the sort of a local and d its default literal; B^ is the formula of a
+Formulas are P Q R A B K H, terms E F G S T I J L M V W N, commands C and, in a rule for blocks, BL;
+x is a program variable, s the sort of a local and d its default literal; B^ is the formula of a
 condition B. What computes has its own function in computing.py: eq_subst, linear, seq, call.
 """
 
@@ -161,4 +161,14 @@ append : pre ((((0g -o (K @t S#I[P]%L)) @g [T#J[Q]%M]) and E = I) and F = J)
     do appendChild(E, F) post (K @t S#I[(P * <T#J[Q]%M>)]%L) at g
 remove : pre (((K @t S#I[((P * <T#J[Q]%M>) * R)]%L) and E = I) and F = J) do removeChild(E, F)
     post ((K @t S#I[(P * R)]%L) + [T#J[Q]%M]) at g
+insert_before : pre (((((0f -o (K @t S#I[((P * <W#V[A]%N>) * R)]%L)) @f <T#J[Q]%M>) and E = I)
+    and F = J) and G = V) do insertBefore(E, F, G)
+    post (K @t S#I[(((P * <T#J[Q]%M>) * <W#V[A]%N>) * R)]%L) at data
+insert_before : pre (((((0g -o (K @t S#I[((P * <W#V[A]%N>) * R)]%L)) @g [T#J[Q]%M]) and E = I)
+    and F = J) and G = V) do insertBefore(E, F, G)
+    post (K @t S#I[(((P * <T#J[Q]%M>) * <W#V[A]%N>) * R)]%L) at g
+insert_last : pre (((((0f -o (K @t S#I[P]%L)) @f <T#J[Q]%M>) and E = I) and F = J) and G = null)
+    do insertBefore(E, F, G) post (K @t S#I[(P * <T#J[Q]%M>)]%L) at data
+insert_last : pre (((((0g -o (K @t S#I[P]%L)) @g [T#J[Q]%M]) and E = I) and F = J) and G = null)
+    do insertBefore(E, F, G) post (K @t S#I[(P * <T#J[Q]%M>)]%L) at g
 """

@@ -144,7 +144,8 @@ def is_call(command, scope):
 OPERANDS = {"createNode": ("node", "str"), "nodeName": ("str", "node"),
             "parentNode": ("node", "node"), "childNodes": ("list", "node"),
             "item": ("node", "list", "int"),
-            "appendChild": ("node", "node"), "removeChild": ("node", "node")}
+            "appendChild": ("node", "node"), "removeChild": ("node", "node"),
+            "insertBefore": ("node", "node", "node")}
 
 
 def is_command(command, scope):

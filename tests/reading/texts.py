@@ -25,8 +25,11 @@ def term_text(term):
     return f"{{ {term_text(parts[0])} {head} {term_text(parts[1])} }}" if parts else head
 
 
+MOVES = ("appendChild", "removeChild", "insertBefore")
+
+
 def command_text(command):
-    """The same of a command that faults, which is one of six."""
+    """The same of a command that faults, which is one of seven."""
     head, *operands = command
-    target = "" if head in ("appendChild", "removeChild") else operands.pop(0)[1] + " := "
+    target = "" if head in MOVES else operands.pop(0)[1] + " := "
     return f"{target}{head} ( {' , '.join(map(term_text, operands))} )"

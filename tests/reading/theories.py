@@ -3,7 +3,7 @@ from collections import namedtuple
 
 from reading.limits import DATA_SORTS, LAST_U32, SHAPE_SORTS, VALUE_SORTS
 from reading.reader import Reader
-from reading.tokens import RESERVED
+from reading.tokens import RESERVED, RESERVED_IN_2
 
 # Terms, formulas, conditions and commands are tuples: a word that says the form, and the parts. A
 # variable is ("prog", name) or ("logic", name) wherever it stands, so that a walk over the parts
@@ -18,8 +18,14 @@ CONNECTIVES = "and or -> * .* *. + .+ @t @f @g -o o-t o-f o-g".split()
 class TheoryReader(Reader):
     """The grammar of files, a method for each of its names."""
 
+    def __init__(self, tokens):
+        super().__init__(tokens)
+        second = self.token(ahead=1)
+        is_version_2 = (second.kind, second.text) == ("number", "2")
+        self.reserved = RESERVED_IN_2 if is_version_2 else RESERVED
+
     def name(self):
-        if self.token().text in RESERVED:
+        if self.token().text in self.reserved:
             self.fail()
         return self.of_kind("word")
 
@@ -136,10 +142,16 @@ class TheoryReader(Reader):
             return ("call", *self.spelled("call", results, ":=", self.name, arguments))
         if self.sees("appendChild", "removeChild"):
             return (self.take("appendChild", "removeChild"), *self.two_terms())
+        if self.sees("insertBefore") and "insertBefore" in self.reserved:
+            return (self.take("insertBefore"), *self.three_terms())
         return self.assignment()
 
     def two_terms(self):
         return self.spelled("(", self.command_term, ",", self.command_term, ")")
+
+    def three_terms(self):
+        term = self.command_term
+        return self.spelled("(", term, ",", term, ",", term, ")")
 
     def assignment(self):
         target, *_ = self.spelled(self.variable, ":=")

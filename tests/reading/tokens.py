@@ -2,6 +2,7 @@
 from collections import namedtuple
 
 from reading.limits import FILE_BYTES, LAST_I64, TEXT_BYTES, Refused
+from reading.names import begins_word, run_end
 
 Token = namedtuple("Token", "kind text line end")  # the end counts characters
 
@@ -11,6 +12,8 @@ RESERVED = set("""domlogic logic proc returns sort requires ensures body proof s
     entails pre do post at skip if else while local call true false not and or exists forall is len
     null nolist yes no appendChild removeChild createNode nodeName parentNode childNodes
     item""".split())
+# What is reserved in a file whose second token is the number 2, and is a name elsewhere.
+RESERVED_IN_2 = RESERVED | {"insertBefore"}
 DIGITS = set("0123456789")
 
 
@@ -20,18 +23,6 @@ def text_of(content):
         return content.decode("utf-8"), True
     except UnicodeDecodeError as why:
         return content[: why.start].decode("utf-8"), False
-
-
-def begins_word(text, at):
-    """Says whether a character of XID_Start or `_` stands there: Python's identifiers begin so."""
-    return at < len(text) and text[at].isidentifier()
-
-
-def run_end(text, at):
-    """Returns the place behind the characters of XID_Continue that stand there."""
-    while at < len(text) and ("a" + text[at]).isidentifier():
-        at += 1
-    return at
 
 
 def layout_end(text, at):
