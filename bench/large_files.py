@@ -41,8 +41,8 @@ import tempfile
 
 TOP = pathlib.Path(__file__).resolve().parent.parent
 sys.dont_write_bytecode = True  # the checkout stays as it is
-sys.path.insert(0, str(TOP / "tests"))
-from reading.generated import HEAD as GENERATED_HEAD, procedure_text
+sys.path.insert(0, str(TOP))
+from domlogic.reading.generated import HEAD as GENERATED_HEAD, procedure_text
 
 PROGRAM = TOP / "crates/domcheck_cli/out/domcheck_cli"
 MOST_BYTES = 4_194_304

@@ -6,147 +6,18 @@ usage: tests/reference.py WORD..
 
 It was written from the description of the language alone, and nothing of it comes from the program:
 the rows beside it can be computed, and where the two differ one of them is wrong. It is slow, and
-plain. Its parts stand in the folder reading/, in the order in which a request meets them: tokens,
-theories, sorts, faults, proofs, documents, machine, texts. `answer` puts them together.
+plain. It is the package domlogic.reading; this file hands it the words.
 """
 import os
 import sys
 
 sys.dont_write_bytecode = True  # the checkout stays as it is
-from reading.documents import DocumentReader, numbers_in_document, numbers_in_text
-from reading.faults import file_faults
-from reading.generated import count_of, generated
-from reading.limits import (DOCUMENT_NESTING, FILE_NESTING, LAST_I64, LAST_U32, NODES, STEPS,
-                            TEXT_BYTES, VARIABLES, Refused)
-from reading.machine import Grove, Machine, outcome
-from reading.proofs import check_proof
-from reading.reader import NoReading
-from reading.sorts import declared_by
-from reading.texts import value_text
-from reading.theories import TheoryReader
-from reading.tokens import decimal, tokens_within
-
-
-def refuse_fault(faults):
-    """Refuses the file at the first of the faults, if there is one."""
-    for procedure, step, kind in faults:
-        raise Refused(4, f"bad file: procedure {procedure}, step {step}: {kind}")
-
-
-def theory_of(content):
-    """Reads a file, or refuses it with the first of its causes."""
-    tokens = tokens_within(content, FILE_NESTING)
-    reader = TheoryReader(tokens)
-    try:
-        theory = reader.whole(reader.theory)
-    except NoReading as why:
-        raise Refused(3, f"bad text at token {why}") from None
-    refuse_fault(file_faults(theory))
-    if any(len(declared_by(procedure)) > VARIABLES for procedure in theory.procedures):
-        raise Refused(8, "limit variables")
-    if sum(len(procedure.steps) for procedure in theory.procedures) > STEPS:
-        raise Refused(8, "limit steps")
-    return theory
-
-
-def grove_of(content):
-    """Reads a document, or refuses it with the first of its causes."""
-    reader = DocumentReader(tokens_within(content, DOCUMENT_NESTING))
-    try:
-        trees = reader.whole(reader.grove)
-    except NoReading as why:
-        raise Refused(3, f"bad document text at token {why}") from None
-    for kind, number in numbers_in_text(trees):
-        if not 1 <= number <= LAST_U32:
-            raise Refused(5, f"bad document: {kind} {number} out of range")
-    met = set()
-    for kind, number in numbers_in_document(trees):
-        if (kind, number) in met:
-            raise Refused(5, f"bad document: repeated {kind} {number}")
-        met.add((kind, number))
-    if len(met) > 2 * NODES:
-        raise Refused(8, "limit nodes")
-    return Grove(trees)
-
-
-def argument_of(word, sort):
-    """Returns the value that a word has at the sort of its parameter, or refuses it."""
-    if sort == "str" and len(word.encode()) <= TEXT_BYTES:
-        return word
-    constants = {"node": {"null": None}, "list": {"nolist": None},
-                 "bool": {"yes": True, "no": False}}
-    if word in constants.get(sort, {}):
-        return constants[sort][word]
-    value = None
-    if sort in ("node", "list") and word[:1] == {"node": "#", "list": "%"}[sort]:
-        value = decimal(word[1:], 1, LAST_U32)
-    if sort == "int":
-        value = decimal(word, 0, LAST_I64)
-        if word[:1] == "-" and decimal(word[1:], 1, LAST_I64):
-            value = -decimal(word[1:], 1, LAST_I64)
-    if value is None:
-        raise Refused(2, "bad words")
-    return value
-
-
-def fetched(files, name):
-    content = files(name)
-    if content is None:
-        raise Refused(11)
-    return content
-
-
-def checked(content):
-    """Returns the output of `check` on these bytes."""
-    theory = theory_of(content)
-    for procedure in theory.procedures:
-        check_proof(theory, procedure)
-    steps = sum(len(procedure.steps) for procedure in theory.procedures)
-    return f"accepted: {len(theory.procedures)} procedures, {steps} steps\n"
-
-
-def ran(files, name, called, document, fuel, words):
-    """Returns the output of `run FILE PROC DOC FUEL ARG*`."""
-    theory = theory_of(fetched(files, name))
-    procedure = next((it for it in theory.procedures if it.name == called), None)
-    if procedure is None or len(words) != len(procedure.params):
-        raise Refused(2, "bad words")
-    arguments = [argument_of(word, sort) for word, (_, sort) in zip(words, procedure.params)]
-    machine = Machine(theory, procedure, arguments, grove_of(fetched(files, document)))
-    lines = [f"ended after {outcome(machine, fuel)} steps"]
-    for name, sort in procedure.results:
-        lines.append(f"{name} = {value_text(machine.store[name], sort)}")
-    return "\n".join([*lines, machine.grove.text(), ""])
-
-
-def output_of(words, files):
-    """Returns the output of the words, or refuses them."""
-    if len(words) == 2 and words[0] == "check":
-        return checked(fetched(files, words[1]))
-    if len(words) == 2 and words[0] in ("make", "trial") and count_of(words[1]):
-        text = generated(count_of(words[1]))
-        return text if words[0] == "make" else checked(text.encode())
-    if len(words) < 5 or words[0] != "run" or decimal(words[4], 0, 1000000) is None:
-        raise Refused(2, "bad words")
-    return ran(files, *words[1:4], int(words[4]), words[5:])
-
-
-def answer(words, files):
-    """Returns the exit status and the printed bytes for the words, given as bytes.
-
-    `files` gives the bytes of a file by its name, or None.
-    """
-    sys.setrecursionlimit(100000)
-    try:
-        try:
-            return 0, output_of([word.decode() for word in words], files).encode()
-        except UnicodeDecodeError:
-            raise Refused(2, "bad words") from None
-    except Refused as why:
-        return why.status, b"" if why.line is None else f"{why.line}\n".encode()
+sys.path.insert(0, os.path.dirname(os.path.dirname(os.path.abspath(__file__))))
+from domlogic.reading.requests import answer
 
 
 def in_folder(name):
+    """Returns the bytes of a file of the current folder, or None."""
     try:
         with open(name, "rb") as it:
             return it.read()

@@ -8,10 +8,10 @@ import glob
 import os
 from collections import namedtuple
 
-import reference
-from reading.faults import RULES
-from reading.limits import Refused
-from reading.tokens import tokens_of
+from domlogic.reading import requests as reference
+from domlogic.reading.faults import RULES
+from domlogic.reading.limits import Refused
+from domlogic.reading.tokens import tokens_of
 
 FOLDER = os.path.join(os.path.dirname(os.path.dirname(os.path.abspath(__file__))), "examples", "rules")
 REFUSED = "_refused"

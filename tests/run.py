@@ -1,13 +1,14 @@
 #!/usr/bin/env python3
 """Compares the built program with the rows of this folder and the examples of the rules, byte by byte.
 
-usage: tests/run.py (--cmd PROGRAM | --reference | --list) [--only TEXT] [--accented]
+usage: tests/run.py (--cmd PROGRAM | --reference | --list) [--only TEXT] [--accented | --assistants]
   PROGRAM       the built program; each row's words are handed to it
   --reference   the rows are answered by reference.py beside this file, and no program is asked
   --list        the rows are listed
   TEXT          only the rows whose file or title has this text
   --accented    each file ends in a comment that isn't ASCII: its tokens are the same, and the program
                 reads them from a list, as it does those of no ASCII file
+  --assistants  the rows of the folder assistants/, of the words prove, show and explain
 
 Prints each row that fails, and last 'N passed, M failed'. The exit status is 0 where none fails, and 2
 where a file of rows can't be read. README.md beside this file says how a row is written.
@@ -22,16 +23,20 @@ import sys
 import tempfile
 
 sys.dont_write_bytecode = True  # the checkout stays as it is
+sys.path.insert(0, os.path.dirname(os.path.dirname(os.path.abspath(__file__))))
 import make_rules
-import reference
 import rule_examples
-from reading.tokens import tokens_of
+from domlogic.reading import requests as reference
+from domlogic.reading.tokens import tokens_of
 
 HERE = os.path.dirname(os.path.abspath(__file__))
 TOP = os.path.dirname(HERE)
 SECONDS = 60
 MOST_BYTES = 4_194_304
 ACCENTED = " // é".encode()
+# The words that the package domlogic answers, and the folder of their rows.
+OF_THE_PACKAGE = (b"prove", b"show", b"explain")
+ASSISTANTS = "assistants"
 
 
 class Unreadable(Exception):
@@ -254,9 +259,12 @@ def with_printed(program, row, given):
 
 
 def ran(program, row, folder):
-    """Runs the program on the row's words in the folder."""
+    """Runs the program, or for its word the package beside it, on the row's words in the folder."""
     how = {"cwd": folder, "stdin": subprocess.DEVNULL, "stderr": subprocess.PIPE, "timeout": SECONDS}
     words = [row.called or program.encode(), *row.words]
+    if row.words and row.words[0] in OF_THE_PACKAGE:
+        words = [sys.executable, os.path.join(TOP, "domlogic"), "--program", program, *row.words]
+        return subprocess.run(words, stdout=subprocess.PIPE, **how)
     if row.sink == "closed":
         words = [b"sh", b"-c", b'exec "$@" >&-', b"sh", *words]
         return subprocess.run(words, stdout=subprocess.PIPE, **how)
@@ -310,10 +318,13 @@ def rule_rows(found):
         yield row
 
 
-def all_rows():
+def all_rows(of_assistants):
     """Gives the files of rows, the tables and the examples of the rules, each with its files and rows."""
-    for path in sorted(glob.glob(os.path.join(HERE, "*.rows"))):
+    folder = os.path.join(HERE, ASSISTANTS) if of_assistants else HERE
+    for path in sorted(glob.glob(os.path.join(folder, "*.rows"))):
         yield path, *read(path)
+    if of_assistants:
+        return
     for path, found in [*make_rules.rows(), *rule_examples.rows()]:
         yield path, {}, list(rule_rows(found))
 
@@ -327,12 +338,13 @@ def main():
     asked.add_argument("--list", action="store_true")
     parser.add_argument("--only", default="")
     parser.add_argument("--accented", action="store_true")
+    parser.add_argument("--assistants", action="store_true")
     options = parser.parse_args()
     program, passed, failed = options.cmd and os.path.abspath(options.cmd), 0, 0
     if program and not os.access(program, os.X_OK):
         print(f"no program stands at {options.cmd}\n0 passed, 1 failed")
         return 1
-    for path, files, rows in all_rows():
+    for path, files, rows in all_rows(options.assistants):
         name = os.path.relpath(path, TOP)
         for row in rows:
             words = b" ".join(row.words).decode(errors="replace")

@@ -3,10 +3,12 @@
 
 usage: tests/token_at.py FILE K
 """
+import os
 import sys
 
 sys.dont_write_bytecode = True  # the checkout stays as it is
-from reading.tokens import tokens_of
+sys.path.insert(0, os.path.dirname(os.path.dirname(os.path.abspath(__file__))))
+from domlogic.reading.tokens import tokens_of
 
 
 def described(tokens, number):

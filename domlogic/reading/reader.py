@@ -1,6 +1,6 @@
 """A reader of tokens, of which the grammars are made."""
-from reading.limits import LAST_I64
-from reading.tokens import Token
+from domlogic.reading.limits import LAST_I64
+from domlogic.reading.tokens import Token
 
 
 class NoReading(Exception):

@@ -3,10 +3,10 @@ import itertools
 import re
 from collections import defaultdict, namedtuple
 
-from reading.limits import DATA_SORTS
-from reading.rules import AXIOMS, ENTAILMENTS, PLACES, TRIPLES
-from reading.theories import TheoryReader
-from reading.tokens import RESERVED_IN_2, tokens_of
+from domlogic.reading.limits import DATA_SORTS
+from domlogic.reading.rules import AXIOMS, ENTAILMENTS, PLACES, TRIPLES
+from domlogic.reading.theories import TheoryReader
+from domlogic.reading.tokens import RESERVED_IN_2, tokens_of
 
 # A reading of a rule. A judgement is (left, right, sort) or (pre, command, post, sort), where the
 # sort may be None; conditions are lists of words; `anywhere` are letters that may have two sorts.

@@ -1,9 +1,9 @@
 """The grammar of files."""
 from collections import namedtuple
 
-from reading.limits import DATA_SORTS, LAST_U32, SHAPE_SORTS, VALUE_SORTS
-from reading.reader import Reader
-from reading.tokens import RESERVED, RESERVED_IN_2
+from domlogic.reading.limits import DATA_SORTS, LAST_U32, SHAPE_SORTS, VALUE_SORTS
+from domlogic.reading.reader import Reader
+from domlogic.reading.tokens import RESERVED, RESERVED_IN_2
 
 # Terms, formulas, conditions and commands are tuples: a word that says the form, and the parts. A
 # variable is ("prog", name) or ("logic", name) wherever it stands, so that a walk over the parts

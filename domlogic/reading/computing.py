@@ -3,8 +3,8 @@
 A rule that computes gives, for a step whose conclusion fits, what it guesses, its premises and its
 conditions: pairs of a name and a truth.
 """
-from reading.nameless import is_pure, modified, nameless, program_variables, replaced, stands_in
-from reading.sorts import term_sort
+from domlogic.reading.nameless import is_pure, modified, nameless, program_variables, replaced, stands_in
+from domlogic.reading.sorts import term_sort
 
 LITERALS = ("null", "nolist", "int", "str", "yes", "no")
 MOST = 1000000

@@ -1,7 +1,7 @@
 """The grammar of documents, and the order of their numbers."""
 from collections import namedtuple
 
-from reading.reader import Reader
+from domlogic.reading.reader import Reader
 
 Tree = namedtuple("Tree", "name node children childlist")
 

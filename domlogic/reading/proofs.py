@@ -1,11 +1,11 @@
 """The verdict on each step of a proof, and the first bad place."""
-from reading.computing import COMPUTING, is_met
-from reading.limits import Refused
-from reading.matching import (Written, judgement_matches, matches, settled,
+from domlogic.reading.computing import COMPUTING, is_met
+from domlogic.reading.limits import Refused
+from domlogic.reading.matching import (Written, judgement_matches, matches, settled,
                               with_new_variables)
-from reading.nameless import nameless_judgement
-from reading.patterns import OF_ENTAILMENTS, OF_TRIPLES
-from reading.sorts import scope_of, term_sort
+from domlogic.reading.nameless import nameless_judgement
+from domlogic.reading.patterns import OF_ENTAILMENTS, OF_TRIPLES
+from domlogic.reading.sorts import scope_of, term_sort
 
 
 class Proof:

@@ -1,5 +1,5 @@
 """The generated theory: what `make N` prints."""
-from reading.tokens import decimal
+from domlogic.reading.tokens import decimal
 
 MOST = 200
 HEAD = """\

@@ -1,8 +1,8 @@
 """Tokens, and their limits."""
 from collections import namedtuple
 
-from reading.limits import FILE_BYTES, LAST_I64, TEXT_BYTES, Refused
-from reading.names import begins_word, run_end
+from domlogic.reading.limits import FILE_BYTES, LAST_I64, TEXT_BYTES, Refused
+from domlogic.reading.names import begins_word, run_end
 
 Token = namedtuple("Token", "kind text line end")  # the end counts characters
 

@@ -1,9 +1,9 @@
 """How a pattern is compared with what is written, and at which sorts its letters stand."""
 from collections import defaultdict
 
-from reading.limits import DATA_SORTS, SHAPE_SORTS, VALUE_SORTS
-from reading.nameless import condition_formula, is_outside, opened, replaced, stands_in
-from reading.sorts import pair_parts, term_sort, walk
+from domlogic.reading.limits import DATA_SORTS, SHAPE_SORTS, VALUE_SORTS
+from domlogic.reading.nameless import condition_formula, is_outside, opened, replaced, stands_in
+from domlogic.reading.sorts import pair_parts, term_sort, walk
 
 LITERALS = {"node": ("null",), "list": ("nolist",), "int": ("int", 0), "str": ("str", ""),
             "bool": ("no",)}

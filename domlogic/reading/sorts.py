@@ -1,7 +1,7 @@
 """Which terms, formulas and commands are well sorted."""
 from collections import namedtuple
 
-from reading.limits import SHAPE_SORTS
+from domlogic.reading.limits import SHAPE_SORTS
 
 # What the names of a procedure mean: the sorts of its variables, and the file's procedures.
 Scope = namedtuple("Scope", "logic program params procedures")

@@ -1,5 +1,5 @@
 """Files that read and aren't well formed: the faults with their places."""
-from reading.sorts import declared_by, is_command, is_sorted, scope_of, term_sort, walk
+from domlogic.reading.sorts import declared_by, is_command, is_sorted, scope_of, term_sort, walk
 
 BOTH_WAYS = """star_assoc star_left_assoc star_right_assoc star_mid_assoc star_unit unit_star
     star_left_unit star_right_unit plus_assoc plus_unit plus_left_assoc plus_left_unit hole_left

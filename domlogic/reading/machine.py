@@ -3,9 +3,9 @@
 A grove may be a chain of a hundred thousand nodes, or a root with as many children. So nothing here
 goes into itself for each level of a grove, and no step looks at all nodes.
 """
-from reading.limits import DEFAULTS, DEPTH, LAST_I64, LAST_U32, NODES, TEXT_BYTES, Refused
-from reading.sorts import declared_by
-from reading.texts import command_text, quoted
+from domlogic.reading.limits import DEFAULTS, DEPTH, LAST_I64, LAST_U32, NODES, TEXT_BYTES, Refused
+from domlogic.reading.sorts import declared_by
+from domlogic.reading.texts import command_text, quoted
 
 
 class Faulted(Exception):

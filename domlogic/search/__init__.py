@@ -1,0 +1,1 @@
+"""The search for proofs: symbolic heaps, their entailment, and execution forwards."""
