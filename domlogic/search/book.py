@@ -2,6 +2,7 @@
 import sys
 from typing import Iterable, Mapping, Sequence
 
+from domlogic.reading.nameless import nameless
 from domlogic.reading.sorts import scope_of, term_sort
 from domlogic.reading.theories import Procedure, Step, Theory, TheoryReader
 from domlogic.reading.tokens import tokens_within
@@ -82,6 +83,10 @@ class Book:
             return sorts[0] == sorts[1] and self.alike(one[2], other[2], inner)
         return all(self.alike(*pair, bound) if isinstance(pair[0], tuple) else pair[0] == pair[1]
                    for pair in zip(one[1:], other[1:]))
+
+    def nameless(self, formula: Formula) -> Formula:
+        """The formula without the names of bound variables."""
+        return nameless(formula, self.logic)
 
     def subst(self, node: tuple, terms: Mapping[Term, Term]) -> tuple:
         """Puts terms for variables, all at once; binders that would capture are renamed."""
@@ -198,12 +203,14 @@ class Book:
 
 # For modules that look for these names here.
 from domlogic.reading.nameless import is_pure, modified
-from domlogic.search.formulas import (DEFAULTS, EMPTY, FALSE, NONE, TRUE, conjuncts)
+from domlogic.search.formulas import (DEFAULTS, EMPTY, FALSE, LITERALS, NONE, PLACES, TRUE,
+                                      conjuncts)
 from domlogic.search.formulas import conjunction as conj
 from domlogic.search.formulas import disjunction as disj
 from domlogic.search.formulas import part_at as get_at
 from domlogic.search.formulas import with_facts as mk
 from domlogic.search.formulas import with_part as put
 from domlogic.search.formulas import with_part_at as put_at
-from domlogic.search.printing import command_text, formula_text, term_text, theory_text
+from domlogic.search.printing import (command_text, condition_text, formula_text, judgement_text,
+                                      step_text, term_text, theory_text)
 from domlogic.search.refusals import Fails
