@@ -87,13 +87,14 @@ class Matching:
         number = known.contradiction()
         if number is not None:
             return book.cut(number, book.ent("false_out", (), FALSE, right, sort))
-        progress = Progress()
-        number = self.matched(known, right, progress)[1]
+        progress, why = Progress(), ""
+        try:
+            number = self.matched(known, right, progress)[1]
+        except Fails as fails:
+            number, why = None, str(fails.args[0])
         if number is not None:
             return number
-        missing = progress.farthest
-        asked = missing.asked and variables_named(missing.asked, self.right_sides.origin)
-        best = Refusal(known.whole, right, missing._replace(asked=asked))
+        best = self.refusal(known, right, progress, why)
         for look in CloserLooks(self, known, right, progress).looks() if looks else ():
             before = self.splits
             try:
@@ -105,6 +106,14 @@ class Matching:
             finally:
                 self.splits = before
         raise Fails(best)
+
+    def refusal(self, known: Facts, right: Formula, progress: Progress, why: str) -> Refusal:
+        """What is told where a case doesn't entail the right side."""
+        missing = progress.farthest
+        if missing.kind is None:  # nothing was tried: there is no way to prove the right side
+            missing = missing._replace(kind="part", there=known.shape, asked=right)
+        asked = variables_named(missing.asked, self.right_sides.origin)
+        return Refusal(known.whole, right, missing._replace(asked=asked), why)
 
     @staticmethod
     def farther(best: Refusal, fails: Fails) -> Refusal:
