@@ -102,7 +102,8 @@ procedures_text : (procedures : List Procedure)
     ≡ joined_texts (map (λ f. text_of_lines (procedure_lines 1 (procedure_of f))) procedures)
 procedures_text [] = refl
 procedures_text (f ∷ procedures) =
-    lines_append (procedure_lines 1 (procedure_of f)) (procedures_lines 1 (map procedure_of procedures))
+    lines_append (procedure_lines 1 (procedure_of f))
+    (procedures_lines 1 (map procedure_of procedures))
     ∙ ap (λ (z : List ℕ). text_of_lines (procedure_lines 1 (procedure_of f)) ++ z)
     (procedures_text procedures)
 
@@ -139,7 +140,8 @@ procedure_text a b c d steps text =
 pub whole_text : (theory : Theory)
     → ((line_text (the "domlogic" ⌢ number_lexemes theory.version))
     ++ joined_texts (map (λ x. line_text (logic_line (logic_var_of x))) theory.logic))
-    ++ joined_texts (map (λ f. text_of_lines (procedure_lines 1 (procedure_of f))) theory.procedures)
+    ++ joined_texts
+    (map (λ f. text_of_lines (procedure_lines 1 (procedure_of f))) theory.procedures)
     ≡ theory_text (theory_of theory)
 whole_text theory =
     append_assoc (line_text (the "domlogic" ⌢ number_lexemes theory.version)) _ _

@@ -92,7 +92,8 @@ fn push_arguments(alloc: Global, text: &mut Text, arguments: &Terms) -> Result<(
 
 // Puts at the end why a step holds.
 fn push_reason(alloc: Global, text: &mut Text, reason: &Reason) -> Result<(), OutOfMemory>
-    ensures { OnOk result (text.new ≡ text.old ++ spaced (reason_lexemes 1 (reason_of reason.now))) }
+    ensures { OnOk result (text.new ≡ text.old
+        ++ spaced (reason_lexemes 1 (reason_of reason.now))) }
 {
     match reason {
         Reason::Auto => push_token(alloc, text, "auto"),
