@@ -84,7 +84,7 @@ def command_text(command):
     if head == "call":
         return "call (%s) := %s(%s)" % (", ".join(it[1] for it in parts[0]), parts[1],
                                         ", ".join(map(term_text, parts[2])))
-    if head in ("appendChild", "removeChild"):
+    if head in ("appendChild", "removeChild", "insertBefore"):
         return "%s(%s)" % (head, ", ".join(map(term_text, parts)))
     if head == ":=":
         return "%s := %s" % (parts[0][1], term_text(parts[1]))

@@ -2,22 +2,19 @@
 
 A proof that doesn't end in its procedure's own triple gets it as one more gap.
 """
-from typing import Callable, NamedTuple
+from typing import NamedTuple
 
 from domlogic.reading.nameless import nameless_judgement
 from domlogic.reading.sorts import walk
 from domlogic.reading.theories import Procedure, Step, Theory
 from domlogic.search.book import Book, Fails
 from domlogic.search.entailments import Matching
+from domlogic.search.execution import Execution, Watch
 from domlogic.search.messages import Failure, ShownNames, failure_of, in_normal_form, lines_of
-from domlogic.search.triples import Execution
-
-# Told the command at which the search is.
-Watch = Callable[[tuple], None]
 
 
 class Filled(NamedTuple):
-    """The filled theory; of each step that the author wrote, by procedure and new number, what it was."""
+    """The filled theory; of each written step, by procedure and new number, what it was."""
 
     theory: Theory
     written: dict[tuple[str, int], Step]
@@ -28,7 +25,8 @@ class NotFilled(Exception):
 
 
 class Earlier(list):
-    """All steps so far, by number; `seen` are those written and the ends of proposals, which alone are looked at."""
+    """All steps so far, by number; `seen` are those written and the ends of proposals, which alone
+    are looked at."""
 
     def __init__(self, done: list[Step], seen: list[Step]):
         super().__init__(done)
@@ -43,13 +41,14 @@ def own_triple(procedure: Procedure) -> tuple:
 def asked_steps(theory: Theory, procedure: Procedure) -> list[Step]:
     """The steps of the proof, and the procedure's own triple where they don't end in it."""
     steps, own, logic = list(procedure.steps), own_triple(procedure), dict(theory.logic)
-    if not steps or nameless_judgement(steps[-1].judgement, logic) != nameless_judgement(own, logic):
+    last = steps and nameless_judgement(steps[-1].judgement, logic)
+    if last != nameless_judgement(own, logic):
         steps.append(Step(len(steps) + 1, None, None, (), (), own))
     return steps
 
 
 def proposed(book: Book, judgement: tuple, watch: Watch) -> list[tuple]:
-    """The steps of a proposal, which end in the judgement; Fails with a Failure where there is none."""
+    """The steps of a proposal, which end in the judgement; Fails with a Failure if none."""
     search = Matching(book) if judgement[0] == "entails" else Execution(book, watch)
     try:
         last = search.prove(*judgement[1:])
@@ -101,7 +100,8 @@ class Filling:
             ends[step.number] = len(done)
         return done
 
-    def gap_filled(self, procedure: Procedure, gap: Step, done: list[Step], ends: dict[int, int]) -> list[Step]:
+    def gap_filled(self, procedure: Procedure, gap: Step, done: list[Step],
+                   ends: dict[int, int]) -> list[Step]:
         """The steps that fill the gap; the variables that they bring are declared."""
         now = self.theory._replace(logic=self.logic)
         seen = [done[number - 1] for number in ends.values()]

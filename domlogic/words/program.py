@@ -13,7 +13,8 @@ class Answer(NamedTuple):
 
 def asked(program: str, *words: str) -> Answer:
     """Runs the program with these words in the current folder."""
-    done = subprocess.run([program, *words], stdin=subprocess.DEVNULL, stdout=subprocess.PIPE, check=False)
+    done = subprocess.run([program, *words], stdin=subprocess.DEVNULL, stdout=subprocess.PIPE,
+                          check=False)
     return Answer(done.returncode, done.stdout.decode(errors="replace"))
 
 
