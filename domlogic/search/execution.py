@@ -7,6 +7,7 @@ from domlogic.search.book import DEFAULTS, Book, Fails, disj
 from domlogic.search.heaps import Command, Formula
 from domlogic.search.entailments import Matching
 from domlogic.search.messages import heading
+from domlogic.search.outline import Outline
 from domlogic.search.stepping import Stepping
 
 # Told the command at which the search is.
@@ -21,14 +22,14 @@ class Execution:
         self.book, self.matching, self.watch = book, Matching(book), watch
         self.stepping = Stepping(book, self.matching)
         self.triples = self.stepping.triples
-        self.place = ""
+        self.place, self.outline = "", Outline()
         self.forms = {"skip": self.skip, "block": self.block, "local": self.local,
                       "if": self.choice, "while": self.loop}
 
     def prove(self, pre: Formula, command: Command, post: Formula, sort: str) -> int:
         """The step of the triple."""
         number = self.run(pre, command, sort)
-        self.place = "at the end"
+        self.place = "at the end, behind " + heading(last_of(command))
         return self.triples.weaker_to(number, post)
 
     def run(self, pre: Formula, command: Command, sort: str) -> int:
@@ -37,20 +38,42 @@ class Execution:
             self.place = "at " + heading(command)
             self.watch(command)
         if command[0] not in self.forms:
-            return self.stepping.from_assertion(pre, command, sort)
+            return self.told(heading(command), pre, command, sort)
         if not self.stepping.known_triples(command):
             return self.forms[command[0]](pre, command, sort)
-        place = self.place
+        place, count = self.place, len(self.outline.lines)
         try:
-            return self.stepping.from_assertion(pre, command, sort)
+            return self.told(heading(command) + " by an earlier step", pre, command, sort)
         except Fails as why:
             try:
+                self.outline.back_to(count)
                 return self.forms[command[0]](pre, command, sort)
             except Fails:  # the author's own step is what should have served
+                self.outline.back_to(count + 1)
                 self.place = place
                 raise why from None
 
+    def told(self, text: str, pre: Formula, command: Command, sort: str) -> int:
+        """The triple of a command that isn't looked into."""
+        self.outline.tell(text)
+        number = self.stepping.from_assertion(pre, command, sort)
+        self.outline.known(self.triples.post(number))
+        return number
+
+    def inner(self, pre: Formula, block: Command, sort: str) -> int:
+        """The triple of a block inside another command."""
+        with self.outline.inside():
+            self.outline.known(pre)
+            return self.run(pre, block, sort)
+
+    def ended(self, number: int) -> int:
+        """The triple of a command with blocks, at their end."""
+        self.outline.tell("}")
+        self.outline.known(self.triples.post(number))
+        return number
+
     def skip(self, pre: Formula, command: Command, sort: str) -> int:
+        self.outline.tell("skip")
         return self.book.tri("skip", (), pre, command, pre, sort)
 
     def block(self, pre: Formula, command: Command, sort: str) -> int:
@@ -65,23 +88,36 @@ class Execution:
         """The variable has its default before the block, and is forgotten behind it."""
         _, variable, kind, block = command
         start = ("and", pre, ("=", variable, DEFAULTS[kind]))
-        number = self.triples.forgotten(self.run(start, block, sort), variable)
-        return self.book.tri("local", (number,), pre, command, self.triples.post(number), sort)
+        self.outline.tell(heading(command) + " {")
+        number = self.triples.forgotten(self.inner(start, block, sort), variable)
+        post = self.triples.post(number)
+        return self.ended(self.book.tri("local", (number,), pre, command, post, sort))
 
     def choice(self, pre: Formula, command: Command, sort: str) -> int:
         """Both blocks, and their choice behind."""
         test = condition_formula(command[1])
-        one = self.run(("and", pre, test), command[2], sort)
-        two = self.run(("and", pre, ("not", test)), command[3], sort)
+        self.outline.tell(heading(command) + " {")
+        one = self.inner(("and", pre, test), command[2], sort)
+        self.outline.tell("} else {")
+        two = self.inner(("and", pre, ("not", test)), command[3], sort)
         posts = self.triples.possible_posts([one, two])
         post = disj(posts)
         one, two = (self.triples.one_of(it, posts, post) for it in (one, two))
-        return self.book.tri("if", (one, two), pre, command, post, sort)
+        return self.ended(self.book.tri("if", (one, two), pre, command, post, sort))
 
     def loop(self, pre: Formula, command: Command, sort: str) -> int:
         """The block leads from pre and the condition back to pre."""
         test = condition_formula(command[1])
-        number = self.run(("and", pre, test), command[2], sort)
+        self.outline.tell(heading(command) + " {")
+        number = self.inner(("and", pre, test), command[2], sort)
         self.place = "at the end of the block of " + heading(command)
         number = self.triples.weaker_to(number, pre)
-        return self.book.tri("while", (number,), pre, command, ("and", pre, ("not", test)), sort)
+        post = ("and", pre, ("not", test))
+        return self.ended(self.book.tri("while", (number,), pre, command, post, sort))
+
+
+def last_of(command: Command) -> Command:
+    """The command behind which a proof is at its end."""
+    while command[0] in ("block", "local"):
+        command = command[-1]
+    return command

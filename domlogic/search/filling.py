@@ -47,14 +47,17 @@ def asked_steps(theory: Theory, procedure: Procedure) -> list[Step]:
     return steps
 
 
-def proposed(book: Book, judgement: tuple, watch: Watch) -> list[tuple]:
-    """The steps of a proposal, which end in the judgement; Fails with a Failure if none."""
-    search = Matching(book) if judgement[0] == "entails" else Execution(book, watch)
+def searched(search: Matching | Execution, judgement: tuple) -> int:
+    """The step of the judgement; Fails with a Failure if there is none."""
     try:
-        last = search.prove(*judgement[1:])
+        return search.prove(*judgement[1:])
     except Fails as why:
         failure = failure_of(why, getattr(search, "place", ""))
-        raise Fails(in_normal_form(failure, book, judgement[-1])) from None
+        raise Fails(in_normal_form(failure, search.book, judgement[-1])) from None
+
+
+def ended_in(judgement: tuple, book: Book, last: int) -> list[tuple]:
+    """The steps that the last one needs, which end in the judgement as it is written."""
     steps = book.used(last)
     if steps and steps[-1][4] == judgement:
         return steps
@@ -106,12 +109,15 @@ class Filling:
         now = self.theory._replace(logic=self.logic)
         seen = [done[number - 1] for number in ends.values()]
         book = Book(now, procedure, len(done) + 1, Earlier(done, seen))
+        is_triple = gap.judgement[0] == "triple"
+        search = Execution(book, self.watch) if is_triple else Matching(book)
         try:
-            steps = proposed(book, gap.judgement, self.watch)
+            steps = ended_in(gap.judgement, book, searched(search, gap.judgement))
         except Fails as why:
             failure: Failure = why.args[0]
+            names = ShownNames(book.new, self.theory.logic)
             title = title_of(gap, procedure) + (failure.place and f", {failure.place}")
-            raise NotFilled(f"not filled: {title}", *lines_of(failure, ShownNames(book))) from None
+            raise NotFilled(f"not filled: {title}", *lines_of(failure, names)) from None
         names = {it[1] for one in steps for it in walk((one[3], one[4])) if it[:1] == ("logic",)}
         self.logic += [(name, sort) for name, sort in book.new.items() if name in names]
         return [Step(number, gap.line, *rest) for number, *rest in steps]

@@ -63,10 +63,9 @@ class ShownNames:
     """The search's own variables as they are shown: $node_1, $node_2 .. in the order in which they
     are met."""
 
-    def __init__(self, book: Book):
-        self.new = book.new
-        self.taken = {name for name, _ in book.theory.logic}
-        self.shown: dict[str, str] = {}
+    def __init__(self, new: dict[str, str], declared: Iterable[tuple[str, str]]):
+        self.new, self.shown = new, {}
+        self.taken = {name for name, _ in declared}
 
     def text(self, formula: tuple | str) -> str:
         """The formula's text in shown names."""

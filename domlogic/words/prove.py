@@ -1,33 +1,23 @@
 """`prove FILE`: the file with its gaps filled, as the proved program accepts it."""
 import re
 
-from domlogic.reading.limits import Refused
-from domlogic.reading.requests import theory_of
 from domlogic.reading.sorts import walk
 from domlogic.reading.theories import Theory
 from domlogic.search.book import theory_text
 from domlogic.search.filling import Filled, NotFilled, filled
 from domlogic.search.stepping import COMMANDS
 from domlogic.words.bar import Bar
-from domlogic.words.program import Answer, asked, checked
+from domlogic.words.program import ACCEPTED, GAP, LIMIT, REFUSED, Answer, checked, read
 
-ACCEPTED, REFUSED, LIMIT, GAP, UNREAD = 0, 1, 8, 9, 11
 WRONG = "the search proposed a wrong proof: this is a defect of the search, and nothing is accepted"
 TOO_LARGE = "the proof that the search found passes a limit"
 
 
 def prove(program: str, file: str) -> Answer:
     """Fills the gaps of the file; what is printed is accepted, or says why there is nothing."""
-    first = asked(program, "check", file)
-    if not is_fillable(first):
+    first, theory = read(program, file)
+    if theory is None or not is_fillable(first):
         return first
-    try:
-        with open(file, "rb") as given:
-            theory = theory_of(given.read())
-    except Refused as why:
-        return Answer(why.status, f"{why.line}\n")
-    except OSError:
-        return Answer(UNREAD, "")
     if first.status == ACCEPTED:
         return judged(program, Filled(theory, {}))
     try:
