@@ -1,17 +1,20 @@
 """Execution forwards of a command with its blocks: from what is known before it the strongest
 post."""
+import time
 from typing import Callable
 
 from domlogic.reading.nameless import condition_formula
 from domlogic.search.book import DEFAULTS, Book, Fails, disj
 from domlogic.search.heaps import Command, Formula
 from domlogic.search.entailments import Matching
+from domlogic.search.invariants import WAYS, Invariants
 from domlogic.search.messages import heading
 from domlogic.search.outline import Outline
 from domlogic.search.stepping import Stepping
 
 # Told the command at which the search is.
 Watch = Callable[[Command], None]
+SECONDS = 10.0  # of the processor's time, in which invariants are guessed
 
 
 class Execution:
@@ -23,11 +26,29 @@ class Execution:
         self.stepping = Stepping(book, self.matching)
         self.triples = self.stepping.triples
         self.place, self.outline = "", Outline()
+        self.first_way, self.has_guessed = 0, False
+        self.deadline = time.process_time() + SECONDS
         self.forms = {"skip": self.skip, "block": self.block, "local": self.local,
                       "if": self.choice, "while": self.loop}
 
     def prove(self, pre: Formula, command: Command, post: Formula, sort: str) -> int:
-        """The step of the triple."""
+        """The step of the triple. Where an invariant was guessed and isn't enough for the rest,
+        others are tried; what is told is of the first."""
+        place, lines = "", []
+        for self.first_way in range(len(WAYS)):
+            try:
+                return self.once(pre, command, post, sort)
+            except Fails as why:
+                if self.first_way == 0:
+                    fails, place, lines = why, self.place, self.outline.lines
+                if not self.has_guessed or time.process_time() > self.deadline:
+                    break
+            self.outline, self.has_guessed = Outline(), False
+        self.place, self.outline.lines = place, lines
+        raise fails
+
+    def once(self, pre: Formula, command: Command, post: Formula, sort: str) -> int:
+        """The step of the triple, with no other way of guessing."""
         number = self.run(pre, command, sort)
         self.place = "at the end, behind " + heading(last_of(command))
         return self.triples.weaker_to(number, post)
@@ -106,14 +127,45 @@ class Execution:
         return self.ended(self.book.tri("if", (one, two), pre, command, post, sort))
 
     def loop(self, pre: Formula, command: Command, sort: str) -> int:
-        """The block leads from pre and the condition back to pre."""
-        test = condition_formula(command[1])
+        """What stands before the loop may be its invariant; else one is guessed."""
+        test, count = condition_formula(command[1]), len(self.outline.lines)
         self.outline.tell(heading(command) + " {")
-        number = self.inner(("and", pre, test), command[2], sort)
-        self.place = "at the end of the block of " + heading(command)
-        number = self.triples.weaker_to(number, pre)
-        post = ("and", pre, ("not", test))
-        return self.ended(self.book.tri("while", (number,), pre, command, post, sort))
+        once = self.inner(("and", pre, test), command[2], sort)
+        place = "at the end of the block of " + heading(command)
+        try:
+            number, start = self.triples.weaker_to(once, pre), self.book.id(pre, sort)
+        except Fails as why:
+            lines = self.outline.lines[count:]
+            found = self.guessed(pre, command, sort, once, count)
+            if found is None:
+                self.outline.back_to(count)
+                self.outline.lines += lines
+                self.place = place
+                raise why from None
+            start, number = found
+        invariant = self.triples.post(number)
+        post = ("and", invariant, ("not", test))
+        whole = self.book.tri("while", (number,), invariant, command, post, sort)
+        return self.ended(self.triples.stronger(start, whole))
+
+    def guessed(self, pre: Formula, command: Command, sort: str, once: int,
+                count: int) -> tuple[int, int] | None:
+        """(the step that pre entails an invariant of the loop, the triple of its block), or None."""
+        guesses = Invariants(self.triples, command, pre, sort)
+
+        def run_block(before: Formula) -> int:
+            self.outline.back_to(count)
+            self.outline.tell(heading(command) + " {")
+            return self.inner(before, command[2], sort)
+
+        for way in WAYS[self.first_way:]:
+            if time.process_time() > self.deadline:
+                break
+            found = guesses.found(way, once, run_block)
+            if found:
+                self.has_guessed = True
+                return found
+        return None
 
 
 def last_of(command: Command) -> Command:

@@ -2,10 +2,9 @@
 
 A proof that doesn't end in its procedure's own triple gets it as one more gap.
 """
-from typing import NamedTuple
+from typing import Iterable, NamedTuple
 
 from domlogic.reading.nameless import nameless_judgement
-from domlogic.reading.sorts import walk
 from domlogic.reading.theories import Procedure, Step, Theory
 from domlogic.search.book import Book, Fails
 from domlogic.search.entailments import Matching
@@ -71,6 +70,18 @@ def ended_in(judgement: tuple, book: Book, last: int) -> list[tuple]:
     return [*steps, *same, (here + 2, rule, premises, (), judgement)]
 
 
+def logic_names(nodes: Iterable[tuple]) -> set[str]:
+    """The names of logic variables in them, bound ones too. Parts that are shared are met once."""
+    names, met, work = set(), set(), list(nodes)
+    while work:
+        node = work.pop()
+        if id(node) not in met:
+            met.add(id(node))
+            names |= {node[1]} if node[:1] == ("logic",) else set()
+            work += [part for part in node if isinstance(part, tuple)]
+    return names
+
+
 def title_of(step: Step, procedure: Procedure) -> str:
     """The gap as an author knows it: his step, or the triple that his proof doesn't end in."""
     if step.line is None:
@@ -118,7 +129,7 @@ class Filling:
             names = ShownNames(book.new, self.theory.logic)
             title = title_of(gap, procedure) + (failure.place and f", {failure.place}")
             raise NotFilled(f"not filled: {title}", *lines_of(failure, names)) from None
-        names = {it[1] for one in steps for it in walk((one[3], one[4])) if it[:1] == ("logic",)}
+        names = logic_names(it[3:] for it in steps)
         self.logic += [(name, sort) for name, sort in book.new.items() if name in names]
         return [Step(number, gap.line, *rest) for number, *rest in steps]
 
