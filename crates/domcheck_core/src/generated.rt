@@ -8,7 +8,7 @@ use crate::checks::check_bytes;
 use crate::replies::Reply;
 use crate::status::Status;
 use dom_terms::{OutOfMemory, Text};
-use proof_text::write_theory;
+use theory_writing::write_theory;
 use std::alloc::Global;
 use work_maker::make_theory;
 

@@ -403,7 +403,8 @@ module _ (Can : Lexeme → Type 0) (holds : HoldsOfWritten Can) where
           (word (codes ":=") refl, (holds.of_name name h.1, terms_hold in_command es h.2)),
     )
 
-    block_holds : Can (terminal insert_word) → (b : Block) → IsWritableBlock b → Each Can (block_lexemes b)
+    block_holds : Can (terminal insert_word) → (b : Block) → IsWritableBlock b
+        → Each Can (block_lexemes b)
     block_holds inserts stop h = absurd h
     block_holds inserts (d then b) h = (
       word (codes "{") refl,
@@ -411,7 +412,8 @@ module _ (Can : Lexeme → Type 0) (holds : HoldsOfWritten Can) where
           (beside (further_commands b) _ (commands_hold inserts b h.1) (one (codes "}") refl)),
     )
 
-    commands_hold : Can (terminal insert_word) → (b : Block) → AreWritable b → Each Can (further_commands b)
+    commands_hold : Can (terminal insert_word) → (b : Block) → AreWritable b
+        → Each Can (further_commands b)
     commands_hold inserts stop h = tt
     commands_hold inserts (d then b) h = (
       word (codes ";") refl,

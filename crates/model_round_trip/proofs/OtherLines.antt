@@ -151,8 +151,8 @@ steps_again v (step ∷ steps) rest lexemes h e =
 three_parts : (a b c rest : List Lexeme) → (a ++ (b ++ c)) ++ rest ≡ a ++ (b ++ (c ++ rest))
 three_parts a b c rest = simp append_assoc refl
 
-procedure_again : (v : ℕ) (f : ProcedureOf Named) (rest lexemes : List Lexeme) → IsWritableProcedure f
-    → Alike (all_lexemes (procedure_lines v f) ++ rest) lexemes
+procedure_again : (v : ℕ) (f : ProcedureOf Named) (rest lexemes : List Lexeme)
+    → IsWritableProcedure f → Alike (all_lexemes (procedure_lines v f) ++ rest) lexemes
     → Spelled SpellsProcedure procedure_without_lines (procedure_with undeclared f) rest lexemes
 procedure_again v f rest lexemes h e =
     let header : List Lexeme = all_lexemes (header_lines f) in

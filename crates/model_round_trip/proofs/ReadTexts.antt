@@ -91,7 +91,8 @@ module _ (v : ℕ) (Can : Lexeme → Type 0)
           two_read (reason_lexemes v r) (the ":" ⌢ judgement_lexemes w ⌢ the ";")
               (reason_read m x.0) (
                 x.1.0,
-                two_read (judgement_lexemes w) (the ";") (as_read Can (judgement_written n) y.0) y.1,
+                two_read (judgement_lexemes w) (the ";") (as_read Can (judgement_written n) y.0)
+                    y.1,
               ),
         ),
       )

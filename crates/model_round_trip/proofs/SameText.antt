@@ -51,7 +51,8 @@ lines_unseen t =
     let logics : List (List Lexeme) = map logic_line t.logic in
     by_texts (theory_lines (without_lines t))
     ∙ (ap ended (λ j. text_of (the "domlogic" ⌢ number_lexemes t.version)
-    ∷ (map-append text_of logics (procedures_lines t.version (map procedure_without_lines t.procedures))
+    ∷ (map-append text_of logics
+    (procedures_lines t.version (map procedure_without_lines t.procedures))
     ∙ ((λ i. texts logics ++ same_procedures t.version t.procedures i)
     ∙ sym (map-append text_of logics (procedures_lines t.version t.procedures)))) j)
     ∙ sym (by_texts (theory_lines t)))

@@ -158,7 +158,8 @@ module _ (d : Declared) where
       ⌢ data_sort_lexemes f.sort)
       ∷ (the "requires" ⌢ formula_kept f.pre j) ∷ (the "ensures" ⌢ formula_kept f.post j)
       ∷ (the "body" ⌢ command_kept f.body j) ∷ the "proof"
-      ∷ (map_twice (step_line v) (sorted_step d) (step_line v) (step_kept v) f.proof j ++ the "end" ∷ [])
+      ∷ (map_twice (step_line v) (sorted_step d) (step_line v) (step_kept v) f.proof j
+      ++ the "end" ∷ [])
 
 procedures_kept : (v : ℕ) (logics : List Var) (fs : List (ProcedureOf Named))
     → procedures_lines v (map (sorted_procedure logics) fs) ≡ procedures_lines v fs
@@ -169,4 +170,5 @@ procedures_kept v logics (f ∷ fs) =
 pub theory_kept : (theory : Theory) → theory_lines (with_sorts theory) ≡ theory_lines theory
 theory_kept theory =
     λ j. (the "domlogic" ⌢ number_lexemes theory.version)
-    ∷ (map logic_line theory.logic ++ procedures_kept theory.version theory.logic theory.procedures j)
+    ∷ (map logic_line theory.logic
+    ++ procedures_kept theory.version theory.logic theory.procedures j)
