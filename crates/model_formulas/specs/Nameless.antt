@@ -6,7 +6,6 @@ use Rattle.model_shapes.specs.Trees.{decided}
 use Rattle.model_terms.specs.Variables.{Var, bound, var_sort}
 use Rattle.model_terms.specs.VariableTests.{var_eq}
 use Rattle.model_terms.specs.Terms.{variable, raised_var, Substitution, term_with}
-pub use Rattle.model_formulas.specs.Deciding.{name_or}
 use Rattle.model_formulas.specs.Formulas.{Named, Formula}
 use Rattle.model_formulas.specs.Changes.{changed}
 

@@ -5,7 +5,6 @@ use Rattle.model_shapes.specs.Trees.{decided}
 use Rattle.model_terms.specs.Variables.{Var, bound, var_sort}
 use Rattle.model_terms.specs.VariableTests.{var_eq}
 use Rattle.model_terms.specs.Terms.{Term, variable, raised, raised_var, InTerm, Substitution, under_binder, term_with}
-pub use Rattle.model_formulas.specs.Deciding.{closing_at, replacing_at}
 use Rattle.model_formulas.specs.Changes.{changed}
 use Rattle.model_formulas.specs.Formulas.{FormulaOf, Formula, conjunction, disjunction, implication, negation, existential, universal, equality, at_most, node_formula, one_tree, one_root, concatenation, grove_sum, grove_sum_hole, application, hole_adjoint, context_adjoint, same_as, length_is, value_meets}
 
