@@ -5,20 +5,21 @@ from domlogic.search.book import (DEFAULTS, EMPTY, FALSE, NONE, TRUE, Fails, con
                    modified, put, put_at, term_text)
 from domlogic.search.entailments import Facts, Matching
 from domlogic.reading.nameless import condition_formula
+from domlogic.search.messages import heading
 
 COMPOUND = ("skip", "block", "local", "if", "while")
 
 
 class Execution:
-    def __init__(self, book):
-        self.book, self.matching = book, Matching(book)
+    def __init__(self, book, watch=lambda command: None):
+        self.book, self.matching, self.watch = book, Matching(book), watch
         self.shapes = self.matching.shapes
-        self.at, self.trace = None, []
+        self.place, self.trace = "", []
 
     # ------------------------------------------------------------------ the whole
     def prove(self, pre, command, post, sort):
         number, now = self.run(pre, command, sort)
-        self.at = "the end"
+        self.place = "at the end"
         return self.weaker(number, now, post, sort)
 
     def states(self, formula, sort):
@@ -46,10 +47,12 @@ class Execution:
         """(step, post): the triple of the command from pre; where `want` is given, post is that."""
         head, book = command[0], self.book
         if head != "block":
-            self.at = command
+            self.place = "at " + heading(command)
+            self.watch(command)
         if want is not None:
+            place = self.place
             number, now = self.run(pre, command, sort)
-            self.at = "the end of a loop's block"
+            self.place = place
             return self.weaker(number, now, want, sort), want
         if any(it.judgement[0] == "triple" and it.judgement[2] == command for it in book.earlier):
             try:
@@ -81,6 +84,7 @@ class Execution:
             return book.tri("if", (one, two), pre, command, now, sort), now
         if head == "while":
             test = condition_formula(command[1])
+            self.place = "at the end of the block of " + heading(command)
             number, _ = self.run(("and", pre, test), command[2], sort, pre)
             now = ("and", pre, ("not", test))
             return book.tri("while", (number,), pre, command, now, sort), now
