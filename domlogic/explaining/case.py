@@ -19,7 +19,6 @@ COMMANDS = {"skip": "skip", ":=": "x := E", "if": "if B BL else BL2", "while": "
             "local": "local x : s BL", "appendChild": "appendChild(E, F)", "removeChild": "removeChild(E, F)",
             "insertBefore": "insertBefore(E, F, G)", "item": "x := item(E, F)",
             **{query: f"x := {query}(E)" for query in ("createNode", "nodeName", "parentNode", "childNodes")}}
-PARTS_OF_ENTAILMENTS, PARTS_OF_TRIPLES = ("left side", "right side"), ("pre", "command", "post")
 
 
 class Case:
@@ -140,18 +139,15 @@ def unread(wanted: Node, state: State) -> list[str]:
     return sorted({LETTERS.get(it, it) for it in names if it not in state.guess})
 
 
-def part_name(judgement: Node, path: Path) -> str:
-    """The side of a judgement in which a path leads."""
-    names = PARTS_OF_TRIPLES if judgement[0] == "triple" else PARTS_OF_ENTAILMENTS
-    return names[path[0] - 1]
+def wanted_text(case: Case, miss: Miss) -> str:
+    """What is wanted at the end of a way."""
+    is_term = is_term_at(case.stepped(miss.judgement).judgement, miss.path)
+    return case.pattern_text(miss.wanted, miss.state, is_term, (miss.judgement, miss.path))
 
 
-def wanted_lines(case: Case, miss: Miss) -> Iterator[str]:
+def wanted_lines(case: Case, miss: Miss, wanted: str) -> Iterator[str]:
     """What is wanted at a place and what is written there."""
-    judgement = case.stepped(miss.judgement).judgement
-    is_term = is_term_at(judgement, miss.path)
-    text = shortened(case.pattern_text(miss.wanted, miss.state, is_term, (miss.judgement, miss.path)), 160)
-    yield from labelled("wanted", f"{code(text)}{origin(miss)}")
+    yield from labelled("wanted", f"{code(shortened(wanted, 160))}{origin(miss)}")
     yield from labelled("written", code(shortened(case.written_text(miss.judgement, miss.path), 160)))
 
 

@@ -1,9 +1,11 @@
 """The rules as the manual writes them: for each reading of a rule its line, and its conditions in words."""
+import itertools
 import re
 from collections import defaultdict
-from typing import NamedTuple
+from typing import Iterator, NamedTuple
 
 from domlogic.explaining.wording import listed
+from domlogic.reading.limits import DATA_SORTS
 from domlogic.reading.patterns import Reading, arguments_of, placed, readings_of, spread
 from domlogic.reading.rules import AXIOMS, ENTAILMENTS, TRIPLES
 
@@ -23,9 +25,11 @@ LETTERS = {"W": "Y"}
 
 
 class Row(NamedTuple):
-    """A reading of a rule, with its line as it is written for the sorts of this reading."""
+    """A reading of a rule, with its line: as it is written for this reading's sorts, and with letters for them."""
 
     text: str
+    general: str
+    sorts: dict[str, str]
     reading: Reading
 
 
@@ -50,13 +54,21 @@ def line_text(arguments: str, form: str, conditions: list[list[str]]) -> str:
     return (f"with {arguments.strip('()')}: " if arguments else "") + form + where
 
 
+def sorts_of(text: str) -> Iterator[dict[str, str]]:
+    """What h, j and k are in the texts of `spread`, in their order."""
+    wanted = [it for it in "hjk" if re.search(rf"[@?]{it}\b|o-{it}\b|at {it}\b", text)]
+    return (dict(zip(wanted, sorts)) for sorts in itertools.product(DATA_SORTS, repeat=len(wanted)))
+
+
 def rows_of_line(arguments: str, form: str) -> list[Row]:
     """The rows of a line behind its name."""
     body, _, conditions = form.partition("|")
     named = [it.split() for it in conditions.split(";") if it.strip()]
-    texts = [one for it in placed(body) for one in spread(it)]
+    texts = [(one, place, sorts) for place in placed(body)
+             for one, sorts in zip(spread(place), sorts_of(place))]
     readings = readings_of(arguments_of(arguments), form)
-    return [Row(line_text(arguments, text, named), it) for text, it in zip(texts, readings)]
+    return [Row(line_text(arguments, text, named), line_text(arguments, place, named), sorts, it)
+            for (text, place, sorts), it in zip(texts, readings)]
 
 
 def rows_of_table(table: str) -> dict[str, list[Row]]:
@@ -102,6 +114,22 @@ def general_lines() -> dict[str, str]:
 
 
 GENERAL = general_lines()
+
+
+def with_letters(texts: list[str], sorts: list[dict[str, str]]) -> str:
+    """A text of several readings of one line, with the letter of a sort where they differ."""
+    if len({len(it) for it in texts}) > 1:
+        return texts[0]
+    columns = (letter_of([it[at] for it in texts], sorts) for at in range(len(texts[0])))
+    return "".join(columns)
+
+
+def letter_of(characters: list[str], sorts: list[dict[str, str]]) -> str:
+    """A character that all readings have, or the letter that stands for it."""
+    if len(set(characters)) == 1:
+        return characters[0]
+    return next((letter for letter in sorts[0]
+                 if all(its[letter] == it for its, it in zip(sorts, characters))), characters[0])
 
 
 def judges_triples(rule: str) -> bool:

@@ -130,27 +130,20 @@ class Source:
         begin = self.text.rfind("\n", 0, first) + 1
         end = self.text.find("\n", first)
         line = self.text[begin:] if end < 0 else self.text[begin:end]
-        line = "".join(it if it.isprintable() else " " for it in line).rstrip()
-        at, count = first - begin, max(1, min(behind, begin + len(line)) - first)
-        line, at = windowed(line, at, count)
+        count = max(1, min(behind, begin + len(line)) - first)
+        line, at = windowed(line, first - begin, count)
         carets = "^" * min(count, max(1, WIDTH - at))
         return [f"{self.place_in_words(first)}:", INDENT + line, INDENT + " " * at + carets]
 
 
 def windowed(line: str, at: int, count: int) -> tuple[str, int]:
-    """The part of a long line round a place, and where the place is in it."""
-    if len(line) <= WIDTH:
-        return line, at
-    begin = max(0, min(at - WIDTH // 3, len(line) - WIDTH))
+    """The part of a long line round a place, with spaces for what isn't printed, and where the place is in it."""
+    begin = 0
+    if len(line) > WIDTH:
+        begin = max(0, min(at - WIDTH // 3, len(line) - WIDTH))
     if at + count > begin + WIDTH:
         begin = max(begin, min(at - 8, at + count - WIDTH))
-    begin = max(0, begin)
-    shown = line[begin : begin + WIDTH]
+    shown = "".join(it if it.isprintable() else " " for it in line[begin : begin + WIDTH]).rstrip()
     if begin + WIDTH < len(line):
         shown += " .."
     return (CUT + shown, at - begin + len(CUT)) if begin else (shown, at)
-
-
-def start_of(source: Source, part: Procedure | Step) -> int:
-    """The first token of a procedure or a step."""
-    return source.span(part)[0]

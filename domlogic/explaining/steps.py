@@ -3,12 +3,12 @@ import re
 from typing import Iterator
 
 from domlogic.explaining import computed, rows, sides
-from domlogic.explaining.case import Case, part_name, unread, wanted_lines
+from domlogic.explaining.case import Case, wanted_lines, wanted_text
 from domlogic.explaining.comparing import (BOUND_FREE, BOUND_SORT, KIND, LEFT, SORT, TERM_SORT, Comparison, Miss,
                                            State, Way)
 from domlogic.explaining.rows import Row
 from domlogic.explaining.source import Source
-from domlogic.explaining.wording import code, counted, labelled, listed, shortened, sort_in_words, wrapped
+from domlogic.explaining.wording import code, counted, labelled, shortened, sort_in_words, wrapped
 from domlogic.reading.matching import put_in, settled
 from domlogic.reading.sorts import term_sort
 
@@ -29,9 +29,9 @@ def explained(source: Source, line: str) -> list[str]:
     return list(sides.explained(case, side, ways_through(case)))
 
 
-def rule_lines(case: Case, row: Row | None = None) -> list[str]:
-    """The line of the rule, as the manual has it or as this row reads it."""
-    return labelled("rule", f"{case.step.rule}: {row.text if row else rows.row_text(case.step.rule)}")
+def rule_lines(case: Case, text: str = "") -> list[str]:
+    """The line of the rule, this one or the manual's first."""
+    return labelled("rule", f"{case.step.rule}: {text or rows.row_text(case.step.rule)}")
 
 
 def letter_lines(case: Case, state: State) -> list[str]:
@@ -91,13 +91,22 @@ def form_trouble(case: Case) -> list[str]:
     tried = list(conclusions(case))
     for row, _, states in tried:
         if states:
-            return [*rule_lines(case, row), *letter_lines(case, states[0]), *sort_trouble(case, row, states[0])]
-    row, comparison, _ = max(tried, key=lambda it: it[1].farthest().state.count)
-    miss = comparison.farthest()
-    told = [*rule_lines(case, row), *letter_lines(case, miss.state)]
-    if len({it.text for it, _, _ in tried}) > 1:
-        told[:0] = ["Of the lines of the rule this one fits farthest."]
-    return told + miss_lines(case, miss)
+            return [*rule_lines(case, row.text), *letter_lines(case, states[0]), *sort_trouble(case, row, states[0])]
+    farthest = farthest_rows(tried)
+    row, miss = farthest[0]
+    told = [*rule_lines(case, row.general if len(farthest) > 1 else row.text), *letter_lines(case, miss.state)]
+    if len({it.general for it, _, _ in tried}) > 1:
+        told[:0] = ["Of the lines of the rule none fits farther than this one."]
+    return told + miss_lines(case, miss, farthest)
+
+
+def farthest_rows(tried: list[tuple[Row, Comparison, list[State]]]) -> list[tuple[Row, Miss]]:
+    """The rows of one line that come farthest, each with the part at which it ends."""
+    ends = [(row, comparison.farthest()) for row, comparison, _ in tried]
+    count = max(miss.state.count for _, miss in ends)
+    first = next(it for it in ends if it[1].state.count == count)
+    return [it for it in ends if it[0].general == first[0].general and it[1].state.count == count
+            and it[1].path == first[1].path]
 
 
 def sort_trouble(case: Case, row: Row, state: State) -> list[str]:
@@ -119,10 +128,12 @@ def sort_trouble(case: Case, row: Row, state: State) -> list[str]:
     return [*case.marked_sort(0), *wrapped(told)]
 
 
-def miss_lines(case: Case, miss: Miss) -> list[str]:
-    """The first part that differs, marked, with what is wanted there."""
+def miss_lines(case: Case, miss: Miss, tied: list[tuple[Row, Miss]] = ()) -> list[str]:
+    """The first part that differs, marked, with what is wanted there by each of the rows."""
     if not miss.why:
-        return [*case.marked(miss.judgement, miss.path), *wanted_lines(case, miss)]
+        texts = [wanted_text(case, it) for _, it in tied] or [wanted_text(case, miss)]
+        wanted = rows.with_letters(texts, [row.sorts for row, _ in tied])
+        return [*case.marked(miss.judgement, miss.path), *wanted_lines(case, miss, wanted)]
     return [*case.marked(miss.judgement, miss.path), *wrapped(reason(case, miss))]
 
 
@@ -170,12 +181,12 @@ def premises(case: Case) -> Iterator[str]:
     count, cited = len(ways[0].premises), len(case.step.premises)
     if count != cited:
         each = ", one for each command of the block" if case.step.rule == "seq" else ""
-        yield from rule_lines(case, ways[0].row)
+        yield from rule_lines(case, ways[0].row.general if ways[0].row else "")
         yield from case.marked_rule()
         told = f"The rule has {counted(count, 'premise')}{each}, and the step cites {counted(cited, 'step')}."
         yield from wrapped(told)
     elif case.cited is None:
-        yield from rule_lines(case, ways[0].row)
+        yield from rule_lines(case, ways[0].row.general if ways[0].row else "")
         yield from citation_trouble(case)
     else:
         yield from premise_trouble(case, ways)
@@ -191,17 +202,20 @@ def citation_trouble(case: Case) -> Iterator[str]:
                        f"{case.step.number}: {earlier}.")
 
 
-def premise_trouble(case: Case, ways: list[Way]) -> Iterator[str]:
-    """The first premise that isn't what is cited for it, and the part in which it differs."""
-    for way in ways:
-        way.comparison.misses.clear()
+def farthest_way(case: Case, ways: list[Way]) -> tuple[Way, Miss]:
+    """The way that comes farthest through the premises, and where it ends."""
     found: list[tuple[Way, Miss]] = []
     for way in ways:
+        way.comparison.misses = []
         list(way.comparison.premises(way.premises, case.cited, way.state))
         found += [(way, it) for it in way.comparison.misses]
-        way.comparison.misses = []
-    way, miss = max(found, key=lambda it: (it[1].rank, it[1].state.count))
-    yield from rule_lines(case, way.row)
+    return max(found, key=lambda it: (it[1].rank, it[1].state.count))
+
+
+def premise_trouble(case: Case, ways: list[Way]) -> Iterator[str]:
+    """The first premise that isn't what is cited for it, and the part in which it differs."""
+    way, miss = farthest_way(case, ways)
+    yield from rule_lines(case, way.row.text if way.row else "")
     yield from letter_lines(case, miss.state)
     if not miss.judgement:
         yield from miss_lines(case, miss)
