@@ -119,6 +119,10 @@ fn ends(
         uses parent (tree_at child (grove_of records.now nodes.now)) ≡ cond ends.2 1 0) }
 {
     let (above, below) = both(nodes, parent, child)?;
+    // nothing stands below a node without children
+    if above != below && records[below].first.is_none() {
+        return Some((above, below, false));
+    }
     let mut current = above;
     loop {
         if current == below {

@@ -3,7 +3,7 @@ use Rattle.std.specs.Option.{IsSome}
 use Rattle.model_shapes.specs.Trees.{Trees}
 use Rattle.node_heap.specs.Heap.{grove_of}
 use Rattle.node_heap.proofs.Found.{Found, found}
-use Rattle.node_heap.proofs.Walk.{Up, walk_up, walk_out, walk_in}
+use Rattle.node_heap.proofs.Walk.{Up, walk_up, walk_out, walk_in, walk_spared}
 use Rattle.node_heap.proofs.moving.ends.Goals as goal
 use Rattle.node_heap.proofs.moving.ends.Goals.{In_ok-above}
 
@@ -20,8 +20,8 @@ below : (c : In_ok-above) → Found c.args.records.now c.args.nodes.now (grove c
 below c = found c.args.records.now c.args.nodes.now c.requires.lists (grove c)
     c.requires.linked.links c.args.child c.in_ok-above.below c.in_ok-above.ensures.child_at
 
-pub index-requires : goal.index-requires
-index-requires c = subst IsSome (sym c.loop-current.invariant.found.at) refl
+pub index-requires-in-loop-current : goal.index-requires-in-loop-current
+index-requires-in-loop-current c = subst IsSome (sym c.loop-current.invariant.found.at) refl
 
 pub loop-current-init : goal.loop-current-init
 loop-current-init c = record {
@@ -45,7 +45,8 @@ up c =
     walk_up c.args.records.now c.args.nodes.now c.requires.lists (grove t)
     c.requires.linked.links c.args.parent c.args.child c.loop-current.current
     c.loop-current.invariant c.in_ok-above.below (below t) c.if-current-below.false
-    c.index.result.now c.in-Some.next c.index.ensures c.in-Some.is
+    c.index-in-loop-current.result.now c.in-Some.next c.index-in-loop-current.ensures
+    c.in-Some.is
 
 pub loop-current-smaller : goal.loop-current-smaller
 loop-current-smaller c = (up c).nearer
@@ -59,4 +60,15 @@ returns-in-None-clause-cycle c =
     walk_out c.args.records.now c.args.nodes.now c.requires.lists (grove t)
     c.requires.linked.links c.args.parent c.args.child c.loop-current.current
     c.loop-current.invariant c.in_ok-above.below (below t) c.if-current-below.false
-    c.index.result.now c.index.ensures c.in-None.is
+    c.index-in-loop-current.result.now c.index-in-loop-current.ensures c.in-None.is
+
+pub index-requires : goal.index-requires
+index-requires c = subst IsSome (sym (below (goal.at.index-requires c).In_ok-above).at) refl
+
+pub returns-then-is_none-clause-cycle : goal.returns-then-is_none-clause-cycle
+returns-then-is_none-clause-cycle c =
+    let t = (goal.at.returns-then-is_none-clause-cycle c).In_ok-above in
+    walk_spared c.args.records.now c.args.nodes.now c.requires.lists (grove t)
+    c.requires.linked.links c.args.parent c.args.child c.in_ok-above.above c.in_ok-above.below
+    (above t) (below t) c.if-above-below.true c.index.result.now c.index.ensures
+    c.if-is_none.ensures
