@@ -1,292 +1,112 @@
-"""Formulas of the reader's kind, printed, searched and changed; and the book in which steps are written.
-
-It stands on the folder `reading` of the repository's tests (the environment variable DOMCHECK_TESTS
-names the folder tests/), from which come the reader, the sorts and the nameless formulas.
-"""
+"""The book in which the steps of a proof are written."""
 import sys
+from typing import Iterable, Mapping, Sequence
+
+from domlogic.reading.nameless import nameless
+from domlogic.reading.sorts import scope_of, term_sort
+from domlogic.reading.theories import Procedure, Step, Theory, TheoryReader
+from domlogic.reading.tokens import tokens_within
+from domlogic.search.formulas import (QUANTIFIERS, Formula, Path, Term, free, part_sort,
+                                      with_part)
 
 sys.setrecursionlimit(100000)
-from domlogic.reading.limits import SHAPE_SORTS, VALUE_SORTS
-from domlogic.reading.nameless import is_pure, modified, nameless
-from domlogic.reading.sorts import scope_of, term_sort
-from domlogic.reading.texts import quoted
-from domlogic.reading.theories import TheoryReader
-from domlogic.reading.tokens import tokens_within
 
-TRUE, FALSE, NONE, EMPTY = ("true",), ("false",), ("0f",), ("0g",)
-LITERALS = ("null", "nolist", "int", "str", "yes", "no")
-DEFAULTS = {"node": ("null",), "list": ("nolist",), "int": ("int", 0), "str": ("str", ""),
-            "bool": ("no",)}
+# The rule by which a part of the formula is weakened.
+WEAKENED = {"node": "mono_node", "one tree": "mono_tree", "one root": "mono_root", "*": "mono_star",
+            ".*": "mono_star_left", "*.": "mono_star_right", "+": "mono_plus",
+            ".+": "mono_plus_left", "@t": "mono_app", "@f": "mono_app", "@g": "mono_app"}
+
+Proposed = tuple[int, str, tuple, tuple, tuple]  # number, rule, premises, arguments, judgement
 
 
-# --------------------------------------------------------------------------------- printing
-
-def term_text(term):
-    head, *parts = term
-    if head == "int":
-        return str(parts[0])
-    if head == "str":
-        return quoted(parts[0])
-    if head in ("prog", "logic"):
-        return parts[0]
-    return "{%s %s %s}" % (term_text(parts[0]), head, term_text(parts[1])) if parts else head
-
-
-def formula_text(formula):
-    head, *parts = formula
-    if head == "is it":
-        return parts[0][1]
-    if head == "len":
-        return "len " + term_text(parts[0])
-    if head in ("=", "<="):
-        return "%s %s %s" % (term_text(parts[0]), head, term_text(parts[1]))
-    if head == "node":
-        return "%s#%s[%s]%%%s" % (term_text(parts[0]), term_text(parts[1]), formula_text(parts[2]),
-                                  term_text(parts[3]))
-    if head == "one tree":
-        return "<%s>" % formula_text(parts[0])
-    if head == "one root":
-        return "[%s]" % formula_text(parts[0])
-    if head == "not":
-        return "(not %s)" % formula_text(parts[0])
-    if head in ("exists", "forall"):
-        return "(%s %s . %s)" % (head, parts[0][1], formula_text(parts[1]))
-    if head == "is":
-        return "(%s is %s)" % (parts[0][1], formula_text(parts[1]))
-    if not parts:
-        return head
-    return "(%s %s %s)" % (formula_text(parts[0]), head, formula_text(parts[1]))
-
-
-def condition_text(condition):
-    head, *parts = condition
-    if head == "holds":
-        return parts[0][1]
-    if head in ("=", "<="):
-        return "%s %s %s" % (term_text(parts[0]), head, term_text(parts[1]))
-    if head == "not":
-        return "(not %s)" % condition_text(parts[0])
-    return "(%s %s %s)" % (condition_text(parts[0]), head, condition_text(parts[1])) if parts else head
-
-
-def command_text(command):
-    head, *parts = command
-    if head == "skip":
-        return head
-    if head == "block":
-        return "{ %s }" % " ; ".join(map(command_text, parts))
-    if head == "if":
-        return "if %s %s else %s" % (condition_text(parts[0]), *map(command_text, parts[1:]))
-    if head == "while":
-        return "while %s %s" % (condition_text(parts[0]), command_text(parts[1]))
-    if head == "local":
-        return "local %s : %s %s" % (parts[0][1], parts[1], command_text(parts[2]))
-    if head == "call":
-        return "call (%s) := %s(%s)" % (", ".join(it[1] for it in parts[0]), parts[1],
-                                        ", ".join(map(term_text, parts[2])))
-    if head in ("appendChild", "removeChild", "insertBefore"):
-        return "%s(%s)" % (head, ", ".join(map(term_text, parts)))
-    if head == ":=":
-        return "%s := %s" % (parts[0][1], term_text(parts[1]))
-    return "%s := %s(%s)" % (parts[0][1], head, ", ".join(map(term_text, parts[1:])))
-
-
-def judgement_text(judgement):
-    if judgement[0] == "triple":
-        _, pre, command, post, sort = judgement
-        return "pre %s do %s post %s at %s" % (formula_text(pre), command_text(command),
-                                               formula_text(post), sort)
-    _, left, right, sort = judgement
-    return "%s entails %s at %s" % (formula_text(left), formula_text(right), sort)
-
-
-def step_text(number, rule, premises, arguments, judgement):
-    if rule is None:
-        return "step %d auto: %s;" % (number, judgement_text(judgement))
-    shown = " with (%s)" % ", ".join(map(term_text, arguments)) if arguments else ""
-    return "step %d by %s(%s)%s: %s;" % (number, rule, ", ".join(map(str, premises)), shown,
-                                         judgement_text(judgement))
-
-
-def theory_text(theory):
-    lines = ["domlogic %d" % theory.version]
-    for sort in VALUE_SORTS + SHAPE_SORTS:
-        names = [name for name, its in theory.logic if its == sort]
-        if names:
-            lines.append("logic %s %s;" % (sort, ", ".join(names)))
-    declared = lambda pairs: ", ".join("%s: %s" % pair for pair in pairs)
-    for it in theory.procedures:
-        lines += ["", "proc %s(%s) returns (%s) sort %s" % (it.name, declared(it.params),
-                                                            declared(it.results), it.sort),
-                  "requires " + formula_text(it.pre), "ensures " + formula_text(it.post),
-                  "body " + command_text(it.body), "proof"]
-        lines += [step_text(s.number, s.rule, s.premises, s.arguments, s.judgement) for s in it.steps]
-        lines.append("end")
-    return "\n".join(lines) + "\n"
-
-
-def read_theory(content):
+def read_theory(content: bytes) -> Theory:
+    """Reads a file that is well formed."""
     reader = TheoryReader(tokens_within(content, 100))
     return reader.whole(reader.theory)
 
 
-# --------------------------------------------------------------------------------- variables
-
-def free(node, into=None, bound=()):
-    """The variables that stand free in it, logic and program."""
-    into = set() if into is None else into
-    head = node[0]
-    if head in ("logic", "prog"):
-        if node not in bound:
-            into.add(node)
-    elif head in ("exists", "forall"):
-        free(node[2], into, (*bound, node[1]))
-    else:
-        for part in node:
-            if isinstance(part, tuple):
-                free(part, into, bound)
-    return into
-
-
-def conjuncts(formula):
-    if formula[0] == "and":
-        return conjuncts(formula[1]) + conjuncts(formula[2])
-    return [formula]
-
-
-def conj(parts):
-    """The right-nested conjunction; true where there is none."""
-    if not parts:
-        return TRUE
-    return parts[0] if len(parts) == 1 else ("and", parts[0], conj(parts[1:]))
-
-
-def disj(parts):
-    if not parts:
-        return FALSE
-    return parts[0] if len(parts) == 1 else ("or", parts[0], disj(parts[1:]))
-
-
-def mk(shape, pure):
-    """The shape with its pure facts."""
-    return ("and", shape, conj(pure)) if pure else shape
-
-
-def put(formula, at, part):
-    return (*formula[:at], part, *formula[at + 1:])
-
-
-def put_at(formula, path, part):
-    if not path:
-        return part
-    return put(formula, path[0], put_at(formula[path[0]], path[1:], part))
-
-
-def get_at(formula, path):
-    for at in path:
-        formula = formula[at]
-    return formula
-
-
-# Where the shapes are among the parts of a formula.
-PLACES = {"node": (3,), "one tree": (1,), "one root": (1,), "*": (1, 2), "+": (1, 2), "@t": (2,),
-          "@f": (2,), "@g": (2,)}
-MONO = {"node": "mono_node", "one tree": "mono_tree", "one root": "mono_root", "*": "mono_star",
-        ".*": "mono_star_left", "*.": "mono_star_right", "+": "mono_plus", ".+": "mono_plus_left",
-        "@t": "mono_app", "@f": "mono_app", "@g": "mono_app"}
-
-
-class Fails(Exception):
-    """What an assistant could not do."""
-
-
 class Book:
-    """The steps that are written; the same judgement is written once."""
+    """The steps that are written; each judgement is written once."""
 
-    def __init__(self, theory, procedure, first, earlier):
+    def __init__(self, theory: Theory, procedure: Procedure, first: int, earlier: Sequence[Step]):
+        """Steps are numbered from `first`; `earlier.seen`, if it is there, are those to look at."""
         self.theory, self.procedure = theory, procedure
         self.scope = scope_of(theory, procedure)
         self.logic = dict(self.scope.logic)
-        self.new = {}
-        self.first, self.steps, self.known = first, [], {}
+        self.new: dict[str, str] = {}
+        self.first, self.steps = first, []
         self.all = list(earlier)
         self.earlier = getattr(earlier, "seen", self.all)
+        self.known: dict[tuple, int] = {}
         for step in self.all:
             self.known.setdefault(step.judgement, step.number)
-        self.names = {}
-        self.cache = {}
+        self.counts: dict[str, int] = {}
 
-    # -- names and sorts
-    def fresh(self, sort):
+    # ---------------------------------------------------------------------------- names and sorts
+    def fresh(self, sort: str) -> Term:
         """A logic variable that the file doesn't have."""
-        count = self.names.get(sort, 0)
-        while True:
+        count = self.counts.get(sort, 0) + 1
+        while f"${sort}_{count}" in self.logic:
             count += 1
-            name = "$%s_%d" % (sort, count)
-            if name not in self.logic:
-                break
-        self.names[sort] = count
+        self.counts[sort], name = count, f"${sort}_{count}"
         self.logic[name] = self.new[name] = sort
         return ("logic", name)
 
-    def sort_of(self, variable):
-        return self.logic[variable[1]] if variable[0] == "logic" else self.scope.program[variable[1]]
+    def sort_of(self, variable: Term) -> str:
+        """The sort of a variable."""
+        kind, name = variable
+        return self.logic[name] if kind == "logic" else self.scope.program[name]
 
-    def term_sort(self, term):
+    def term_sort(self, term: Term) -> str | None:
+        """The sort of a term, or None where it is badly sorted."""
         return term_sort(term, self.scope._replace(logic=self.logic))
 
-    def part_sort(self, formula, sort, at):
+    @staticmethod
+    def part_sort(formula: Formula, sort: str, at: int) -> str:
         """The sort at which the part at this place of the tuple is judged."""
-        head = formula[0]
-        if head in ("and", "or", "not", "->", "exists", "forall"):
-            return sort
-        hole, k = sort[:-1], sort[-1]
-        if head == "node":
-            return hole + "f"
-        if head in ("one tree", "one root"):
-            return hole + "t"
-        if head in ("*", "+"):
-            return sort
-        if head[0] == "@":
-            return head[-1] + k if at == 1 else hole + head[-1]
-        if head in (".*", ".+"):
-            return sort if at == 1 else k
-        if head == "*.":
-            return k if at == 1 else sort
-        raise Fails("no part " + head)
+        return part_sort(formula, sort, at)
 
-    def same(self, one, other):
-        if one == other:
-            return True
+    def same(self, one: Formula, other: Formula) -> bool:
+        """Says whether they are equal up to the names of bound variables."""
+        return one == other or self.alike(one, other, ())
+
+    def alike(self, one: Formula, other: Formula, bound: tuple[tuple[Term, Term], ...]) -> bool:
+        """The same below quantifiers: `bound` are their variables, the inner ones first."""
         if len(one) != len(other) or one[0] != other[0]:
             return False
-        return self.nameless(one) == self.nameless(other)
+        if one[0] == "logic" and bound:
+            pairs = (pair for pair in bound if one in pair[:1] or other in pair[1:])
+            return next(pairs, (one, one)) == (one, other)
+        if one[0] in QUANTIFIERS:
+            sorts = self.sort_of(one[1]), self.sort_of(other[1])
+            inner = ((one[1], other[1]), *bound)
+            return sorts[0] == sorts[1] and self.alike(one[2], other[2], inner)
+        return all(self.alike(*pair, bound) if isinstance(pair[0], tuple) else pair[0] == pair[1]
+                   for pair in zip(one[1:], other[1:]))
 
-    def nameless(self, formula):
-        key = formula
-        if key not in self.cache:
-            self.cache[key] = nameless(formula, self.logic)
-        return self.cache[key]
+    def nameless(self, formula: Formula) -> Formula:
+        """The formula without the names of bound variables."""
+        return nameless(formula, self.logic)
 
-    def subst(self, node, terms):
+    def subst(self, node: tuple, terms: Mapping[Term, Term]) -> tuple:
         """Puts terms for variables, all at once; binders that would capture are renamed."""
-        if not terms:
+        if not terms or free(node).isdisjoint(terms):
             return node
         if node in terms:
             return terms[node]
-        if node[0] in ("exists", "forall"):
-            _, variable, inside = node
-            inner = {one: to for one, to in terms.items() if one != variable}
-            if not inner:
-                return node
+        if node[0] in QUANTIFIERS:
+            head, variable, inside = node
+            inner = {one: to for one, to in terms.items() if one in free(node)}
             if any(variable in free(to) for to in inner.values()):
                 new = self.fresh(self.sort_of(variable))
                 inside, variable = self.subst(inside, {variable: new}), new
-            return (node[0], variable, self.subst(inside, inner))
+            return (head, variable, self.subst(inside, inner))
         return tuple(self.subst(it, terms) if isinstance(it, tuple) else it for it in node)
 
-    # -- writing
-    def add(self, rule, premises, judgement, arguments=()):
+    # ------------------------------------------------------------------------------------ writing
+    def add(self, rule: str, premises: Iterable[int], judgement: tuple,
+            arguments: Iterable[Term] = ()) -> int:
+        """Writes a step, or finds one with this judgement; returns its number."""
         if judgement in self.known:
             return self.known[judgement]
         number = self.first + len(self.steps)
@@ -294,75 +114,103 @@ class Book:
         self.known[judgement] = number
         return number
 
-    def ent(self, rule, premises, left, right, sort, arguments=()):
+    def ent(self, rule: str, premises: Iterable[int], left: Formula, right: Formula, sort: str,
+            arguments: Iterable[Term] = ()) -> int:
+        """Writes an entailment."""
         return self.add(rule, premises, ("entails", left, right, sort), arguments)
 
-    def tri(self, rule, premises, pre, command, post, sort, arguments=()):
+    def tri(self, rule: str, premises: Iterable[int], pre: Formula, command: tuple, post: Formula,
+            sort: str, arguments: Iterable[Term] = ()) -> int:
+        """Writes a triple."""
         return self.add(rule, premises, ("triple", pre, command, post, sort), arguments)
 
-    def judged(self, number):
+    def judged(self, number: int) -> tuple:
+        """The judgement of a step."""
         if number >= self.first:
             return self.steps[number - self.first][4]
         return self.all[number - 1].judgement
 
-    def id(self, formula, sort):
+    def id(self, formula: Formula, sort: str) -> int:
+        """Writes that the formula entails itself."""
         return self.ent("id", (), formula, formula, sort)
 
-    def cut(self, *numbers):
+    def cut(self, *numbers: int | None) -> int | None:
+        """Chains entailments; None stands for nothing, and what leads nowhere is left out."""
         done = None
         for number in numbers:
-            if number is None:
-                continue
-            if done is None:
-                done = number
-                continue
-            _, left, middle, sort = self.judged(done)
-            _, start, right, _ = self.judged(number)
-            if left == middle:
-                done = number if start == left else self.ent("cut", (done, number), left, right, sort)
-            elif start == right and middle == right:
-                continue
-            else:
-                done = self.ent("cut", (done, number), left, right, sort)
+            done = number if done is None else done if number is None else self.joined(done, number)
         return done
 
-    def lift1(self, formula, sort, at, number):
+    def joined(self, one: int, two: int) -> int:
+        """One entailment behind the other."""
+        _, left, middle, sort = self.judged(one)
+        _, start, right, _ = self.judged(two)
+        if left == middle == start:
+            return two
+        if left != middle and start == right == middle:
+            return one
+        return self.ent("cut", (one, two), left, right, sort)
+
+    def both(self, one: int, two: int) -> int:
+        """From P entails Q and P entails R that P entails (Q and R)."""
+        _, left, first, sort = self.judged(one)
+        return self.ent("and_in", (one, two), left, ("and", first, self.judged(two)[2]), sort)
+
+    def side(self, formula: Formula, at: int, sort: str) -> int:
+        """(P and Q) entails its part at the place, 1 or 2."""
+        rule = "and_left" if at == 1 else "and_right"
+        return self.ent(rule, (), formula, formula[at], sort)
+
+    def lift1(self, formula: Formula, sort: str, at: int, number: int) -> int:
         """The part at this place weakened by the step; the others stay."""
         _, left, right, _ = self.judged(number)
-        whole, other = put(formula, at, left), put(formula, at, right)
+        whole, other = with_part(formula, at, left), with_part(formula, at, right)
         if whole == other:
             return self.id(whole, sort)
         head = formula[0]
         if head in ("node", "one tree", "one root"):
-            return self.ent(MONO[head], (number,), whole, other, sort)
+            return self.ent(WEAKENED[head], (number,), whole, other, sort)
         sibling = 3 - at
-        same = self.id(formula[sibling], self.part_sort(formula, sort, sibling))
+        same = self.id(formula[sibling], part_sort(formula, sort, sibling))
         premises = (number, same) if at == 1 else (same, number)
-        return self.ent(MONO[head], premises, whole, other, sort)
+        return self.ent(WEAKENED[head], premises, whole, other, sort)
 
-    def lift(self, formula, sort, path, number):
+    def lift(self, formula: Formula, sort: str, path: Path, number: int) -> int:
         """The part at the path weakened by the step."""
         if not path:
             return number
         at = path[0]
-        inner = self.lift(formula[at], self.part_sort(formula, sort, at), path[1:], number)
+        inner = self.lift(formula[at], part_sort(formula, sort, at), path[1:], number)
         return self.lift1(formula, sort, at, inner)
 
-    def used(self, last):
+    def used(self, last: int) -> list[Proposed]:
         """The steps that the last one needs, renumbered from `first`."""
         need, work = set(), [last]
         while work:
             number = work.pop()
-            if number < self.first or number in need:
-                continue
-            need.add(number)
-            work += self.steps[number - self.first][2]
+            if number >= self.first and number not in need:
+                need.add(number)
+                work += self.steps[number - self.first][2]
         order = sorted(need)
         place = {number: self.first + at for at, number in enumerate(order)}
         found = []
         for number in order:
             _, rule, premises, arguments, judgement = self.steps[number - self.first]
-            found.append((place[number], rule, tuple(place.get(it, it) for it in premises), arguments,
-                          judgement))
+            cited = tuple(place.get(it, it) for it in premises)
+            found.append((place[number], rule, cited, arguments, judgement))
         return found
 
+
+# For modules that look for these names here.
+from domlogic.reading.nameless import is_pure, modified
+from domlogic.search.formulas import (DEFAULTS, EMPTY, FALSE, LITERALS, NONE, PLACES, TRUE,
+                                      conjuncts)
+from domlogic.search.formulas import conjunction as conj
+from domlogic.search.formulas import disjunction as disj
+from domlogic.search.formulas import part_at as get_at
+from domlogic.search.formulas import with_facts as mk
+from domlogic.search.formulas import with_part as put
+from domlogic.search.formulas import with_part_at as put_at
+from domlogic.search.printing import (command_text, condition_text, formula_text, judgement_text,
+                                      step_text, term_text, theory_text)
+from domlogic.search.refusals import Fails
