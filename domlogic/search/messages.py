@@ -3,7 +3,8 @@ of the search."""
 from typing import Iterable, NamedTuple
 
 from domlogic.reading.sorts import walk
-from domlogic.search.book import Book, Fails, command_text, condition_text, formula_text
+from domlogic.search.book import Book, Fails
+from domlogic.search.printing import command_text, condition_text, formula_text
 from domlogic.search.shapes import Shapes
 
 

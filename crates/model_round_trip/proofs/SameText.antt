@@ -6,7 +6,8 @@ use Rattle.model_commands.specs.Theories.{StepOf, ProcedureOf, Theory}
 use Rattle.model_text.specs.Lexemes.{Lexeme}
 use Rattle.model_text.specs.Tokens.{newline}
 use Rattle.model_grammar.specs.Words.{the, ◌⌢◌}
-use Rattle.model_grammar.specs.Writing.{text_of, text_of_lines, number_lexemes, logic_line, step_line, procedure_lines, procedures_lines, theory_lines, theory_text}
+use Rattle.model_grammar.specs.Writing.{text_of}
+use Rattle.model_grammar.specs.TheoryWriting.{text_of_lines, number_lexemes, logic_line, step_line, procedure_lines, procedures_lines, theory_lines, theory_text}
 use Rattle.model_round_trip.specs.ReadBack.{step_without_line, procedure_without_lines, without_lines}
 use Rattle.model_round_trip.proofs.Parts.{header_lines}
 

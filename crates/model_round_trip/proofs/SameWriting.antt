@@ -10,7 +10,8 @@ use Rattle.model_commands.specs.Theories.{JudgementOf, entails, triple, Reason, 
 use Rattle.model_text.specs.Lexemes.{Lexeme, name_lexeme, step_word}
 use Rattle.model_grammar.specs.Words.{the, ◌⌢◌}
 use Rattle.model_grammar.specs.Sorts.{Declared, sorted_name, sorted_var, sorted_term, sorted_formula, sorted_cond, sorted_command, sorted_block, sorted_reason, sorted_judgement, sorted_step, declared_in, sorted_procedure, with_sorts}
-use Rattle.model_grammar.specs.Writing.{name_lexemes, var_lexemes, term_lexemes, braced, bracketed, quantified, star_sign, at_sign, into_sign, formula_lexemes, cond_lexemes, value_sort_lexemes, in_brackets, command_lexemes, block_lexemes, further_commands, argument_lexemes, reason_lexemes, word_lexemes, judgement_lexemes, sort_lexemes, data_sort_lexemes, step_line, procedure_lines, procedures_lines, declaration_lexemes, theory_lines, number_lexemes, logic_line}
+use Rattle.model_grammar.specs.Writing.{name_lexemes, var_lexemes, term_lexemes, braced, bracketed, cond_lexemes, value_sort_lexemes, in_brackets, command_lexemes, block_lexemes, further_commands}
+use Rattle.model_grammar.specs.TheoryWriting.{quantified, star_sign, at_sign, into_sign, formula_lexemes, argument_lexemes, reason_lexemes, word_lexemes, judgement_lexemes, sort_lexemes, data_sort_lexemes, step_line, procedure_lines, procedures_lines, declaration_lexemes, theory_lines, number_lexemes, logic_line}
 use Rattle.model_round_trip.proofs.Resorted.{map_twice, procedure_with}
 
 abbrev left_set : List Lexeme → List Lexeme → List Lexeme

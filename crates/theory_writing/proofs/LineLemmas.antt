@@ -6,7 +6,8 @@ use Rattle.model_commands.specs.Theories as theories
 use Rattle.model_text.specs.Tokens.{newline}
 use Rattle.model_text.specs.Lexemes.{Lexeme, terminal, step_word, name_lexeme, word_lexeme, is_reserved}
 use Rattle.model_grammar.specs.Words.{the, ◌⌢◌}
-use Rattle.model_grammar.specs.Writing.{printed, spaced, text_of, text_of_lines, in_brackets, term_lexemes, number_lexemes, argument_lexemes, reason_lexemes, procedure_lines, procedures_lines, step_line, logic_line, theory_text}
+use Rattle.model_grammar.specs.Writing.{printed, spaced, text_of, in_brackets, term_lexemes}
+use Rattle.model_grammar.specs.TheoryWriting.{text_of_lines, number_lexemes, argument_lexemes, reason_lexemes, procedure_lines, procedures_lines, step_line, logic_line, theory_text}
 use Rattle.model_grammar.proofs.Spaced.{spaced_rules}
 use Rattle.model_grammar.proofs.VersionTexts.{procedures_same}
 use Rattle.logic_text.proofs.ListLemmas.{drop_item}

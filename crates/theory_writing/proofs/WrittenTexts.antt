@@ -6,7 +6,9 @@ use Rattle.model_commands.specs.Theories.{Theory}
 use Rattle.model_text.specs.Versions.{seen_in, IsOfVersion}
 use Rattle.model_text.specs.Nesting.{lexemes_of}
 use Rattle.model_grammar.specs.Sorts.{Declared, sorted_command, with_sorts}
-use Rattle.model_grammar.specs.Writing.{spaced, text_of, command_lexemes, theory_lines, theory_text, Each, IsWritableCommand}
+use Rattle.model_grammar.specs.Writing.{spaced, text_of, command_lexemes}
+use Rattle.model_grammar.specs.TheoryWriting.{theory_lines, theory_text}
+use Rattle.model_grammar.specs.Writable.{Each, IsWritableCommand}
 use Rattle.model_round_trip.specs.Writable.{IsWritableTheory}
 use Rattle.model_round_trip.specs.ReadBack.{SpellsCommandAt, ReadsAs}
 use Rattle.model_round_trip.proofs.Laws.{command_at, command_reads, theory_reads}

@@ -6,7 +6,8 @@ use Rattle.model_text.specs.Lexemes.{Lexeme, terminal, name_lexeme}
 use Rattle.model_formulas.specs.Formulas.{Named}
 use Rattle.model_commands.specs.Theories.{ProcedureOf}
 use Rattle.model_grammar.specs.Words.{the, ◌⌢◌}
-use Rattle.model_grammar.specs.Writing.{text_of, in_brackets, declaration_lexemes, data_sort_lexemes}
+use Rattle.model_grammar.specs.Writing.{text_of, in_brackets}
+use Rattle.model_grammar.specs.TheoryWriting.{declaration_lexemes, data_sort_lexemes}
 
 -- each part behind a mark, from the second on behind another
 abbrev pub marked : List ℕ → List ℕ → List (List Lexeme) → List Lexeme

@@ -3,15 +3,15 @@ ghost use Rattle.std.specs.Prelude.{◌≡◌, [], ◌∷◌, ◌++◌, codes, m
 ghost use Rattle.model_text.specs.Lexemes.{terminal};
 ghost use Rattle.model_text.specs.Tokens.{newline};
 ghost use Rattle.model_grammar.specs.Words.{the, ◌⌢◌};
-ghost use Rattle.model_grammar.specs.Writing.{spaced, text_of, in_brackets, data_sort_lexemes};
-ghost use Rattle.model_grammar.specs.Writing.{sort_lexemes, declaration_lexemes, reason_lexemes};
-ghost use Rattle.model_grammar.specs.Writing.{argument_lexemes, judgement_lexemes, logic_line};
-ghost use Rattle.model_grammar.specs.Writing.{step_line, text_of_lines};
+ghost use Rattle.model_grammar.specs.Writing.{spaced, text_of, in_brackets, command_lexemes};
+ghost use Rattle.model_grammar.specs.TheoryWriting.{data_sort_lexemes, sort_lexemes};
+ghost use Rattle.model_grammar.specs.TheoryWriting.{declaration_lexemes, reason_lexemes};
+ghost use Rattle.model_grammar.specs.TheoryWriting.{argument_lexemes, judgement_lexemes};
+ghost use Rattle.model_grammar.specs.TheoryWriting.{logic_line, step_line, text_of_lines};
 ghost use Rattle.dom_terms.specs.Sorts.{data_sort_of, sort_of};
 ghost use Rattle.dom_terms.specs.Terms.{prog_var_of, logic_var_of, term_of};
 ghost use Rattle.model_commands.specs.Theories.{entails};
-ghost use Rattle.model_grammar.specs.Writing.{formula_lexemes, command_lexemes, procedure_lines};
-ghost use Rattle.model_grammar.specs.Writing.{theory_text};
+ghost use Rattle.model_grammar.specs.TheoryWriting.{formula_lexemes, procedure_lines, theory_text};
 ghost use Rattle.model_grammar.specs.Sorts.{with_sorts};
 ghost use Rattle.model_round_trip.specs.Writable.{IsWritableTheory};
 ghost use Rattle.model_round_trip.specs.ReadBack.{ReadsAs};
@@ -66,7 +66,7 @@ fn push_sort(alloc: Global, text: &mut Text, sort: Sort) -> Result<(), OutOfMemo
 struct NumberWriter;
 
 impl Writer<u32> for NumberWriter {
-    ghost use Rattle.model_grammar.specs.Writing.{number_lexemes};
+    ghost use Rattle.model_grammar.specs.TheoryWriting.{number_lexemes};
 
     ghost lexemes = { number_lexemes };
 

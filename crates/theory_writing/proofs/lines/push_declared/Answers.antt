@@ -1,5 +1,5 @@
 use Rattle.std.proofs.Common.{refl}
-use Rattle.model_grammar.specs.Writing.{declaration_lexemes}
+use Rattle.model_grammar.specs.TheoryWriting.{declaration_lexemes}
 use Rattle.dom_terms.specs.Terms.{prog_var_of}
 use Rattle.theory_writing.proofs.MarkLemmas.{fused}
 use Rattle.theory_writing.proofs.lines.push_declared.Goals as goal

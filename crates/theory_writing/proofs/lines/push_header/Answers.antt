@@ -1,5 +1,6 @@
 use Rattle.std.proofs.Common.{map}
-use Rattle.model_grammar.specs.Writing.{in_brackets, declaration_lexemes, data_sort_lexemes}
+use Rattle.model_grammar.specs.Writing.{in_brackets}
+use Rattle.model_grammar.specs.TheoryWriting.{declaration_lexemes, data_sort_lexemes}
 use Rattle.dom_terms.specs.Sorts.{data_sort_of}
 use Rattle.dom_terms.specs.Terms.{prog_var_of}
 use Rattle.theory_writing.proofs.LineLemmas.{header_text}

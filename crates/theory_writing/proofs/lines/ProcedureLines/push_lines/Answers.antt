@@ -1,6 +1,7 @@
 use Rattle.std.proofs.Common.{◌∷◌, codes}
 use Rattle.model_text.specs.Lexemes.{terminal}
-use Rattle.model_grammar.specs.Writing.{formula_lexemes, command_lexemes}
+use Rattle.model_grammar.specs.Writing.{command_lexemes}
+use Rattle.model_grammar.specs.TheoryWriting.{formula_lexemes}
 use Rattle.theory_syntax.specs.Theories.{procedure_of}
 use Rattle.theory_writing.specs.Marked.{header_line}
 use Rattle.theory_writing.proofs.LineLemmas.{procedure_text}
