@@ -46,11 +46,15 @@ class Place:
 
 def explained(source: Source, line: str) -> list[str]:
     """What to say of `bad file: procedure P, step S: KIND`."""
+    span, sentence = first_fault(source, line)
+    return [*source.view(*span), *wrapped(sentence)]
+
+
+def first_fault(source: Source, line: str) -> Placed:
+    """What is at fault at the place of the line."""
     procedure, step, kind = re.fullmatch(r"bad file: procedure (\d+), step (\d+): (\w+)", line).groups()
     source.take_theory()
-    place = Place(source, int(procedure), int(step))
-    span, sentence = next(FINDERS[kind](place))
-    return [*source.view(*span), *wrapped(sentence)]
+    return next(FINDERS[kind](Place(source, int(procedure), int(step))))
 
 
 def version(place: Place) -> Iterator[Placed]:
