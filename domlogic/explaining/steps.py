@@ -2,7 +2,7 @@
 import re
 from typing import Iterator
 
-from domlogic.explaining import computed, rows, sides
+from domlogic.explaining import computed, mending, rows, sides
 from domlogic.explaining.case import Case, wanted_lines, wanted_text
 from domlogic.explaining.comparing import (BOUND_FREE, BOUND_SORT, KIND, LEFT, SORT, TERM_SORT, Comparison, Miss,
                                            State, Way)
@@ -57,6 +57,7 @@ def shape(case: Case) -> Iterator[str]:
         yield from computed.shape(case)
     else:
         yield from argument_trouble(case) or form_trouble(case)
+    yield from mending.by_other_rules(case)
 
 
 def argument_trouble(case: Case) -> list[str]:
@@ -200,6 +201,7 @@ def citation_trouble(case: Case) -> Iterator[str]:
         case.at, f"those before it are steps 1 to {case.at}")
     yield from wrapped(f"Step {case.step.premises[count - 1]} isn't an earlier step of this proof than step "
                        f"{case.step.number}: {earlier}.")
+    yield from mending.by_other_citations(case, count)
 
 
 def farthest_way(case: Case, ways: list[Way]) -> tuple[Way, Miss]:
@@ -225,6 +227,7 @@ def premise_trouble(case: Case, ways: list[Way]) -> Iterator[str]:
     number = case.step.premises[miss.judgement - 1]
     yield from labelled("cited", f"for it is step {number}; the first part that differs:")
     yield from differing(case, way, miss)
+    yield from mending.by_other_citations(case, miss.judgement)
 
 
 def differing(case: Case, way: Way, miss: Miss) -> Iterator[str]:
