@@ -34,7 +34,8 @@ def other_rules(case: Case) -> Iterator[str]:
 def by_other_rules(case: Case) -> list[str]:
     """A sentence on them, where there are any."""
     found = list(itertools.islice(other_rules(case), 4))
-    return wrapped(f"By {listed([code(it) for it in found], 'or')} it is an instance.") if found else []
+    return wrapped(
+        f"By {listed([code(it) for it in found], 'or')} it is an instance.") if found else []
 
 
 def other_citations(case: Case, count: int) -> Iterator[tuple[int, ...]]:

@@ -40,7 +40,8 @@ MOST_LINES, MOST_COLUMNS = 24, 112
 PLACE = re.compile(r"line (\d+), column (\d+):")
 # Tokens of each kind, to be put where one can't stand.
 UNIVERSE = [*(Token("symbol", it, 0, 0) for it in sorted(SYMBOLS | {"0f", "0g"})),
-            *(Token("word", it, 0, 0) for it in sorted({*RESERVED_IN_2, *VALUE_SORTS, *SHAPE_SORTS, "any"})),
+            *(Token("word", it, 0, 0)
+              for it in sorted({*RESERVED_IN_2, *VALUE_SORTS, *SHAPE_SORTS, "any"})),
             *(Token("number", it, 0, 0) for it in ("0", "1", "4294967295", "4294967296")),
             Token("logic", "$any", 0, 0), Token("literal", "any", 0, 0)]
 PARTS = ("true", "0", '"a"', "null", "nolist", "yes", "skip", "0 = 0")
@@ -76,13 +77,18 @@ def promised(refusal: Refusal) -> list[str]:
     if status == 1 and not line.endswith("no proof"):
         return promised_of_step(line)
     of_status = {
-        1: [r"^What differs: (requires|body|ensures|sort)|no steps|is an entailment", PLACE.pattern],
-        2: ["check FILE"], 3: [PLACE.pattern, r"\^", "What can (stand here|follow):", "^    "], 4: [PLACE.pattern, r"\^"],
-        8: [r"\d"], 9: [PLACE.pattern, "prove FILE", "^open +`"], 11: ["could not be read: "],
+        1: [r"^What differs: (requires|body|ensures|sort)|no steps|is an entailment",
+            PLACE.pattern],
+        2: ["check FILE"], 3: [PLACE.pattern, r"\^", "What can (stand here|follow):", "^    "],
+        4: [PLACE.pattern, r"\^"],
+        8: [r"\d"], 9: [PLACE.pattern, "prove FILE", "^open +'"], 11: ["could not be read: "],
         12: ["could not be written"]}
-    of_limits = {"file": "4,194,304", "nesting": "100 ", "text": "4,096", "variables": "64", "steps": "65,535"}
-    of_faults = {"sort": r"\bsort\b|and the call has", "version": "1 or 2", "twice": "a second time|is there already",
-                 "unknown": "no line `logic|is no parameter|no procedure", "constant": "is a parameter",
+    of_limits = {"file": "4,194,304", "nesting": "100 ", "text": "4,096", "variables": "64",
+                 "steps": "65,535"}
+    of_faults = {"sort": r"\bsort\b|and the call has", "version": "1 or 2",
+                 "twice": "a second time|is there already",
+                 "unknown": "no line 'logic|is no parameter|no procedure",
+                 "constant": "is a parameter",
                  "results": "result of this call", "scope": "is a (result|local)", "rule": "rule",
                  "number": "its number is"}
     found = of_status[status]
@@ -95,11 +101,15 @@ def promised_of_step(line: str) -> list[str]:
     rule, verdict = re.search(r"line \d+: (\w+): (.*)", line).groups()
     found = [PLACE.pattern, r"\^", rf"^rule +{rule}: "]
     if verdict == "shape":
-        return found + [r"^wanted +`|is a rule for|takes|has to be|is for|at sort|judgements at|sort|stands here|behind|is wanted"]
+        return found + [r"^wanted +'|is a rule for|takes|has to be|is for|at sort|judgements "
+                        r"at|sort|stands here|behind|is wanted"]
     if verdict == "premises":
-        return found + [r"^wanted +`|and the step cites|isn't an earlier step|is wanted\.|stands here|sort"]
-    named = {"free": "stands", "assigned": "stands in", "modified": "The command changes `", "pure": "speaks of the data",
-             "literal": "literal", "texts": "differ at piece", "sum": "the sum is `", "coefficient": "is the number of"}
+        return found + [r"^wanted +'|and the step cites|isn't an earlier step|is wanted\.|stands "
+                        r"here|sort"]
+    named = {"free": "stands", "assigned": "stands in", "modified": "The command changes '",
+             "pure": "speaks of the data",
+             "literal": "literal", "texts": "differ at piece", "sum": "the sum is '",
+             "coefficient": "is the number of"}
     return found + [named[verdict.split()[-1]]]
 
 
@@ -121,7 +131,7 @@ def complaints(refusal: Refusal, told: list[str]) -> Iterator[str]:
 def misplaced(refusal: Refusal, told: list[str]) -> Iterator[str]:
     """Places that aren't those of the part that is said to be written there."""
     places = [found for it in told if (found := PLACE.fullmatch(it))]
-    written = [it[9:].strip("`") for it in told if it.startswith("written")]
+    written = [it[9:].strip("'") for it in told if it.startswith("written")]
     if len(places) != 1 or not written:
         return
     lines = refusal.content.decode(errors="replace").split("\n")
@@ -173,12 +183,14 @@ def difference(case: Case) -> Miss | None:
     """The first part that differs, of a step by a rule that is a line of letters."""
     verdict = own_verdict(case)
     is_of_kind = judges_triples(case.step.rule) == (case.judgement[0] == "triple")
-    if verdict == "shape" and case.step.rule in ROWS and is_of_kind and not steps.argument_trouble(case):
+    if verdict == "shape" and case.step.rule in ROWS and is_of_kind and not steps.argument_trouble(
+        case):
         tried = list(steps.conclusions(case))
         return None if any(it[2] for it in tried) else steps.farthest_rows(tried)[0][1]
     if verdict == "premises" and case.cited is not None:
         ways = list(steps.readings(case))
-        return steps.farthest_way(case, ways)[1] if len(ways[0].premises) == len(case.cited) else None
+        return steps.farthest_way(case,
+                                  ways)[1] if len(ways[0].premises) == len(case.cited) else None
     return None
 
 
@@ -191,8 +203,10 @@ def not_mended(refusal: Refusal) -> Iterator[str]:
     wanted = wanted_text(case, miss)
     begin, end = case.source.span(case.original(miss.judgement, miss.path))
     text = case.source.text
-    changed = text[: case.source.starts[begin]] + f" {wanted} " + text[case.source.tokens[end - 1].end :]
+    changed = text[: case.source.starts[begin]] + f" {wanted} " + text[
+        case.source.tokens[end - 1].end :]
     again = case_of(changed.encode(), refusal.line)
+    assert again.step.rule == case.step.rule
     verdict, other = own_verdict(again), difference(again)
     if other is not None and (other.rank, other.path) == (miss.rank, miss.path):
         yield f"with {wanted} in place the step differs at the same place: {verdict}"
@@ -208,7 +222,9 @@ def is_exact(case: Case, miss: Miss) -> bool:
 def not_at_fault(refusal: Refusal) -> Iterator[str]:
     """A part of a wrong sort that isn't the one at fault: none in its place moves the fault on."""
     source = Source(refusal.content)
-    span, _ = file_faults.first_fault(source, refusal.line)
+    span, sentence = file_faults.first_fault(source, refusal.line)
+    if "gives a value of sort" in sentence:  # a variable of this sort may not be there
+        return
     text = source.text
     first, last = source.starts[span[0]], source.tokens[span[1] - 1].end
     variables = {name for it in source.theory.procedures for name, _ in declared_by(it)}
@@ -238,7 +254,8 @@ def independent(refusal: Refusal) -> Iterator[str]:
 
 
 def main() -> int:
-    parser = argparse.ArgumentParser(description=__doc__, formatter_class=argparse.RawDescriptionHelpFormatter)
+    parser = argparse.ArgumentParser(description=__doc__,
+                                     formatter_class=argparse.RawDescriptionHelpFormatter)
     parser.add_argument("--only", default="")
     parser.add_argument("--every", type=int, default=20)
     parser.add_argument("--show", action="store_true")
@@ -254,8 +271,9 @@ def main() -> int:
             found += independent(refusal)
         passed, failed = passed + (not found), failed + bool(found)
         if options.show or found:
-            print("\n".join([f"{refusal.place[:160]}\n{refusal.line}", *told, *(f"  !! {it}" for it in found), ""]))
-    print(f"{passed} passed, {failed} failed")
+            print("\n".join([f"{refusal.place[:160]}\n{refusal.line}", *told,
+                             *(f"  !! {it}" for it in found), ""]))
+    print(f"{passed} passed, {failed} failed", flush=True)
     return 1 if failed else 0
 
 
