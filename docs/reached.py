@@ -20,6 +20,7 @@ USE = re.compile(r"(?m)^[ \t]*((?:abbrev )?pub )?(?:ghost )?use Rattle\.([\w.]+)
                  r"(?:\.\{([^}]*)\}| as ([^\s;]+))?;?[ \t]*$")
 HEAD = re.compile(r"^(?!--|use |pub use |abbrev pub use |mod |pub mod |module )"
                   r"(?:(?:abbrev |unfoldable |pub |data |record )*)([^\s:(){}]+)\s*(?::|\(|\{)")
+BLOCK = r"module |(abbrev )?mutual$"
 MARK = "-- Needn't be believed: "
 PROMISE = [("domcheck_core", "domcheck"), ("outside_io", "fetch"), ("outside_io", "put")]
 
@@ -75,21 +76,24 @@ class File:
     def __init__(self, path):
         self.path, self.text, self.items, self.by_name = path, read(path), [], {}
         self.names, self.modules, self.passed = imports_of(self.text)
-        comments, item, module = [], None, ""
+        comments, item, blocks = [], None, []
         for line in self.text.split("\n"):
-            if line and not line[0].isspace():
-                module = line if re.match(r"module |(abbrev )?mutual$", line) else ""
-            line = line[2:] if module and line.startswith("  ") else line
+            # a module or a mutual block holds the lines that are two columns further in
+            while line and blocks and not line.startswith("  " * len(blocks)):
+                blocks.pop()
+            line = line[2 * len(blocks):]
+            if re.match(BLOCK, line):
+                blocks.append(line)
             head = HEAD.match(line)
             if line.startswith("--"):
                 comments.append(line)
             elif not line.strip():
                 comments = []
-            elif re.match(r"((abbrev )?pub )?use |(pub )?mod |module |(abbrev )?mutual$", line):
+            elif re.match(r"((abbrev )?pub )?use |(pub )?mod |" + BLOCK, line):
                 comments, item = [], None
             elif head and (not item or re.match(r"abbrev |unfoldable |pub |data |record ", line)
                            or re.match(r"[^\s:(){}]+ : ", line)):
-                item = Item(head.group(1), module)
+                item = Item(head.group(1), "\n".join(blocks))
                 self.items.append(item)
                 item.comments, comments = comments, []
                 item.lines.append(line)

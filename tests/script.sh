@@ -10,7 +10,8 @@ copy=$room/copy
 source_file=$copy/crates/text_tokens/src/words.rt
 passed=0 failed=0
 
-mkdir -p "$room/bin" "$copy/crates/domcheck_cli/data" "$copy/crates/text_tokens/src" "$copy/crates/laws/src"
+mkdir -p "$room/bin" "$copy/domlogic" "$copy/crates/domcheck_cli/data" "$copy/crates/text_tokens/src" \
+  "$copy/crates/laws/src"
 cp "$top/domcheck" "$top/domcheck-unproved" "$copy"
 # The program stands on two of these crates beside its own.
 cat >"$copy/crates.txt" <<'END'
@@ -28,6 +29,13 @@ cat >"$room/program" <<'END'
 #!/usr/bin/env bash
 echo "asked $*"
 exit "${ENDS:-0}"
+END
+# The package: says what it is given, and ends with the status $ENDS.
+cat >"$copy/domlogic/__main__.py" <<'END'
+import os
+import sys
+print("answered", *(os.path.basename(it) for it in sys.argv[1:]))
+sys.exit(int(os.environ["ENDS"]))
 END
 # rt: as $BUILD says, all is proved; a proof is open; the sources don't compile; or the program isn't linked. Under
 # try it names what it is given, and ends as the program does, or in no answer.
@@ -91,6 +99,8 @@ change one
 BUILD=open case_of "a changed source, and an open proof" 70 '' 'the program of the last build still stands' check a
 cp "$top/crates/text_tokens/src/words.rt" "$source_file"
 BUILD=open case_of "the change is taken back" 0 'asked check a' '' check a
+change of_prove
+case_of "a changed source, and prove" 0 'answered --program domcheck prove a' 'built, after' prove a
 change two
 case_of "a changed source" 0 'asked check a' 'built, after' check a
 sleep 0.01
@@ -106,6 +116,17 @@ BUILD=open case_of "the program that the gate built" 0 'asked check a' '' check 
 for ends in 1 2 3 5 6 7 8 9; do
   ENDS=$ends case_of "status $ends" "$ends" 'asked check a' '' check a
 done
+of_package='answered --program domcheck'
+for word in prove explain; do
+  ENDS=9 case_of "$word, status 9" 9 "$of_package $word a b" '' "$word" 'a b'
+  ENDS=11 case_of "$word, no file" 11 "$of_package $word a" 'could not read a: there is no such file' "$word" a
+done
+case_of "show" 0 "$of_package show a p" '' show a p
+ENDS=2 case_of "prove, bad words" 2 "$of_package prove" '' prove
+mkdir "$room/bare" && for tool in bash cat awk sort find readlink dirname grep; do
+  ln -s "$(command -v "$tool")" "$room/bare"
+done
+PATH=$room/bare case_of "prove without python3" 70 '' 'python3 is not on PATH' prove a
 ENDS=10 case_of "no memory" 10 'asked check a' 'out of memory' check a
 ENDS=11 case_of "no file" 11 'asked check a' 'could not read a: there is no such file' check a
 ENDS=11 case_of "a folder" 11 "asked check $room" "could not read $room: it is a folder" check "$room"

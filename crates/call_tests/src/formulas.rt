@@ -1,5 +1,5 @@
 // Formulas: sorts, free variables, sameness and substitution.
-ghost use Rattle.std.specs.Prelude.{◌≡◌, ◌<◌, [], ◌∷◌, map, codes, IfOk};
+ghost use Rattle.std.specs.Prelude.{◌≡◌, ◌<◌, [], ◌∷◌, map, true, IfOk};
 ghost use Rattle.model_shapes.specs.Sorts.{value, int_sort};
 ghost use Rattle.model_terms.specs.Variables as model;
 ghost use Rattle.model_terms.specs.Terms.{variable};
@@ -7,6 +7,7 @@ ghost use Rattle.model_formulas.specs.Formulas.{conjunction, existential, negati
 ghost use Rattle.model_formulas.specs.Parts.{parts};
 ghost use Rattle.dom_terms.specs.Terms.{logic_var_of, term_of};
 ghost use Rattle.formula_syntax.specs.Formulas.{formula_of, pair_of};
+ghost use Rattle.formula_syntax.specs.Substitution.{names_no_value};
 
 use dom_terms::{DataSort, LogicVar, OutOfMemory, ProgVar, Sort, Term, Text, ValueSort, with};
 use formula_syntax::{
@@ -99,15 +100,15 @@ fn bound_names_do_not_matter(rt: HostRuntime) -> Result<(), Fail> {
     Ok(())
 }
 
-// the pair of `$n` and `$m`, of integers
-fn turned(alloc: Global) -> Result<[Pair; 1], OutOfMemory>
+// the pair of two variables, of integers
+fn turned(alloc: Global, from: &str, to: &str) -> Result<[Pair; 1], OutOfMemory>
     ensures { IfOk result (λ pairs. map pair_of pairs
         ≡ (
-          model.logic (codes "$n") (value int_sort),
-          variable (model.logic (codes "$m") (value int_sort)),
+          model.logic from.now (value int_sort),
+          variable (model.logic to.now (value int_sort)),
         ) ∷ []) }
 {
-    let (var, term) = with(logic(alloc, "$n")?, logic(alloc, "$m"))?;
+    let (var, term) = with(logic(alloc, from)?, logic(alloc, to))?;
     let (var, term) = (AnyVar::Logic(var), Term::Logic(term));
     Ok([Pair { var, term }])
 }
@@ -117,7 +118,7 @@ fn is_put(alloc: Global, to: Formula) -> Result<bool, OutOfMemory>
     requires { parts (formula_of to) < 4294967295 }
 {
     let formulas = with(to, apart(alloc, "$m", "$n", "$m"))?;
-    let (formulas, pairs) = with(formulas, turned(alloc))?;
+    let (formulas, pairs) = with(formulas, turned(alloc, "$n", "$m"))?;
     let answer = is_substitution(alloc, &formulas.1, &pairs, &formulas.0);
     drop((formulas, pairs));
     answer
@@ -125,9 +126,20 @@ fn is_put(alloc: Global, to: Formula) -> Result<bool, OutOfMemory>
 
 // `(exists $m . (not $n = $m))` with `$m` for `$n`
 fn put(alloc: Global) -> Result<Formula, OutOfMemory>
+    ensures names { IfOk result (λ to. names_no_value (formula_of to) ≡ true) }
+    ensures size { IfOk result (λ to. parts (formula_of to) < 4294967295) }
+{
+    let (from, pairs) = with(apart(alloc, "$m", "$n", "$m")?, turned(alloc, "$n", "$m"))?;
+    let answer = substitute(alloc, &from, &pairs);
+    drop((from, pairs));
+    answer
+}
+
+// the same with `$n` for `$m`
+fn put_back(alloc: Global) -> Result<Formula, OutOfMemory>
     ensures { IfOk result (λ to. parts (formula_of to) < 4294967295) }
 {
-    let (from, pairs) = with(apart(alloc, "$m", "$n", "$m")?, turned(alloc))?;
+    let (from, pairs) = with(put(alloc)?, turned(alloc, "$m", "$n"))?;
     let answer = substitute(alloc, &from, &pairs);
     drop((from, pairs));
     answer
@@ -141,6 +153,14 @@ fn nothing_is_captured(rt: HostRuntime) -> Result<(), Fail> {
     let captured = apart(alloc, "$m", "$m", "$m")?;
     assert_eq!(rt; is_put(alloc, captured)?, false);
     let answers = with(put(alloc)?, apart(alloc, "$k", "$m", "$k"))?;
+    assert_eq!(rt; are_same(alloc, answers)?, true);
+    Ok(())
+}
+
+#[test]
+fn what_was_put_is_put_back(rt: HostRuntime) -> Result<(), Fail> {
+    let alloc = rt.alloc();
+    let answers = with(put_back(alloc)?, apart(alloc, "$m", "$n", "$m"))?;
     assert_eq!(rt; are_same(alloc, answers)?, true);
     Ok(())
 }

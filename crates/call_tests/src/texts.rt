@@ -2,10 +2,11 @@
 use dom_terms::{DataSort, LogicVar, OutOfMemory, Sort, Text};
 use formula_syntax::{AnyVar, Formula};
 use logic_text::{read_formula, write_formula};
-use proof_text::{read_theory, write_theory};
+use proof_text::read_theory;
 use std::alloc::Global;
 use std::test::Fail;
 use text_tokens::token_list;
+use theory_writing::write_theory;
 
 // A logic variable for a tree.
 fn tree(alloc: Global) -> Result<LogicVar, OutOfMemory> {

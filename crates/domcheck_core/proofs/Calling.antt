@@ -6,8 +6,8 @@ use Rattle.std.proofs.lemmas.List.Folds.{find_at}
 use Rattle.std.proofs.lemmas.Bool.{ltb-true, ltb-false}
 use Rattle.model_shapes.specs.Values.{Value}
 use Rattle.model_formulas.specs.Formulas.{Named}
-use Rattle.model_commands.specs.Theories.{ProcedureOf}
-use Rattle.model_answers.specs.Arguments.{arguments_of, procedure_called, with_arguments}
+use Rattle.model_commands.specs.Theories.{ProcedureOf, procedure_named}
+use Rattle.model_answers.specs.Arguments.{arguments_of, with_arguments}
 use Rattle.theory_syntax.specs.declared.theories.Procedure.{Procedure}
 use Rattle.theory_syntax.specs.Theories.{procedure_of}
 use Rattle.domcheck_core.specs.Calls.{IsPlaceOf}
@@ -17,15 +17,15 @@ module _ (name : List ℕ) where
   has_name x = bytes_eq name x.name
 
   -- found among what procedures stand for
-  seen : (xs : List Procedure) → procedure_called name (map procedure_of xs) ≡ option_map
+  seen : (xs : List Procedure) → procedure_named name (map procedure_of xs) ≡ option_map
       procedure_of (find has_name xs)
   seen [] = refl
   seen (x ∷ xs) = first_seen (bytes_eq name x.name) (seen xs)
     where
-      first_seen : (b : Bool) → procedure_called name (map procedure_of xs) ≡ option_map
+      first_seen : (b : Bool) → procedure_named name (map procedure_of xs) ≡ option_map
           procedure_of (find has_name xs)
           → cond b (Some (procedure_of x))
-          (procedure_called name (map procedure_of xs)) ≡ option_map procedure_of
+          (procedure_named name (map procedure_of xs)) ≡ option_map procedure_of
           (cond b (Some x) (find has_name xs))
       first_seen true h = refl
       first_seen false h = h
@@ -38,7 +38,7 @@ module _ (name : List ℕ) where
 
   -- no place, nothing found
   pub uncalled : (xs : List Procedure) → position has_name xs ≡ None
-      → procedure_called name (map procedure_of xs) ≡ None
+      → procedure_named name (map procedure_of xs) ≡ None
   uncalled xs e = seen xs ∙ ap (option_map procedure_of)
       (find_at has_name xs ∙ past (nat_lt (position_or_len has_name xs) (length xs)) refl e)
     where
@@ -81,7 +81,7 @@ module _ (name : List ℕ) where
 
   -- the two together
   pub by_place : (xs : List Procedure) (r : Option ℕ) → r ≡ position has_name xs
-      → MatchOption r (procedure_called name (map procedure_of xs) ≡ None) (IsPlaceOf name xs)
+      → MatchOption r (procedure_named name (map procedure_of xs) ≡ None) (IsPlaceOf name xs)
   by_place xs None e = uncalled xs (sym e)
   by_place xs (Some k) e = placed xs k (sym e)
 
@@ -91,7 +91,7 @@ pub reads : (name : List ℕ) (xs : List Procedure) (k : ℕ) → IsPlaceOf name
     → (words : List (List ℕ)) (values : List Value) → Some values ≡ arguments_of
     (procedure_of g).params words
     → (f : Procedure) × (slice_get xs k ≡ Some f)
-    × (with_arguments (procedure_called name (map procedure_of xs)) words ≡ Some
+    × (with_arguments (procedure_named name (map procedure_of xs)) words ≡ Some
     (procedure_of f, values))
 reads name xs k p g e words values h =
     let same : Some p.0 ≡ Some g = sym p.1 ∙ sym e in

@@ -6,10 +6,10 @@ use Rattle.model_shapes.specs.Values.{Value, null, nolist, node_number, list_num
 use Rattle.model_formulas.specs.Formulas.{Named}
 use Rattle.model_terms.specs.Stores.{ProgVar, sort_of}
 use Rattle.model_machine.specs.Fitting.{ValuesFit}
-use Rattle.model_commands.specs.Theories.{ProcedureOf, Theory}
+use Rattle.model_commands.specs.Theories.{ProcedureOf, Theory, procedure_named}
 use Rattle.model_limits.specs.Limits.{standard_limits}
 use Rattle.model_answers.specs.Words.{decimal_of}
-use Rattle.model_answers.specs.Arguments.{number_sign, percent, minus, positive_of, marked, negative_of, integer_of, argument_of, value_before, arguments_of, procedure_called, with_arguments, called}
+use Rattle.model_answers.specs.Arguments.{number_sign, percent, minus, positive_of, marked, negative_of, integer_of, argument_of, value_before, arguments_of, with_arguments, called}
 
 abbrev Fits : ValueSort → Option Value → Type 0
 Fits s o = (v : Value) → o ≡ Some v → FitsValue s v
@@ -104,7 +104,7 @@ pub called_fits : (theory : Theory) (name : List ℕ) (words : List (List ℕ)) 
     (us : List Value)
     → called theory name words ≡ Some (f, us) → ValuesFit f.params us
 called_fits theory name words f us e =
-    found_fits (procedure_called name theory.procedures) e
+    found_fits (procedure_named name theory.procedures) e
   where
     found_fits : (o : Option (ProcedureOf Named)) → with_arguments o words ≡ Some (f, us)
         → ValuesFit f.params us

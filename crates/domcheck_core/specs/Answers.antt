@@ -21,8 +21,7 @@ use Rattle.model_text.specs.FaultTokens.{IsFaultToken}
 use Rattle.model_documents.specs.Grammar.{SpellsGrove}
 use Rattle.model_documents.specs.Numbers.{first_out_of_range, first_repeat}
 use Rattle.model_grammar.specs.Theories.{SpellsTheory}
-use Rattle.model_grammar.specs.Writing.{theory_text}
-use Rattle.model_generator.specs.Generated.{generated_theory}
+use Rattle.model_generator.specs.Made.{made_text}
 use Rattle.model_answers.specs.Words.{Request, check, run, make, trial}
 use Rattle.model_answers.specs.Arguments.{called}
 use Rattle.model_answers.specs.Texts.{limit_passed, theory_limit, IsFile}
@@ -205,7 +204,7 @@ pub data IsAnswer (books : Books) : Option Request → Status → List ℕ → T
       {s : Status} {output : List ℕ} → books file ≡ Some bytes
       → RunAnswer (books document) bytes procedure fuel arguments s output
       → IsAnswer books (Some (run file procedure document fuel arguments)) s output
-  made : (n : ℕ) → IsAnswer books (Some (make n)) status.Done (theory_text (generated_theory n))
+  made : (n : ℕ) → IsAnswer books (Some (make n)) status.Done (made_text n)
   tried : (n : ℕ)
       → IsAnswer books (Some (trial n)) status.Done (line (accepted_text n (8 * n)))
 

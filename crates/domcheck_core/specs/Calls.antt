@@ -16,9 +16,10 @@ use Rattle.heap_runner.specs.declared.outcomes.HeapOutcome.{HeapOutcome}
 use Rattle.heap_runner.specs.declared.outcomes.HeapOutcome.TheVariants as h
 use Rattle.theory_syntax.specs.declared.theories.Procedure.{Procedure}
 use Rattle.theory_syntax.specs.declared.theories.Theory.{Theory}
+use Rattle.model_commands.specs.Theories.{procedure_named}
 use Rattle.theory_syntax.specs.Theories.{procedure_of, theory_of}
 use Rattle.dom_terms.specs.Values.{value_seen}
-use Rattle.model_answers.specs.Arguments.{called, procedure_called}
+use Rattle.model_answers.specs.Arguments.{called}
 use Rattle.model_answers.specs.Texts.{IsFile}
 use Rattle.domcheck_core.specs.Answers.{DocumentAnswer, RunAnswer}
 use Rattle.domcheck_core.specs.declared.calls.Call.{Call}
@@ -30,7 +31,7 @@ use Rattle.domcheck_core.specs.declared.status.Status.{Status}
 abbrev pub IsPlaceOf : List ℕ → List Procedure → ℕ → Type 0
 IsPlaceOf name procedures place =
     (f : Procedure) × (slice_get procedures place ≡ Some f)
-    × (procedure_called name (map procedure_of procedures) ≡ Some (procedure_of f))
+    × (procedure_named name (map procedure_of procedures) ≡ Some (procedure_of f))
 
 -- a procedure stands at the place, and it with the values is what is called
 abbrev pub IsCallOf : Theory → List ℕ → List (List ℕ) → Call → Type 0

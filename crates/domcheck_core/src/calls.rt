@@ -1,7 +1,8 @@
 // What a run calls.
 ghost use Rattle.std.specs.Prelude.{◌≡◌, None, map, IfOk, MatchOption, bytes_eq, position};
+ghost use Rattle.model_commands.specs.Theories.{procedure_named};
 ghost use Rattle.theory_syntax.specs.Theories.{procedure_of, theory_of};
-ghost use Rattle.model_answers.specs.Arguments.{called, procedure_called};
+ghost use Rattle.model_answers.specs.Arguments.{called};
 ghost use Rattle.domcheck_core.specs.Calls.{IsPlaceOf, IsCallOf};
 
 use dom_terms::{OutOfMemory, Text, Texts, Values};
@@ -30,7 +31,7 @@ fn position_of(procedures: &[Procedure], name: &str) -> Option<usize>
 // The same, with what stands there.
 fn place_of(procedures: &[Procedure], name: &str) -> Option<usize>
     ensures { MatchOption result
-        (procedure_called name.now (map procedure_of procedures.now) ≡ None)
+        (procedure_named name.now (map procedure_of procedures.now) ≡ None)
         (λ place. IsPlaceOf name.now procedures.now place) }
 {
     position_of(procedures, name)

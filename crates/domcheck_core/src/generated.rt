@@ -1,22 +1,21 @@
 // The generated theory: printed, and tried.
 ghost use Rattle.std.specs.Prelude.{◌≡◌, ◌≤◌, ◌*◌, IfOk};
-ghost use Rattle.model_generator.specs.Generated.{generated_theory, most_makers};
-ghost use Rattle.model_grammar.specs.Writing.{theory_text};
+ghost use Rattle.model_generator.specs.Made.{most_makers, made_text};
 ghost use Rattle.model_answers.specs.Output.{line, accepted_text};
 
 use crate::checks::check_bytes;
 use crate::replies::Reply;
 use crate::status::Status;
 use dom_terms::{OutOfMemory, Text};
-use proof_text::write_theory;
+use theory_writing::write_theory;
 use std::alloc::Global;
 use work_maker::make_theory;
 
-// The text of the generated theory for so many procedures.
+// The text with so many procedures, written from the generated theory.
 fn generated_text(alloc: Global, count: u32) -> Result<Text, OutOfMemory>
     requires some { 1 ≤ count }
     requires most { count ≤ most_makers }
-    ensures { IfOk result (λ text. text ≡ theory_text (generated_theory count)) }
+    ensures { IfOk result (λ text. text ≡ made_text count) }
 {
     let theory = make_theory(alloc, count)?;
     write_theory(alloc, &theory)
@@ -27,7 +26,7 @@ pub fn print_generated(alloc: Global, count: u32) -> Result<Reply, OutOfMemory>
     requires some { 1 ≤ count }
     requires most { count ≤ most_makers }
     ensures status { IfOk result (λ r. r.status ≡ Status.Done) }
-    ensures output { IfOk result (λ r. r.output ≡ theory_text (generated_theory count)) }
+    ensures output { IfOk result (λ r. r.output ≡ made_text count) }
 {
     let output = generated_text(alloc, count)?;
     let status = Status::Done;

@@ -15,7 +15,7 @@ use dom_meaning::FaultKind;
 use dom_syntax::Command;
 use dom_terms::{LimitKind, OutOfMemory, Text, Verdict};
 use grove_data::IdKind;
-use proof_text::write_command;
+use theory_writing::write_command;
 use std::alloc::{AllocError, Global};
 
 // The text of a number that is out of range.

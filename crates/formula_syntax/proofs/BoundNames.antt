@@ -3,7 +3,8 @@ use Rattle.std.proofs.Common.{◌≡◌, ℕ, List, ◌∷◌, refl, sym, ap, �
 use Rattle.model_shapes.specs.Sorts.{ValueSort, Sort}
 use Rattle.model_terms.specs.Variables.{Var, bound, logic, prog, var_sort}
 use Rattle.model_terms.specs.Terms.{raised_var}
-use Rattle.model_formulas.specs.Nameless.{names, name_or}
+use Rattle.model_formulas.specs.Nameless.{names}
+use Rattle.model_formulas.specs.Deciding.{name_or}
 use Rattle.model_formulas.proofs.SameFormulas.{same_formula-Decides}
 use Rattle.model_shapes.proofs.Truth.{false≢true}
 use Rattle.model_terms.specs.VariableTests.{same_var-is, same_var-refl, var_eq, same_var}

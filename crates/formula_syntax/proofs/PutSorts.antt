@@ -12,7 +12,8 @@ use Rattle.model_shapes.proofs.Tests.{same_sort-is, same_sort-refl}
 use Rattle.model_terms.specs.VariableTests.{var_eq}
 use Rattle.model_terms.specs.Terms.{Term, literal, variable, sum, difference, appended, Substitution, raised, raised_var, term_with, under_binder}
 use Rattle.model_formulas.specs.Formulas.{Named, truth, falsity, conjunction, disjunction, implication, negation, existential, universal, equality, at_most, empty, bare_hole, node_formula, one_tree, one_root, concatenation, grove_sum, grove_sum_hole, application, hole_adjoint, context_adjoint, same_as, length_is, value_meets, left_sort, right_sort}
-use Rattle.model_formulas.specs.Nameless.{names, name_or, naming}
+use Rattle.model_formulas.specs.Nameless.{names, naming}
+use Rattle.model_formulas.specs.Deciding.{name_or}
 use Rattle.model_formulas.specs.WellSorted.{variable_at, is_form, flags, first_fault}
 use Rattle.dom_terms.specs.declared.terms.Term.TheVariants as t
 use Rattle.dom_terms.specs.declared.terms.Term as program

@@ -4,7 +4,8 @@ use Rattle.model_shapes.specs.Sorts.{ValueSort, Sort}
 use Rattle.model_terms.specs.Variables.{Var, bound, logic, prog}
 use Rattle.model_terms.specs.Terms.{Term, literal, variable, sum, difference, appended, raised, term_with, Substitution}
 use Rattle.model_formulas.specs.Formulas.{Named, Formula}
-use Rattle.model_formulas.specs.Substitution.{formula_with, replacing_at}
+use Rattle.model_formulas.specs.Substitution.{formula_with}
+use Rattle.model_formulas.specs.Deciding.{replacing_at}
 use Rattle.model_formulas.specs.Nameless.{names, naming, nameless, walked}
 use Rattle.model_formulas.specs.SameFormulas.{same_formula}
 use Rattle.model_shapes.proofs.Truth.{false≢true}

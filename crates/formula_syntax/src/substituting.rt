@@ -44,6 +44,7 @@ pub fn substitute(alloc: Global, from: &Formula, pairs: &[Pair]) -> Result<Formu
     ensures replaced { IfOk result (λ to.
         formula_with (replacing_each (map pair_of pairs.now)) (nameless (formula_of from.now))
         ≡ nameless (formula_of to)) }
+    ensures names { IfOk result (λ to. names_no_value (formula_of to) ≡ true) }
     ensures size { IfOk result (λ to. parts (formula_of to) ≡ parts (formula_of from.now)) }
 {
     let longest = longest_put(pairs, longest_name(from));
@@ -70,6 +71,7 @@ fn substituted(formula: &Formula, walk: &Walk) -> Result<Formula, OutOfMemory>
     requires short { own.longest_name (formula_of formula.now) ≤ own.limit walk.now.scopes.now }
     ensures replaced { IfOk result
         (λ to. walks.Replaced walk.now (formula_of formula.now) (formula_of to)) }
+    ensures names { IfOk result (λ to. names_no_value (formula_of to) ≡ true) }
     ensures size { IfOk result (λ to. parts (formula_of to) ≡ parts (formula_of formula.now)) }
 {
     match formula {
@@ -128,6 +130,7 @@ fn structural(formula: &Formula, walk: &Walk) -> Result<Formula, OutOfMemory>
     requires short { own.longest_name (formula_of formula.now) ≤ own.limit walk.now.scopes.now }
     ensures replaced { IfOk result
         (λ to. walks.Replaced walk.now (formula_of formula.now) (formula_of to)) }
+    ensures names { IfOk result (λ to. names_no_value (formula_of to) ≡ true) }
     ensures size { IfOk result (λ to. parts (formula_of to) ≡ parts (formula_of formula.now)) }
 {
     match formula {
@@ -154,6 +157,7 @@ fn boxed(formula: &Formula, walk: &Walk) -> Result<Box<Formula>, OutOfMemory>
     requires short { own.longest_name (formula_of formula.now) ≤ own.limit walk.now.scopes.now }
     ensures replaced { IfOk result
         (λ to. walks.Replaced walk.now (formula_of formula.now) (formula_of to.value)) }
+    ensures names { IfOk result (λ to. names_no_value (formula_of to.value) ≡ true) }
     ensures size { IfOk result
         (λ to. parts (formula_of to.value) ≡ parts (formula_of formula.now)) }
 {
@@ -180,6 +184,7 @@ fn quantified(
         (walked (logic_var_of variable.now ∷ own.before walk.now.scopes.now)
         (formula_of inner.now))
         ≡ walked (logic_var_of new ∷ own.after walk.now.scopes.now) (formula_of to.value)) }
+    ensures names { IfOk result (λ (_, to). names_no_value (formula_of to.value) ≡ true) }
     ensures size { IfOk result (λ (_, to).
         parts (formula_of to.value) ≡ parts (formula_of inner.now)) }
 {

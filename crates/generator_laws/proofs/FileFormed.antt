@@ -10,9 +10,10 @@ use Rattle.model_formulas.specs.Formulas.{Named}
 use Rattle.model_commands.specs.Theories.{StepOf, ProcedureOf, Theory}
 use Rattle.model_files.specs.FileFaults.{FileFault, FileKind, first_kind, fault_or, Place, header, proof_step, steps_from, procedures_from, first_fault_at, IsWellFormedTheory}
 use Rattle.model_files.proofs.Places.{none-first}
-use Rattle.model_grammar.specs.Writing.{Each}
+use Rattle.model_grammar.specs.Writable.{Each}
 use Rattle.model_round_trip.specs.ReadBack.{step_without_line, procedure_without_lines, without_lines}
-use Rattle.model_generator.specs.Generated.{some_node, some_list, proof, maker, makers, most_makers, generated_theory}
+use Rattle.model_generator.specs.Made.{most_makers}
+use Rattle.model_generator.specs.Generated.{some_node, some_list, proof, maker, makers, generated_theory}
 
 -- THE LINES of steps don't count
 module _ (theory : Theory) where

@@ -14,12 +14,12 @@ use Rattle.model_text.specs.Tokens.{word_token, token_piece, no_piece, word_leng
 use Rattle.model_text.specs.Lexemes.{name_lexeme, word_lexeme}
 use Rattle.model_text.specs.Nesting.{lexemes_of}
 use Rattle.model_text.proofs.Computing.{lexing}
-use Rattle.model_grammar.specs.Writing.{IsName}
+use Rattle.model_grammar.specs.Writable.{IsName}
 use Rattle.model_printing.specs.Printable.{without_line}
 use Rattle.model_printing.proofs.Alone.{IsToken}
 use Rattle.model_printing.proofs.Found.{only_token, lines_kept}
 use Rattle.model_printing.proofs.Numbers.{ascii_valid, decimal_digits}
-use Rattle.model_generator.specs.Generated.{most_makers}
+use Rattle.model_generator.specs.Made.{most_makers}
 
 -- ONE DIGIT
 -- what holds of each of the ten digits

@@ -7,12 +7,14 @@ use Rattle.model_limits.specs.Limits.{standard_limits, file_limit}
 use Rattle.model_limits.specs.FirstOf.{or_else, unless}
 use Rattle.model_text.specs.Lexemes.{Lexeme, terminal, step_word, name_lexeme, logic_lexeme, number_lexeme, literal_lexeme, bad_lexeme, reserved_words}
 use Rattle.model_text.specs.Nesting.{lexemes_of, open_behind, text_within, lexeme_limit, token_limit}
-use Rattle.model_grammar.specs.Writing.{Each, all_lexemes, procedure_lines, procedures_lines, theory_lines, theory_text}
+use Rattle.model_grammar.specs.TheoryWriting.{all_lexemes, procedure_lines, procedures_lines, theory_lines, theory_text}
+use Rattle.model_grammar.specs.Writable.{Each}
 use Rattle.model_printing.specs.Printable.{ArePrintable, without_line}
 use Rattle.model_printing.proofs.Lines.{lines_read_back}
 use Rattle.model_round_trip.proofs.Printed.{theory_ready, lines_printable}
 use Rattle.model_answers.specs.Texts.{limit_passed}
-use Rattle.model_generator.specs.Generated.{maker, makers, most_makers, generated_theory}
+use Rattle.model_generator.specs.Made.{most_makers}
+use Rattle.model_generator.specs.Generated.{maker, makers, generated_theory}
 use Rattle.generator_laws.proofs.FileNames.{few_digits}
 use Rattle.generator_laws.proofs.FileWritable.{theory_writable, theory_literals, file_plain}
 use Rattle.generator_laws.proofs.FileText.{few_bytes}

@@ -8,8 +8,10 @@ use Rattle.std.proofs.lemmas.Fmt.{length-decimal-le}
 use Rattle.model_limits.specs.Limits.{standard_limits}
 use Rattle.model_text.specs.Tokens.{newline, quote, backslash, letter_n}
 use Rattle.model_text.specs.Lexemes.{Lexeme, terminal, step_word, name_lexeme, logic_lexeme, number_lexeme, literal_lexeme, bad_lexeme, reserved_words}
-use Rattle.model_grammar.specs.Writing.{printed, spaced, text_of, text_of_lines, procedure_lines, procedures_lines, theory_lines, theory_text}
-use Rattle.model_generator.specs.Generated.{maker, makers, most_makers, generated_theory}
+use Rattle.model_grammar.specs.Writing.{printed, spaced, text_of}
+use Rattle.model_grammar.specs.TheoryWriting.{text_of_lines, procedure_lines, procedures_lines, theory_lines, theory_text}
+use Rattle.model_generator.specs.Made.{most_makers}
+use Rattle.model_generator.specs.Generated.{maker, makers, generated_theory}
 use Rattle.generator_laws.proofs.FileNames.{few_digits}
 
 -- THE BYTES that are printed for a lexeme, at most

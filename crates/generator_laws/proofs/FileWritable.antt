@@ -13,12 +13,14 @@ use Rattle.model_text.specs.Lexemes.{Lexeme, terminal, step_word, name_lexeme, l
 use Rattle.model_text.proofs.Computing.{lexing}
 use Rattle.model_grammar.specs.Sorts.{sorted_procedure, with_sorts}
 use Rattle.model_grammar.specs.Terms.{in_formula}
-use Rattle.model_grammar.specs.Writing.{Each, IsName, IsLogicName, IsWritableTerm, IsWritable, IsWritableCommand, procedure_lines, procedures_lines, theory_lines}
+use Rattle.model_grammar.specs.TheoryWriting.{procedure_lines, procedures_lines, theory_lines}
+use Rattle.model_grammar.specs.Writable.{Each, IsName, IsLogicName, IsWritableTerm, IsWritable, IsWritableCommand}
 use Rattle.model_round_trip.specs.Writable.{IsWord, IsNumeral, IsWritableReason, IsWritableJudgement, IsWritableStep, IsWritableProcedure, IsWritableTheory}
 use Rattle.model_round_trip.specs.Literals.{LiteralsAreUtf8}
 use Rattle.model_round_trip.proofs.Versions.{plain}
 use Rattle.rule_table.proofs.SomeLetters.{◌&◌}
-use Rattle.model_generator.specs.Generated.{x_term, some_node, some_list, beginning, new_root, some_root, nothing_yet, creation, body, proof, maker, makers, most_makers, generated_theory}
+use Rattle.model_generator.specs.Made.{most_makers}
+use Rattle.model_generator.specs.Generated.{x_term, some_node, some_list, beginning, new_root, some_root, nothing_yet, creation, body, proof, maker, makers, generated_theory}
 use Rattle.generator_laws.proofs.FileNames.{name_is_name, text_is_utf8}
 
 -- THE WORDS

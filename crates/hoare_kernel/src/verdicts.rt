@@ -95,8 +95,8 @@ pub(crate) fn step_verdict(
 }
 
 /// The verdict on the step, which is no gap, over the steps before it. A name of no rule has the
-/// verdict of a conclusion that doesn't fit. An instance holds by the number of steps, where what it
-/// cites does. OutOfMemory comes only where memory is refused.
+/// verdict of a conclusion that doesn't fit. An instance holds by the number of steps, where what
+/// it cites does. OutOfMemory comes only where memory is refused.
 pub fn check_step(
     alloc: Global,
     theory: &Theory,

@@ -9,7 +9,9 @@ use Rattle.std.proofs.lemmas.Str.{IsUtf8-nil, IsUtf8-append, IsUtf8-from_ascii, 
 use Rattle.model_text.specs.Tokens.{newline, quote, backslash, letter_n}
 use Rattle.model_text.specs.Lexemes.{Lexeme, terminal, step_word, name_lexeme, logic_lexeme, number_lexeme, literal_lexeme, bad_lexeme}
 use Rattle.model_documents.specs.Printed.{escaped, quoted}
-use Rattle.model_grammar.specs.Writing.{printed, spaced, text_of, text_of_lines, Each}
+use Rattle.model_grammar.specs.Writing.{printed, spaced, text_of}
+use Rattle.model_grammar.specs.TheoryWriting.{text_of_lines}
+use Rattle.model_grammar.specs.Writable.{Each}
 use Rattle.model_round_trip.specs.Literals.{LiteralIsUtf8, LiteralsAreUtf8}
 
 -- a byte of ASCII is a text

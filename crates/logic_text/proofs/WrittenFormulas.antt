@@ -4,7 +4,9 @@ use Rattle.std.specs.Str.{IsUtf8}
 use Rattle.model_formulas.specs.Formulas.{Named}
 use Rattle.model_text.specs.Nesting.{lexemes_of}
 use Rattle.model_grammar.specs.Sorts.{Declared, sorted_formula}
-use Rattle.model_grammar.specs.Writing.{undeclared, spaced, text_of, formula_lexemes, IsWritable}
+use Rattle.model_grammar.specs.Writing.{spaced, text_of}
+use Rattle.model_grammar.specs.TheoryWriting.{formula_lexemes}
+use Rattle.model_grammar.specs.Writable.{undeclared, IsWritable}
 use Rattle.model_round_trip.proofs.Laws.{formula_reads}
 use Rattle.model_round_trip.proofs.Resorted.{formula_resorted}
 use Rattle.logic_text.specs.DeclaredFormulas.{SpellsFormulaWith}

@@ -4,7 +4,7 @@ use Rattle.std.specs.Prelude.{List}
 use Rattle.model_formulas.specs.Formulas.{Named, truth, falsity, conjunction, disjunction, implication, existential, universal, equality, at_most, empty, bare_hole, concatenation, grove_sum, grove_sum_hole, application, hole_adjoint, context_adjoint}
 use Rattle.model_text.specs.Lexemes.{Lexeme}
 use Rattle.model_grammar.specs.Words.{the}
-use Rattle.model_grammar.specs.Writing.{empty_sign, hole_sign, star_sign, at_sign, into_sign}
+use Rattle.model_grammar.specs.TheoryWriting.{empty_sign, hole_sign, star_sign, at_sign, into_sign}
 
 -- others have none
 abbrev pub sign_of : Named → List Lexeme

@@ -1,11 +1,10 @@
 -- The values that the words of a run stand for as arguments, and the procedure that it runs.
 use Rattle.std.specs.Prelude.{ℕ, zero, suc, nat_le, ◌==◌, List, [], ◌∷◌, length, Option, Some, None, cond, option_map, bytes_eq, codes, pos, negsuc, true, false}
-use Rattle.std.specs.List.{find}
 use Rattle.model_shapes.specs.Sorts.{ValueSort, node_sort, list_sort, int_sort, str_sort, bool_sort}
 use Rattle.model_shapes.specs.Values.{Name, Text, Value, null, nolist, node_number, list_number, int, str, boolean}
 use Rattle.model_formulas.specs.Formulas.{Named}
 use Rattle.model_terms.specs.Stores.{ProgVar, sort_of}
-use Rattle.model_commands.specs.Theories.{ProcedureOf, Theory}
+use Rattle.model_commands.specs.Theories.{ProcedureOf, Theory, procedure_named}
 use Rattle.model_limits.specs.Limits.{standard_limits}
 use Rattle.model_answers.specs.Words.{decimal_of}
 
@@ -68,10 +67,6 @@ arguments_of (x ∷ xs) (word ∷ words) =
     value_before (argument_of (sort_of x) word) (arguments_of xs words)
 arguments_of xs words = None
 
--- the first procedure of the name
-abbrev pub procedure_called : Name → List (ProcedureOf Named) → Option (ProcedureOf Named)
-procedure_called name procedures = find (λ f. bytes_eq name f.name) procedures
-
 -- a procedure with values for its parameters
 abbrev pub with_arguments : Option (ProcedureOf Named) → List (List ℕ)
     → Option (ProcedureOf Named × List Value)
@@ -81,4 +76,4 @@ with_arguments (Some f) words = option_map (λ values. (f, values)) (arguments_o
 -- WHAT IS RUN: a procedure of the theory, with the values of the arguments; nothing where it isn't
 -- in the file, where the number of arguments differs, or where one doesn't read at its sort
 abbrev pub called : Theory → Name → List (List ℕ) → Option (ProcedureOf Named × List Value)
-called theory name words = with_arguments (procedure_called name theory.procedures) words
+called theory name words = with_arguments (procedure_named name theory.procedures) words

@@ -3,7 +3,7 @@ use Rattle.model_limits.specs.Limits.{standard_limits}
 use Rattle.std.specs.Prelude.{ℕ, suc, nat_le, ◌&&◌, List, [], ◌∷◌, Option, Some, None, cond, option_map, bytes_eq, codes}
 use Rattle.std.specs.Str.Parse.{digits_value}
 use Rattle.model_text.specs.Tokens.{is_number}
-use Rattle.model_generator.specs.Generated.{most_makers}
+use Rattle.model_generator.specs.Made.{most_makers}
 
 -- a request, with the words that it names
 pub data Request : Type 0 where

@@ -1,6 +1,7 @@
 -- Judgements, steps of proofs, procedures and theories, as a file spells them: the language's own.
 -- With the names of bound variables they are as written; without, as the meaning takes them.
-use Rattle.std.specs.Prelude.{ℕ, List, [], ◌∷◌, cond, Option, Some, None, bytes_eq, map}
+use Rattle.std.specs.Prelude.{ℕ, List, Option, bytes_eq, map}
+use Rattle.std.specs.List.{find}
 use Rattle.model_shapes.specs.Values.{Name}
 use Rattle.model_shapes.specs.Sorts.{DataSort, Sort}
 use Rattle.model_terms.specs.Variables.{Var}
@@ -102,7 +103,5 @@ abbrev pub procedures_of : Theory → Procedures
 procedures_of theory = map nameless_procedure theory.procedures
 
 -- the first procedure of the name
-abbrev pub procedure_named : Name → Procedures → Option Procedure
-procedure_named name [] = None
-procedure_named name (p ∷ procedures) =
-    cond (bytes_eq name p.name) (Some p) (procedure_named name procedures)
+abbrev pub procedure_named : {F : Type 0} → Name → List (ProcedureOf F) → Option (ProcedureOf F)
+procedure_named name = find (λ f. bytes_eq name f.name)

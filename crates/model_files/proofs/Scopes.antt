@@ -10,7 +10,8 @@ use Rattle.model_terms.specs.VariableTests.{var_eq}
 use Rattle.model_terms.specs.Terms.{Term, literal, variable, sum, difference, appended, InTerm, raised_var, term_with}
 use Rattle.model_formulas.specs.Formulas.{Named, truth, falsity, conjunction, disjunction, implication, negation, existential, universal, equality, at_most, empty, bare_hole, node_formula, one_tree, one_root, concatenation, grove_sum, grove_sum_hole, application, hole_adjoint, context_adjoint, same_as, length_is, value_meets}
 use Rattle.model_formulas.specs.Substitution.{FreeIn}
-use Rattle.model_formulas.specs.Nameless.{nameless, walked, naming, names, name_or}
+use Rattle.model_formulas.specs.Nameless.{nameless, walked, naming, names}
+use Rattle.model_formulas.specs.Deciding.{name_or}
 use Rattle.model_terms.specs.Stores.{ProgVar, named, as_var, same_name}
 use Rattle.model_commands.specs.Commands.{Command, skip, block, assign, create_node, node_name, child_nodes, parent_node, list_item, append_child, remove_child, insert_before, if_else, while_do, local, call, Block, stop, ◌then◌, Among, Modifies, BlockModifies}
 use Rattle.model_commands.specs.CommandParts.{commands_in, commands_of, targets, variables_of_term, variables_of}

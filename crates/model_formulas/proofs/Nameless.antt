@@ -6,8 +6,9 @@ use Rattle.model_formulas.specs.Formulas.{Named, Formula, truth, falsity, conjun
 use Rattle.model_terms.specs.Variables.{Var, prog, logic, bound, var_sort}
 use Rattle.model_terms.specs.VariableTests.{var_eq}
 use Rattle.model_terms.specs.Terms.{Term, literal, variable, sum, difference, appended, raised, under_binder, Substitution, term_with, raised_var}
-use Rattle.model_formulas.specs.Substitution.{formula_with, closing, closing_at, exists, forall}
-use Rattle.model_formulas.specs.Nameless.{nameless, walked, names, naming, name_or}
+use Rattle.model_formulas.specs.Substitution.{formula_with, closing, exists, forall}
+use Rattle.model_formulas.specs.Deciding.{closing_at, name_or}
+use Rattle.model_formulas.specs.Nameless.{nameless, walked, names, naming}
 
 raised-with : (g : Substitution) (t : Term) → term_with (under_binder g) (raised t)
     ≡ raised (term_with g t)

@@ -9,7 +9,8 @@ use Rattle.model_formulas.specs.Formulas.{Formula}
 use Rattle.model_terms.specs.Variables.{Var, var_sort}
 use Rattle.model_terms.specs.VariableTests.{var_eq}
 use Rattle.model_terms.specs.Terms.{Term, variable}
-use Rattle.model_formulas.specs.Substitution.{formula_with, closing, closing_at, replacing, replacing_at, exists, forall}
+use Rattle.model_formulas.specs.Substitution.{formula_with, closing, replacing, exists, forall}
+use Rattle.model_formulas.specs.Deciding.{closing_at, replacing_at}
 use Rattle.model_formulas.specs.Satisfaction.{Environment, Meets, SomeThing, EachThing, choosing, meaning_of}
 use Rattle.model_formulas.specs.Setting.{setting, setting_at}
 use Rattle.model_formulas.proofs.Substitutes.{raised-meaning, after, with-meets}

@@ -4,7 +4,8 @@ use Rattle.model_formulas.specs.Formulas.{Formula, truth, falsity, conjunction, 
 use Rattle.model_terms.specs.Variables.{Var, prog, logic, bound, var_sort}
 use Rattle.model_terms.specs.VariableTests.{var_eq}
 use Rattle.model_terms.specs.Terms.{Term, literal, variable, sum, difference, appended, raised, raised_var, under_binder, Substitution, term_with, InTerm}
-use Rattle.model_formulas.specs.Substitution.{formula_with, FreeIn, closing, closing_at, replacing, replacing_at, exists, forall}
+use Rattle.model_formulas.specs.Substitution.{formula_with, FreeIn, closing, replacing, exists, forall}
+use Rattle.model_formulas.specs.Deciding.{closing_at, replacing_at}
 use Rattle.model_formulas.proofs.Nameless.{then_with, formula-then}
 
 -- a term sees the variables that stand in it alone

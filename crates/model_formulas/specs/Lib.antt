@@ -1,5 +1,6 @@
 pub mod Formulas
 pub mod Deciding
+pub mod Changes
 pub mod Substitution
 pub mod Nameless
 pub mod WellSorted

@@ -6,9 +6,8 @@ use Rattle.model_shapes.specs.Trees.{decided}
 use Rattle.model_terms.specs.Variables.{Var, bound, var_sort}
 use Rattle.model_terms.specs.VariableTests.{var_eq}
 use Rattle.model_terms.specs.Terms.{variable, raised_var, Substitution, term_with}
-pub use Rattle.model_formulas.specs.Deciding.{name_or}
 use Rattle.model_formulas.specs.Formulas.{Named, Formula}
-use Rattle.model_formulas.specs.Substitution.{with_terms}
+use Rattle.model_formulas.specs.Changes.{changed}
 
 -- What a variable becomes below binders of these variables: bound by the nearest that has it, or
 -- the same, bound or free, further out.
@@ -22,7 +21,7 @@ naming xs y = variable (names xs y)
 
 -- the nameless form below binders of these variables
 abbrev pub walked : List Var → Named → Formula
-walked = with_terms var_sort (λ x xs. x ∷ xs) (λ xs. term_with (naming xs))
+walked = changed (λ xs. var_sort) (λ x xs. x ∷ xs) (λ xs. term_with (naming xs)) (λ a s. s)
 
 -- the nameless form: no binder passed
 abbrev pub nameless : Named → Formula

@@ -1,5 +1,5 @@
--- The theory that `make N` prints: N procedures, each of which makes one node, with their proofs.
--- The language's own.
+-- Needn't be believed: a law says that the text of `make N` is what is printed for it. The generated
+-- theory as a value: N procedures, each of which makes one node, with their proofs.
 use Rattle.std.specs.Prelude.{ℕ, zero, suc, ◌+◌, List, [], ◌∷◌, ◌++◌, codes}
 use Rattle.std.specs.Fmt.{decimal}
 use Rattle.model_shapes.specs.Sorts.{forest, grove, shape, value, node_sort, list_sort}
@@ -103,10 +103,6 @@ module _ (k : ℕ) where
 abbrev pub makers : ℕ → ℕ → List (ProcedureOf Named)
 makers first zero = []
 makers first (suc n) = maker first ∷ makers (first + 1) n
-
--- the most procedures that may be asked for
-abbrev pub most_makers : ℕ
-most_makers = 200
 
 -- THE GENERATED THEORY for N
 abbrev pub generated_theory : ℕ → Theory

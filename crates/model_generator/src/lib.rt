@@ -1,5 +1,6 @@
-//! The theory that the form `make N` prints, with no Rust data. Promises that it has N procedures
-//! and eight steps for each. Stands on model_commands and model_files.
+//! The text that the form `make N` prints, and the generated theory as a value, with no Rust data.
+//! Promises that the theory has N procedures and eight steps for each. Stands on model_commands and
+//! model_files.
 #![tactic(auto)]
 
 ghost use Rattle.std.specs.Prelude.{◌≡◌, ℕ, ◌*◌, length};

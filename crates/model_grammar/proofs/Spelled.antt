@@ -17,7 +17,9 @@ use Rattle.model_grammar.specs.Formulas.{SpellsFormula, SpellsConnective}
 use Rattle.model_grammar.specs.Commands as c
 use Rattle.model_grammar.specs.Commands.{Listed, Bracketed, SpellsVariable, SpellsCondition, SpellsCommand, SpellsBlock, SpellsCommands}
 use Rattle.model_grammar.specs.Sorts.{sorted_name, sorted_term, sorted_formula, sorted_cond, sorted_command, sorted_block}
-use Rattle.model_grammar.specs.Writing.{undeclared, name_lexemes, term_lexemes, formula_lexemes, cond_lexemes, value_sort_lexemes, behind_commas, in_brackets, command_lexemes, block_lexemes, further_commands, at_sign, into_sign, star_sign, Each, IsWritableName, IsWritableTerm, IsWritable, IsWritableCondition, IsWritableCommand, IsWritableBlock, AreWritable}
+use Rattle.model_grammar.specs.Writing.{name_lexemes, term_lexemes, cond_lexemes, value_sort_lexemes, behind_commas, in_brackets, command_lexemes, block_lexemes, further_commands}
+use Rattle.model_grammar.specs.TheoryWriting.{formula_lexemes, at_sign, into_sign, star_sign}
+use Rattle.model_grammar.specs.Writable.{undeclared, Each, IsWritableName, IsWritableTerm, IsWritable, IsWritableCondition, IsWritableCommand, IsWritableBlock, AreWritable}
 
 pub term_spelled : (place : Place) (a : Term) → IsWritableTerm place a
     → SpellsTerm place (sorted_term undeclared a) (term_lexemes a)

@@ -7,7 +7,8 @@ use Rattle.model_text.specs.Tokens.{newline}
 use Rattle.model_text.specs.Lexemes.{Lexeme, terminal, step_word, name_lexeme, logic_lexeme, number_lexeme, literal_lexeme, bad_lexeme, word_lexeme}
 use Rattle.model_text.specs.Versions.{insert_word, reserving, seen_in}
 use Rattle.model_grammar.specs.Words.{the, ◌⌢◌}
-use Rattle.model_grammar.specs.Writing.{printed, spaced, text_of, text_of_lines, in_brackets, number_lexemes, word_lexemes, argument_lexemes, declaration_lexemes, data_sort_lexemes, formula_lexemes, command_lexemes, reason_lexemes, judgement_lexemes, step_line, procedure_lines, procedures_lines}
+use Rattle.model_grammar.specs.Writing.{printed, spaced, text_of, in_brackets, command_lexemes}
+use Rattle.model_grammar.specs.TheoryWriting.{text_of_lines, number_lexemes, word_lexemes, argument_lexemes, declaration_lexemes, data_sort_lexemes, formula_lexemes, reason_lexemes, judgement_lexemes, step_line, procedure_lines, procedures_lines}
 use Rattle.model_grammar.proofs.Spaced.{spaced_append}
 
 -- of one word

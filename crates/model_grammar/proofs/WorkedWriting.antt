@@ -12,7 +12,8 @@ use Rattle.model_commands.specs.Commands.{append_child, remove_child, insert_bef
 use Rattle.model_commands.specs.Commands.{skip}
 use Rattle.model_commands.specs.Theories.{triple, by_rule}
 use Rattle.model_text.specs.Lexemes.{reserved_words}
-use Rattle.model_grammar.specs.Writing.{text_of, formula_lexemes, command_lexemes, theory_text}
+use Rattle.model_grammar.specs.Writing.{text_of, command_lexemes}
+use Rattle.model_grammar.specs.TheoryWriting.{formula_lexemes, theory_text}
 
 abbrev node : List ℕ → Term
 node name = variable (prog name node_sort)

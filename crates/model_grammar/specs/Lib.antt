@@ -5,3 +5,5 @@ pub mod Commands
 pub mod Sorts
 pub mod Theories
 pub mod Writing
+pub mod TheoryWriting
+pub mod Writable

@@ -14,8 +14,9 @@ ghost use Rattle.model_grammar.specs.Formulas.{SpellsFormula};
 ghost use Rattle.model_grammar.specs.Commands.{SpellsCommand};
 ghost use Rattle.model_grammar.specs.Theories.{SpellsTheory};
 ghost use Rattle.model_grammar.specs.Sorts.{sorted_formula, sorted_command};
-ghost use Rattle.model_grammar.specs.Writing.{undeclared, formula_lexemes, command_lexemes};
-ghost use Rattle.model_grammar.specs.Writing.{IsWritable, IsWritableCommand};
+ghost use Rattle.model_grammar.specs.Writing.{command_lexemes};
+ghost use Rattle.model_grammar.specs.TheoryWriting.{formula_lexemes};
+ghost use Rattle.model_grammar.specs.Writable.{undeclared, IsWritable, IsWritableCommand};
 
 /// A theory that few lexemes spell is small: each part of a formula, each procedure and each step
 /// has a lexeme of its own.

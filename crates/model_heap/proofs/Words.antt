@@ -99,7 +99,8 @@ adding_is p t (node s i kids l rest) u =
 adding_is p t (hole rest) u = ap hole (adding_is p t rest u)
 
 -- and put in before another
-pub adding_before_is : (w : ℕ) (t r : Trees) → uses w r ≤ 1 → adding_before w t r ≡ inserted_at w t r
+pub adding_before_is : (w : ℕ) (t r : Trees) → uses w r ≤ 1
+    → adding_before w t r ≡ inserted_at w t r
 adding_before_is w t none u = refl
 adding_before_is w t (node s i kids l rest) u =
     elim (cases_eq w i) [

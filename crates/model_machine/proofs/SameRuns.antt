@@ -229,7 +229,8 @@ module _ (g g' : Trees) (same : SameAt grove g g') (w : WellFormed g) where
       (removing (node_at (value_of st e) g) z st g')) (same-node_at (value_of st f))
       (same-removing (node_at (value_of st e) g) (node_at (value_of st f) g) st))
   same-move th p (run (insert_before e f q)) st =
-      let at : Trees → Trees → Trees → Move = λ a b roots. inserting_at (value_of st q) a b st roots in
+      let at : Trees → Trees → Trees → Move =
+      λ a b roots. inserting_at (value_of st q) a b st roots in
       subst (λ z. SameMove (at (node_at (value_of st e) g) (node_at (value_of st f) g) g)
       (at z (node_at (value_of st f) g') g')) (same-node_at (value_of st e))
       (subst (λ z. SameMove (at (node_at (value_of st e) g) (node_at (value_of st f) g) g)

@@ -14,7 +14,7 @@ use Rattle.model_text.specs.Tokens.{Token, TokenKind, word_token, logic_token, n
 use Rattle.model_text.specs.Nesting.{lexemes_of}
 use Rattle.model_text.specs.FaultTokens.{IsOfToken}
 use Rattle.model_text.proofs.Pieces.{Fits, piece_at-Fits}
-use Rattle.model_grammar.specs.Writing.{Each, IsName, IsLogicName}
+use Rattle.model_grammar.specs.Writable.{Each, IsName, IsLogicName}
 use Rattle.model_printing.specs.Printable.{IsPrintable, HasNoLine, without_line}
 use Rattle.model_printing.proofs.Alone.{IsToken, token_alone}
 use Rattle.model_printing.proofs.Reading.{lexemes_in, token_in, nothing_in, lexemes_of_characters}

@@ -4,7 +4,7 @@ use Rattle.model_shapes.specs.Values.{Name}
 use Rattle.model_shapes.specs.Trees.{Trees, none, node, hole}
 use Rattle.model_text.specs.Lexemes.{Lexeme, terminal, number_lexeme, literal_lexeme}
 use Rattle.model_documents.specs.Grammar.{one, SpellsForest, SpellsTrees, SpellsRoots, SpellsGrove, tree, empty_forest, some_trees, last_tree, more_trees, last_root, more_roots, empty_grove, some_roots}
-use Rattle.model_grammar.specs.Writing.{Each}
+use Rattle.model_grammar.specs.Writable.{Each}
 use Rattle.model_printing.proofs.Parts.{each_both}
 use Rattle.model_printing.specs.Printable.{ArePrintableTrees, HasNoLine}
 

@@ -4,7 +4,9 @@ use Rattle.std.proofs.lemmas.List.{append-nil, map-append}
 use Rattle.model_text.specs.Lexemes.{Lexeme, terminal, step_word, name_lexeme, logic_lexeme, number_lexeme, literal_lexeme, bad_lexeme}
 use Rattle.model_text.specs.Tokens.{TokenKind, newline, piece_at, token_piece}
 use Rattle.model_text.specs.Nesting.{lexemes_of}
-use Rattle.model_grammar.specs.Writing.{Each, printed, spaced, text_of, text_of_lines, all_lexemes}
+use Rattle.model_grammar.specs.Writing.{printed, spaced, text_of}
+use Rattle.model_grammar.specs.TheoryWriting.{text_of_lines, all_lexemes}
+use Rattle.model_grammar.specs.Writable.{Each}
 use Rattle.model_printing.specs.Printable.{IsPrintable, ArePrintable, HasNoLine, without_line}
 use Rattle.model_printing.proofs.Alone.{IsToken}
 use Rattle.model_printing.proofs.Ended.{EndsTokens, space_ends, newline_ends, token_before}

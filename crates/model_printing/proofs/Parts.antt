@@ -1,6 +1,6 @@
 -- What each element of a list meets, for lists put together.
 use Rattle.std.proofs.Common.{List, [], ◌∷◌, ◌++◌}
-use Rattle.model_grammar.specs.Writing.{Each}
+use Rattle.model_grammar.specs.Writable.{Each}
 
 pub each_both : {A : Type 0} (Meets : A → Type 0) (a b : List A) → Each Meets a → Each Meets b
     → Each Meets (a ++ b)

@@ -8,7 +8,7 @@ use Rattle.model_shapes.specs.Trees.{Trees, none, node, hole}
 use Rattle.model_text.specs.Lexemes.{Lexeme, terminal, step_word, name_lexeme, logic_lexeme, number_lexeme, literal_lexeme, bad_lexeme, reserved_words}
 use Rattle.model_text.specs.Tokens.{symbols}
 use Rattle.model_text.specs.Nesting.{lexemes_of}
-use Rattle.model_grammar.specs.Writing.{Each, IsName, IsLogicName}
+use Rattle.model_grammar.specs.Writable.{Each, IsName, IsLogicName}
 
 -- a number fits, the text of a literal is UTF-8, and a word or a symbol is its own only token
 abbrev pub IsPrintable : Lexeme → Type 0

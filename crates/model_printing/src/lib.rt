@@ -12,7 +12,9 @@ ghost use Rattle.model_text.specs.Nesting.{lexemes_of};
 ghost use Rattle.model_text.specs.FaultTokens.{IsOfToken};
 ghost use Rattle.model_documents.specs.Grammar.{SpellsGrove};
 ghost use Rattle.model_documents.specs.Printed.{grove_text};
-ghost use Rattle.model_grammar.specs.Writing.{Each, text_of, text_of_lines, all_lexemes};
+ghost use Rattle.model_grammar.specs.Writing.{text_of};
+ghost use Rattle.model_grammar.specs.TheoryWriting.{text_of_lines, all_lexemes};
+ghost use Rattle.model_grammar.specs.Writable.{Each};
 ghost use Rattle.model_printing.specs.Printable.{IsPrintable, ArePrintable, HasNoLine};
 ghost use Rattle.model_printing.specs.Printable.{without_line, terminal_texts, ArePrintableTrees};
 

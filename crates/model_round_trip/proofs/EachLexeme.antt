@@ -17,7 +17,9 @@ use Rattle.model_text.proofs.OfTokens.{terminals}
 use Rattle.model_text.proofs.Computing.{lexing}
 use Rattle.model_grammar.specs.Words.{the, ◌⌢◌}
 use Rattle.model_grammar.specs.Terms.{Place, in_formula, in_command}
-use Rattle.model_grammar.specs.Writing.{name_lexemes, var_lexemes, term_lexemes, bracketed, hole_sign, star_sign, at_sign, into_sign, formula_lexemes, cond_lexemes, value_sort_lexemes, behind_commas, listed, in_brackets, command_lexemes, block_lexemes, further_commands, data_sort_lexemes, sort_lexemes, declaration_lexemes, number_lexemes, argument_lexemes, judgement_lexemes, logic_line, all_lexemes, Each, IsName, IsLogicName, IsWritableName, IsLogic, IsLogicTerm, IsWritableTerm, IsWritable, IsWritableCondition, IsWritableCommand, IsWritableBlock, AreWritable}
+use Rattle.model_grammar.specs.Writing.{name_lexemes, var_lexemes, term_lexemes, bracketed, cond_lexemes, value_sort_lexemes, behind_commas, listed, in_brackets, command_lexemes, block_lexemes, further_commands}
+use Rattle.model_grammar.specs.TheoryWriting.{hole_sign, star_sign, at_sign, into_sign, formula_lexemes, data_sort_lexemes, sort_lexemes, declaration_lexemes, number_lexemes, argument_lexemes, judgement_lexemes, logic_line, all_lexemes}
+use Rattle.model_grammar.specs.Writable.{Each, IsName, IsLogicName, IsWritableName, IsLogic, IsLogicTerm, IsWritableTerm, IsWritable, IsWritableCondition, IsWritableCommand, IsWritableBlock, AreWritable}
 use Rattle.model_round_trip.specs.Writable.{IsNumeral, IsDeclarable, IsWritableJudgement, IsWritableProcedure}
 use Rattle.model_round_trip.proofs.Parts.{each_append, header_lines}
 
@@ -403,7 +405,8 @@ module _ (Can : Lexeme → Type 0) (holds : HoldsOfWritten Can) where
           (word (codes ":=") refl, (holds.of_name name h.1, terms_hold in_command es h.2)),
     )
 
-    block_holds : Can (terminal insert_word) → (b : Block) → IsWritableBlock b → Each Can (block_lexemes b)
+    block_holds : Can (terminal insert_word) → (b : Block) → IsWritableBlock b
+        → Each Can (block_lexemes b)
     block_holds inserts stop h = absurd h
     block_holds inserts (d then b) h = (
       word (codes "{") refl,
@@ -411,7 +414,8 @@ module _ (Can : Lexeme → Type 0) (holds : HoldsOfWritten Can) where
           (beside (further_commands b) _ (commands_hold inserts b h.1) (one (codes "}") refl)),
     )
 
-    commands_hold : Can (terminal insert_word) → (b : Block) → AreWritable b → Each Can (further_commands b)
+    commands_hold : Can (terminal insert_word) → (b : Block) → AreWritable b
+        → Each Can (further_commands b)
     commands_hold inserts stop h = tt
     commands_hold inserts (d then b) h = (
       word (codes ";") refl,

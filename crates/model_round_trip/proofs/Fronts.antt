@@ -1,7 +1,7 @@
 -- Lexemes that are given ones, but for the lines of `step`, part by part.
 use Rattle.std.proofs.Common.{ℕ, List, [], ◌∷◌, ◌++◌, ◌≡◌, refl, sym, ◌∙◌, map, append_assoc}
 use Rattle.model_text.specs.Lexemes.{Lexeme, step_word}
-use Rattle.model_grammar.specs.Writing.{Each}
+use Rattle.model_grammar.specs.Writable.{Each}
 use Rattle.model_printing.specs.Printable.{HasNoLine, without_line}
 
 -- the second is the first, but for lines

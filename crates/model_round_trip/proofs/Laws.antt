@@ -13,7 +13,9 @@ use Rattle.model_grammar.specs.Formulas.{SpellsFormula}
 use Rattle.model_grammar.specs.Commands.{SpellsCommand}
 use Rattle.model_grammar.specs.Theories.{SpellsTheory}
 use Rattle.model_grammar.specs.Sorts.{Declared, sorted_formula, sorted_command, with_sorts}
-use Rattle.model_grammar.specs.Writing.{undeclared, formula_lexemes, command_lexemes, theory_lines, all_lexemes, text_of, theory_text, Each, IsWritable, IsWritableCommand}
+use Rattle.model_grammar.specs.Writing.{command_lexemes, text_of}
+use Rattle.model_grammar.specs.TheoryWriting.{formula_lexemes, theory_lines, all_lexemes, theory_text}
+use Rattle.model_grammar.specs.Writable.{undeclared, Each, IsWritable, IsWritableCommand}
 use Rattle.model_grammar.proofs.Spelled.{formula_spelled, command_spelled}
 use Rattle.model_printing.specs.Printable.{ArePrintable, HasNoLine, without_line}
 use Rattle.model_printing.proofs.Lines.{same_read_back, lines_read_back}

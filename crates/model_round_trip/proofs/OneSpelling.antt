@@ -18,7 +18,8 @@ use Rattle.model_grammar.specs.Commands as c
 use Rattle.model_grammar.specs.Commands.{Listed, Bracketed, SpellsVariable, SpellsCondition, SpellsCommand, SpellsBlock, SpellsCommands}
 use Rattle.model_grammar.specs.Theories as files
 use Rattle.model_grammar.specs.Theories.{SpellsNumber, SpellsDeclaration, SpellsArguments, SpellsJudgement}
-use Rattle.model_grammar.specs.Writing.{data_sort_lexemes, sort_lexemes, declaration_lexemes, number_lexemes, argument_lexemes, judgement_lexemes, name_lexemes, term_lexemes, braced, bracketed, quantified, formula_lexemes, cond_lexemes, value_sort_lexemes, behind_commas, listed, in_brackets, command_lexemes, block_lexemes, further_commands}
+use Rattle.model_grammar.specs.Writing.{name_lexemes, term_lexemes, braced, bracketed, cond_lexemes, value_sort_lexemes, behind_commas, listed, in_brackets, command_lexemes, block_lexemes, further_commands}
+use Rattle.model_grammar.specs.TheoryWriting.{data_sort_lexemes, sort_lexemes, declaration_lexemes, number_lexemes, argument_lexemes, judgement_lexemes, quantified, formula_lexemes}
 
 -- ---- terms
 

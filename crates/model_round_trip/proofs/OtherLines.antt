@@ -7,7 +7,9 @@ use Rattle.model_grammar.specs.Words.{the, ◌⌢◌}
 use Rattle.model_grammar.specs.Theories as files
 use Rattle.model_grammar.specs.Theories.{SpellsAnyWord, SpellsNumber, SpellsReason, SpellsStep, SpellsSteps, SpellsProcedure, SpellsProcedures, SpellsRaw, SpellsTheory}
 use Rattle.model_grammar.specs.Sorts.{sorted_reason, sorted_judgement, sorted_step, with_sorts}
-use Rattle.model_grammar.specs.Writing.{undeclared, in_brackets, number_lexemes, argument_lexemes, reason_lexemes, judgement_lexemes, logic_line, step_line, procedure_lines, procedures_lines, theory_lines, all_lexemes, Each}
+use Rattle.model_grammar.specs.Writing.{in_brackets}
+use Rattle.model_grammar.specs.TheoryWriting.{number_lexemes, argument_lexemes, reason_lexemes, judgement_lexemes, logic_line, step_line, procedure_lines, procedures_lines, theory_lines, all_lexemes}
+use Rattle.model_grammar.specs.Writable.{undeclared, Each}
 use Rattle.model_printing.specs.Printable.{HasNoLine, without_line}
 use Rattle.model_round_trip.specs.Writable.{IsNumeral, IsWritableReason, IsWritableStep, IsWritableProcedure, HasOne, IsWritableTheory}
 use Rattle.model_round_trip.specs.ReadBack.{step_without_line, procedure_without_lines, without_lines}
@@ -151,8 +153,8 @@ steps_again v (step ∷ steps) rest lexemes h e =
 three_parts : (a b c rest : List Lexeme) → (a ++ (b ++ c)) ++ rest ≡ a ++ (b ++ (c ++ rest))
 three_parts a b c rest = simp append_assoc refl
 
-procedure_again : (v : ℕ) (f : ProcedureOf Named) (rest lexemes : List Lexeme) → IsWritableProcedure f
-    → Alike (all_lexemes (procedure_lines v f) ++ rest) lexemes
+procedure_again : (v : ℕ) (f : ProcedureOf Named) (rest lexemes : List Lexeme)
+    → IsWritableProcedure f → Alike (all_lexemes (procedure_lines v f) ++ rest) lexemes
     → Spelled SpellsProcedure procedure_without_lines (procedure_with undeclared f) rest lexemes
 procedure_again v f rest lexemes h e =
     let header : List Lexeme = all_lexemes (header_lines f) in

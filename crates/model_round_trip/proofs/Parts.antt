@@ -4,7 +4,9 @@ use Rattle.model_formulas.specs.Formulas.{Named}
 use Rattle.model_commands.specs.Theories.{ProcedureOf}
 use Rattle.model_text.specs.Lexemes.{Lexeme, name_lexeme}
 use Rattle.model_grammar.specs.Words.{the, ◌⌢◌}
-use Rattle.model_grammar.specs.Writing.{Each, in_brackets, data_sort_lexemes, declaration_lexemes, formula_lexemes, command_lexemes, step_line, procedure_lines, all_lexemes}
+use Rattle.model_grammar.specs.Writing.{in_brackets, command_lexemes}
+use Rattle.model_grammar.specs.TheoryWriting.{data_sort_lexemes, declaration_lexemes, formula_lexemes, step_line, procedure_lines, all_lexemes}
+use Rattle.model_grammar.specs.Writable.{Each}
 
 -- what holds of each part of two lists
 pub each_append : {A : Type 0} (Can : A → Type 0) (xs ys : List A) → Each Can xs → Each Can ys

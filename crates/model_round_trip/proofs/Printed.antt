@@ -7,7 +7,9 @@ use Rattle.model_grammar.specs.Words.{the}
 use Rattle.model_text.specs.Lexemes.{Lexeme, terminal, step_word, name_lexeme, is_reserved, word_lexeme}
 use Rattle.model_text.specs.Versions.{insert_word}
 use Rattle.model_text.proofs.OfTokens.{is_seen}
-use Rattle.model_grammar.specs.Writing.{in_brackets, number_lexemes, word_lexemes, argument_lexemes, reason_lexemes, judgement_lexemes, logic_line, step_line, procedure_lines, procedures_lines, theory_lines, Each}
+use Rattle.model_grammar.specs.Writing.{in_brackets}
+use Rattle.model_grammar.specs.TheoryWriting.{number_lexemes, word_lexemes, argument_lexemes, reason_lexemes, judgement_lexemes, logic_line, step_line, procedure_lines, procedures_lines, theory_lines}
+use Rattle.model_grammar.specs.Writable.{Each}
 use Rattle.model_printing.specs.Printable.{IsPrintable, ArePrintable, HasNoLine}
 use Rattle.model_round_trip.specs.Writable.{IsWord, IsNumeral, IsWritableReason, IsWritableStep, IsWritableProcedure, IsWritableTheory}
 use Rattle.model_round_trip.specs.Literals.{LiteralIsUtf8, LiteralsAreUtf8}

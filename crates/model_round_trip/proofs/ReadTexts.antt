@@ -13,7 +13,9 @@ use Rattle.model_grammar.specs.Words.{the, ◌⌢◌}
 use Rattle.model_grammar.specs.Terms.{SpellsName, a_name}
 use Rattle.model_grammar.specs.Theories as files
 use Rattle.model_grammar.specs.Theories.{small_number, SpellsReason, SpellsStep, SpellsSteps, SpellsProcedure, SpellsProcedures, SpellsLogicLine, SpellsLogicLines, SpellsRaw, SpellsTheory}
-use Rattle.model_grammar.specs.Writing.{data_sort_lexemes, in_brackets, number_lexemes, word_lexemes, sort_lexemes, argument_lexemes, reason_lexemes, judgement_lexemes, declaration_lexemes, logic_line, step_line, procedure_lines, procedures_lines, theory_lines, Each}
+use Rattle.model_grammar.specs.Writing.{in_brackets}
+use Rattle.model_grammar.specs.TheoryWriting.{data_sort_lexemes, number_lexemes, word_lexemes, sort_lexemes, argument_lexemes, reason_lexemes, judgement_lexemes, declaration_lexemes, logic_line, step_line, procedure_lines, procedures_lines, theory_lines}
+use Rattle.model_grammar.specs.Writable.{Each}
 use Rattle.model_round_trip.specs.Literals.{LiteralIsUtf8, LiteralsAreUtf8}
 use Rattle.model_round_trip.proofs.OneSpelling.{formula_written, command_written, data_sort_written, sort_written, declarations_written, numbers_written, arguments_written, judgement_written}
 use Rattle.model_round_trip.proofs.Parts.{each_append, each_split}
@@ -91,7 +93,8 @@ module _ (v : ℕ) (Can : Lexeme → Type 0)
           two_read (reason_lexemes v r) (the ":" ⌢ judgement_lexemes w ⌢ the ";")
               (reason_read m x.0) (
                 x.1.0,
-                two_read (judgement_lexemes w) (the ";") (as_read Can (judgement_written n) y.0) y.1,
+                two_read (judgement_lexemes w) (the ";") (as_read Can (judgement_written n) y.0)
+                    y.1,
               ),
         ),
       )

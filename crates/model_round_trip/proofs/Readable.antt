@@ -19,7 +19,7 @@ use Rattle.model_grammar.specs.Commands as c
 use Rattle.model_grammar.specs.Commands.{Listed, Bracketed, SpellsVariable, SpellsCondition, SpellsCommand, SpellsBlock, SpellsCommands}
 use Rattle.model_grammar.specs.Theories as files
 use Rattle.model_grammar.specs.Theories.{SpellsAnyWord, SpellsNumber, SpellsDeclaration, SpellsArguments, SpellsReason, SpellsJudgement, SpellsStep, SpellsSteps, SpellsProcedure, SpellsProcedures, SpellsLogicLine, SpellsLogicLines, SpellsRaw, SpellsTheory}
-use Rattle.model_grammar.specs.Writing.{Each, IsName, IsLogicName, IsWritableName, IsWritableTerm, IsWritable, IsWritableCondition, IsWritableCommand, IsWritableBlock, AreWritable}
+use Rattle.model_grammar.specs.Writable.{Each, IsName, IsLogicName, IsWritableName, IsWritableTerm, IsWritable, IsWritableCondition, IsWritableCommand, IsWritableBlock, AreWritable}
 use Rattle.model_round_trip.specs.Writable.{IsWord, IsNumeral, IsDeclarable, IsShapeSort, IsWritableReason, IsWritableJudgement, IsWritableStep, IsWritableProcedure, HasOne, IsWritableTheory}
 use Rattle.model_round_trip.proofs.Parts.{each_append, each_split}
 use Rattle.model_round_trip.proofs.Tokens.{name_of_token, logic_of_token, name_is_word, reserved_is_word, step_is_word}

@@ -6,7 +6,8 @@ use Rattle.model_commands.specs.Theories.{StepOf, ProcedureOf, Theory}
 use Rattle.model_text.specs.Lexemes.{Lexeme}
 use Rattle.model_text.specs.Tokens.{newline}
 use Rattle.model_grammar.specs.Words.{the, ◌⌢◌}
-use Rattle.model_grammar.specs.Writing.{text_of, text_of_lines, number_lexemes, logic_line, step_line, procedure_lines, procedures_lines, theory_lines, theory_text}
+use Rattle.model_grammar.specs.Writing.{text_of}
+use Rattle.model_grammar.specs.TheoryWriting.{text_of_lines, number_lexemes, logic_line, step_line, procedure_lines, procedures_lines, theory_lines, theory_text}
 use Rattle.model_round_trip.specs.ReadBack.{step_without_line, procedure_without_lines, without_lines}
 use Rattle.model_round_trip.proofs.Parts.{header_lines}
 
@@ -51,7 +52,8 @@ lines_unseen t =
     let logics : List (List Lexeme) = map logic_line t.logic in
     by_texts (theory_lines (without_lines t))
     ∙ (ap ended (λ j. text_of (the "domlogic" ⌢ number_lexemes t.version)
-    ∷ (map-append text_of logics (procedures_lines t.version (map procedure_without_lines t.procedures))
+    ∷ (map-append text_of logics
+    (procedures_lines t.version (map procedure_without_lines t.procedures))
     ∙ ((λ i. texts logics ++ same_procedures t.version t.procedures i)
     ∙ sym (map-append text_of logics (procedures_lines t.version t.procedures)))) j)
     ∙ sym (by_texts (theory_lines t)))

@@ -10,7 +10,8 @@ use Rattle.model_commands.specs.Theories.{JudgementOf, entails, triple, Reason, 
 use Rattle.model_text.specs.Lexemes.{Lexeme, name_lexeme, step_word}
 use Rattle.model_grammar.specs.Words.{the, ◌⌢◌}
 use Rattle.model_grammar.specs.Sorts.{Declared, sorted_name, sorted_var, sorted_term, sorted_formula, sorted_cond, sorted_command, sorted_block, sorted_reason, sorted_judgement, sorted_step, declared_in, sorted_procedure, with_sorts}
-use Rattle.model_grammar.specs.Writing.{name_lexemes, var_lexemes, term_lexemes, braced, bracketed, quantified, star_sign, at_sign, into_sign, formula_lexemes, cond_lexemes, value_sort_lexemes, in_brackets, command_lexemes, block_lexemes, further_commands, argument_lexemes, reason_lexemes, word_lexemes, judgement_lexemes, sort_lexemes, data_sort_lexemes, step_line, procedure_lines, procedures_lines, declaration_lexemes, theory_lines, number_lexemes, logic_line}
+use Rattle.model_grammar.specs.Writing.{name_lexemes, var_lexemes, term_lexemes, braced, bracketed, cond_lexemes, value_sort_lexemes, in_brackets, command_lexemes, block_lexemes, further_commands}
+use Rattle.model_grammar.specs.TheoryWriting.{quantified, star_sign, at_sign, into_sign, formula_lexemes, argument_lexemes, reason_lexemes, word_lexemes, judgement_lexemes, sort_lexemes, data_sort_lexemes, step_line, procedure_lines, procedures_lines, declaration_lexemes, theory_lines, number_lexemes, logic_line}
 use Rattle.model_round_trip.proofs.Resorted.{map_twice, procedure_with}
 
 abbrev left_set : List Lexeme → List Lexeme → List Lexeme
@@ -158,7 +159,8 @@ module _ (d : Declared) where
       ⌢ data_sort_lexemes f.sort)
       ∷ (the "requires" ⌢ formula_kept f.pre j) ∷ (the "ensures" ⌢ formula_kept f.post j)
       ∷ (the "body" ⌢ command_kept f.body j) ∷ the "proof"
-      ∷ (map_twice (step_line v) (sorted_step d) (step_line v) (step_kept v) f.proof j ++ the "end" ∷ [])
+      ∷ (map_twice (step_line v) (sorted_step d) (step_line v) (step_kept v) f.proof j
+      ++ the "end" ∷ [])
 
 procedures_kept : (v : ℕ) (logics : List Var) (fs : List (ProcedureOf Named))
     → procedures_lines v (map (sorted_procedure logics) fs) ≡ procedures_lines v fs
@@ -169,4 +171,5 @@ procedures_kept v logics (f ∷ fs) =
 pub theory_kept : (theory : Theory) → theory_lines (with_sorts theory) ≡ theory_lines theory
 theory_kept theory =
     λ j. (the "domlogic" ⌢ number_lexemes theory.version)
-    ∷ (map logic_line theory.logic ++ procedures_kept theory.version theory.logic theory.procedures j)
+    ∷ (map logic_line theory.logic
+    ++ procedures_kept theory.version theory.logic theory.procedures j)

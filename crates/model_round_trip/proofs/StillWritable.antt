@@ -9,7 +9,7 @@ use Rattle.model_commands.specs.Commands.{Command, skip, block, assign, create_n
 use Rattle.model_commands.specs.Theories.{JudgementOf, entails, triple, Reason, auto, by_rule, StepOf, ProcedureOf, Theory}
 use Rattle.model_grammar.specs.Terms.{Place, in_formula, in_command}
 use Rattle.model_grammar.specs.Sorts.{Declared, sorted_name, sorted_var, sorted_term, sorted_formula, sorted_cond, sorted_command, sorted_block, sorted_reason, sorted_judgement, sorted_step, declared_in, sorted_procedure, with_sorts}
-use Rattle.model_grammar.specs.Writing.{Each, IsWritableName, IsLogic, IsLogicTerm, IsWritableTerm, IsWritable, IsWritableCondition, IsWritableCommand, IsWritableBlock, AreWritable}
+use Rattle.model_grammar.specs.Writable.{Each, IsWritableName, IsLogic, IsLogicTerm, IsWritableTerm, IsWritable, IsWritableCondition, IsWritableCommand, IsWritableBlock, AreWritable}
 use Rattle.model_round_trip.specs.Writable.{IsWritableReason, IsWritableJudgement, IsWritableStep, IsWritableProcedure, HasOne, IsWritableTheory}
 use Rattle.model_text.specs.Versions.{IsOfVersion}
 use Rattle.model_round_trip.proofs.Resorted.{procedure_with}

@@ -8,7 +8,7 @@ use Rattle.model_text.specs.Lexemes.{Lexeme, terminal, step_word, name_lexeme, l
 use Rattle.model_text.specs.Nesting.{lexemes_of}
 use Rattle.model_text.specs.FaultTokens.{IsOfToken, AreOfTokens}
 use Rattle.model_text.proofs.Computing.{lexing}
-use Rattle.model_grammar.specs.Writing.{IsName, IsLogicName}
+use Rattle.model_grammar.specs.Writable.{IsName, IsLogicName}
 use Rattle.model_printing.specs.Printable.{IsPrintable}
 use Rattle.model_printing.proofs.Found.{token_printable}
 use Rattle.model_round_trip.specs.Writable.{IsWord}

@@ -9,7 +9,9 @@ use Rattle.model_text.specs.FaultTokens.{IsOfToken, AreOfTokens}
 use Rattle.model_text.specs.Versions.{insert_word, reserving, seen_in, in_its_version, IsOfVersion}
 use Rattle.model_text.proofs.Computing.{lexing}
 use Rattle.model_text.proofs.Versions.{either_same}
-use Rattle.model_grammar.specs.Writing.{Each, IsName, printed, spaced, text_of, text_of_lines}
+use Rattle.model_grammar.specs.Writing.{printed, spaced, text_of}
+use Rattle.model_grammar.specs.TheoryWriting.{text_of_lines}
+use Rattle.model_grammar.specs.Writable.{Each, IsName}
 use Rattle.model_printing.specs.Printable.{without_line}
 use Rattle.model_round_trip.specs.Writable.{IsWord}
 use Rattle.model_round_trip.proofs.Tokens.{word_by, printable}

@@ -16,7 +16,9 @@ use Rattle.model_grammar.specs.Commands.{Listed, last_item, more_items, Brackete
 use Rattle.model_grammar.specs.Theories as files
 use Rattle.model_grammar.specs.Theories.{SpellsAnyWord, SpellsNumber, small_number, SpellsDeclaration, declaration, SpellsArguments, SpellsReason, SpellsJudgement, SpellsStep, SpellsSteps, SpellsProcedure, SpellsProcedures, SpellsLogicLines, SpellsRaw, SpellsTheory}
 use Rattle.model_grammar.specs.Sorts.{sorted_formula, sorted_command, sorted_term, sorted_reason, sorted_judgement, sorted_step, with_sorts}
-use Rattle.model_grammar.specs.Writing.{undeclared, formula_lexemes, command_lexemes, term_lexemes, value_sort_lexemes, behind_commas, in_brackets, data_sort_lexemes, sort_lexemes, declaration_lexemes, number_lexemes, word_lexemes, argument_lexemes, reason_lexemes, judgement_lexemes, logic_line, step_line, procedure_lines, procedures_lines, theory_lines, all_lexemes, Each, IsWritableName, IsWritableTerm}
+use Rattle.model_grammar.specs.Writing.{command_lexemes, term_lexemes, value_sort_lexemes, behind_commas, in_brackets}
+use Rattle.model_grammar.specs.TheoryWriting.{formula_lexemes, data_sort_lexemes, sort_lexemes, declaration_lexemes, number_lexemes, word_lexemes, argument_lexemes, reason_lexemes, judgement_lexemes, logic_line, step_line, procedure_lines, procedures_lines, theory_lines, all_lexemes}
+use Rattle.model_grammar.specs.Writable.{undeclared, Each, IsWritableName, IsWritableTerm}
 use Rattle.model_grammar.proofs.Spelled.{term_spelled, formula_spelled, command_spelled}
 use Rattle.model_round_trip.specs.Writable.{IsNumeral, IsDeclarable, IsShapeSort, IsWritableReason, IsWritableJudgement, IsWritableStep, IsWritableProcedure, HasOne, IsWritableTheory}
 use Rattle.model_text.specs.Versions.{insert_word, reserving, IsOfVersion}
@@ -224,8 +226,8 @@ procedure_spelled v f h =
     subst (SpellsProcedure (procedure_with undeclared f)) (sym (in_a_row v f))
     (procedure_around f h (steps_spelled v f.proof h.proof))
 
-procedures_spelled : (v : ℕ) (fs : List (ProcedureOf Named)) → HasOne fs → Each IsWritableProcedure fs
-    → SpellsProcedures (map (procedure_with undeclared) fs) (all_lexemes (procedures_lines v fs))
+procedures_spelled : (v : ℕ) (fs : List (ProcedureOf Named)) → HasOne fs
+    → Each IsWritableProcedure fs → SpellsProcedures (map (procedure_with undeclared) fs) (all_lexemes (procedures_lines v fs))
 procedures_spelled v [] one h = absurd one
 procedures_spelled v (f ∷ []) one h =
     subst (SpellsProcedures (procedure_with undeclared f ∷ []))

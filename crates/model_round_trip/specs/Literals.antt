@@ -3,7 +3,7 @@
 use Rattle.std.specs.Prelude.{List}
 use Rattle.std.specs.Str.{IsUtf8}
 use Rattle.model_text.specs.Lexemes.{Lexeme, literal_lexeme}
-use Rattle.model_grammar.specs.Writing.{Each}
+use Rattle.model_grammar.specs.Writable.{Each}
 
 -- a literal stands for a text that is UTF-8; the other lexemes have none
 abbrev pub LiteralIsUtf8 : Lexeme → Type 0

@@ -10,7 +10,8 @@ use Rattle.model_text.specs.Lexemes.{word_lexeme}
 use Rattle.model_text.specs.Versions.{IsOfVersion}
 use Rattle.model_text.specs.Nesting.{lexemes_of}
 use Rattle.model_grammar.specs.Terms.{in_formula}
-use Rattle.model_grammar.specs.Writing.{Each, IsName, IsWritableName, IsLogic, IsWritableTerm, IsWritable, IsWritableCommand, theory_lines}
+use Rattle.model_grammar.specs.TheoryWriting.{theory_lines}
+use Rattle.model_grammar.specs.Writable.{Each, IsName, IsWritableName, IsLogic, IsWritableTerm, IsWritable, IsWritableCommand}
 
 -- the name is one word, reserved or not
 abbrev pub IsWord : List ℕ → Type 0

@@ -72,11 +72,13 @@ nat-is i j e = search rules
 pub nat-refl : (i : ℕ) → (i == i) ≡ true
 nat-refl i = search rules
 
-int-is : (a b : ℤ) → int_eq a b ≡ true → a ≡ b
+-- the test of integers
+pub int-is : (a b : ℤ) → int_eq a b ≡ true → a ≡ b
 int-is a b e = let h : (int_le a b ≡ true) × (int_le b a ≡ true) =
     both_true (int_le a b) (int_le b a) e in search (rules, ints)
 
-int-refl : (a : ℤ) → int_eq a a ≡ true
+-- of each and itself
+pub int-refl : (a : ℤ) → int_eq a a ≡ true
 int-refl a = search (rules, ints)
 
 same_bool-is : (a b : Bool) → same_bool a b ≡ true → a ≡ b

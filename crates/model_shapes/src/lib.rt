@@ -3,10 +3,10 @@
 //! Stands on std alone.
 #![tactic(auto)]
 
-ghost use Rattle.std.specs.Prelude.{◌≡◌, ◌↔◌, true};
+ghost use Rattle.std.specs.Prelude.{◌≡◌, ◌↔◌, true, ℤ};
 ghost use Rattle.model_shapes.specs.Sorts.{ValueSort, DataSort, tree, forest, grove, Sort, shape, context, with_outer, is_sort};
 ghost use Rattle.model_shapes.specs.Values.{Value};
-ghost use Rattle.model_shapes.specs.Tests.{same_value_sort, same_data_sort, same_sort, same_value};
+ghost use Rattle.model_shapes.specs.Tests.{same_value_sort, same_data_sort, same_sort, int_eq, same_value};
 ghost use Rattle.model_shapes.specs.Trees.{Trees, none, hole, beside, fill, WellFormed};
 ghost use Rattle.model_shapes.specs.Shapes.{holes, Shaped, Same, SameAt};
 ghost use Rattle.model_shapes.specs.Things.{Thing, trees, Fits};
@@ -24,6 +24,7 @@ pub fn tests_are_of_equality()
     ensures value_sorts { (a b : ValueSort) → ((same_value_sort a b ≡ true) ↔ (a ≡ b)) }
     ensures data_sorts { (a b : DataSort) → ((same_data_sort a b ≡ true) ↔ (a ≡ b)) }
     ensures sorts { (a b : Sort) → ((same_sort a b ≡ true) ↔ (a ≡ b)) }
+    ensures integers { (a b : ℤ) → ((int_eq a b ≡ true) ↔ (a ≡ b)) }
     ensures values { (a b : Value) → ((same_value a b ≡ true) ↔ (a ≡ b)) }
 {}
 

@@ -58,8 +58,8 @@ no_longer L ts p (t ∷ s) e dead le x =
     let y : Begins L (p ++ (t ∷ [])) = subst (λ (z : List Lexeme). Begins L z) h x in
     dead t s refl y.0 y.1 (subst (λ (z : List Lexeme). L y.0 z) (append_assoc p (t ∷ []) y.1) y.2)
 
-pub cut_fault : {A : Type 0} (L : A → List Lexeme → Type 0) (ts p rest : List Lexeme) → AreOfTokens ts
-    → ts ≡ p ++ rest → Begins L p
+pub cut_fault : {A : Type 0} (L : A → List Lexeme → Type 0) (ts p rest : List Lexeme)
+    → AreOfTokens ts → ts ≡ p ++ rest → Begins L p
     → ((t : Lexeme) (s : List Lexeme) → rest ≡ t ∷ s → (a : A) (u : List Lexeme)
     → L a (p ++ (t ∷ u)) → ⊥)
     → IsFaultToken L ts (suc (length p))

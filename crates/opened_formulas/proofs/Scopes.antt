@@ -9,7 +9,8 @@ use Rattle.model_terms.specs.Terms.{Term, variable, raised, raised_var, Substitu
 use Rattle.model_formulas.specs.Formulas.{Named, Formula, existential}
 use Rattle.model_formulas.specs.Nameless.{nameless, walked}
 use Rattle.model_formulas.specs.SameFormulas.{same_term, same_formula}
-use Rattle.model_formulas.specs.Substitution.{formula_with, closing, closing_at}
+use Rattle.model_formulas.specs.Substitution.{formula_with, closing}
+use Rattle.model_formulas.specs.Deciding.{closing_at}
 use Rattle.model_formulas.proofs.Nameless.{then_with, formula-then, nameless-exists}
 use Rattle.dom_terms.specs.Terms.{logic_var_of, term_of}
 use Rattle.formula_syntax.specs.FreeVariables.{is_among, variables_of_term}

@@ -5,10 +5,6 @@ pub mod SortReader
 pub mod StepReader
 pub mod TheoryReader
 pub mod Exact
-pub mod MarkLemmas
-pub mod ConditionSizes
-pub mod LineLemmas
 pub mod SortedReader
 pub mod JudgedLoops
 pub mod HeldLoops
-pub mod WrittenTexts

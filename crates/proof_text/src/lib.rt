@@ -1,10 +1,8 @@
-//! Theories from tokens and back to text; commands as text. Promises that a list of tokens is read
-//! as the theory that it spells by the grammar, each variable with the sort of its declaration, and
-//! refused exactly where it spells none, at the fault token; and that theories and commands are
-//! printed byte by byte as their definitions say. Reading also hands on what a judge tells of each
-//! step while it is at hand.
-//! Stands on the readers of tokens, the types of theories, the readers and writers of formulas, the
-//! walk that sets sorts, the grammar, what is said of cited steps and the table of rules.
+//! Theories from tokens. Promises that a list of tokens is read as the theory that it spells by the
+//! grammar, each variable with the sort of its declaration, and refused exactly where it spells none,
+//! at the fault token. Reading also hands on what a judge tells of each step while it is at hand.
+//! Stands on the readers of tokens, the types of theories, the readers of formulas, the walk that
+//! sets sorts, the grammar, what is said of cited steps and the table of rules.
 #![tactic(auto)]
 
 mod bracketed;
@@ -13,16 +11,11 @@ mod conditions;
 mod declarations;
 mod judgements;
 mod judging;
-mod lines;
 mod logics;
 mod procedures;
 mod sorts;
 mod steps;
 mod theories;
-mod writing;
-mod written;
 
 pub use judging::{NoJudge, StepJudge};
-pub use lines::write_theory;
 pub use theories::{MOST_DEPTH, ReadTheory, one_theory, read_theory, theory_from};
-pub use writing::{push_command, write_command};

@@ -2,7 +2,7 @@
 -- that those of the program stand for, and what it says of words.
 use Rattle.std.specs.Prelude.{◌≡◌, ◌≤◌, Result, Ok, Err, Option, Some, None}
 use Rattle.model_answers.specs.Words as model
-use Rattle.model_generator.specs.Generated.{most_makers}
+use Rattle.model_generator.specs.Made.{most_makers}
 use Rattle.request_words.specs.declared.requests.Request.{Request}
 use Rattle.request_words.specs.declared.requests.Request.TheVariants as r
 use Rattle.request_words.specs.declared.requests.WordFault.{WordFault}

@@ -3,7 +3,7 @@ ghost use Rattle.std.specs.Prelude.{◌≡◌, ◌≤◌, ℕ, IfOk, IfSome, map
 ghost use Rattle.std.specs.Option.{option_map};
 ghost use Rattle.model_answers.specs.Words as model;
 ghost use Rattle.model_answers.specs.Words.{check_of, run_of, count_of, reading_of};
-ghost use Rattle.model_generator.specs.Generated.{most_makers};
+ghost use Rattle.model_generator.specs.Made.{most_makers};
 ghost use Rattle.request_words.specs.Requests.{Reads, Counts};
 ghost use Rattle.request_words.specs.declared.requests.WordFault.TheVariants.{OutOfMemory};
 

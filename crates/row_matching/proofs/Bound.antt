@@ -10,7 +10,8 @@ use Rattle.model_terms.specs.Terms.{Term, variable, raised, InTerm, under_binder
 use Rattle.model_formulas.specs.Formulas.{Formula, Named}
 use Rattle.model_formulas.specs.Nameless.{nameless, walked}
 use Rattle.model_formulas.specs.SameFormulas.{same_formula}
-use Rattle.model_formulas.specs.Substitution.{formula_with, FreeIn, closing, closing_at, replacing, exists}
+use Rattle.model_formulas.specs.Substitution.{formula_with, FreeIn, closing, replacing, exists}
+use Rattle.model_formulas.specs.Deciding.{closing_at}
 use Rattle.model_formulas.proofs.Nameless.{formula-then, formula-variable}
 use Rattle.model_formulas.proofs.Renaming.{exists-renamed}
 use Rattle.model_formulas.proofs.SameFormulas.{same_formula-is, same_formula-refl}

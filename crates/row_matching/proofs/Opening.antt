@@ -9,7 +9,8 @@ use Rattle.model_terms.specs.VariableTests.{same_var, same_var-is, same_var-not,
 use Rattle.model_terms.specs.Terms.{Term, variable, under_binder, term_with}
 use Rattle.model_formulas.specs.Formulas.{Formula, Named, existential}
 use Rattle.model_formulas.specs.Nameless.{naming, walked, nameless}
-use Rattle.model_formulas.specs.Substitution.{formula_with, closing, replacing, replacing_at}
+use Rattle.model_formulas.specs.Substitution.{formula_with, closing, replacing}
+use Rattle.model_formulas.specs.Deciding.{replacing_at}
 use Rattle.model_formulas.proofs.Nameless.{term-variable, formula-variable, nameless-exists}
 use Rattle.model_shapes.proofs.Tests.{nat-refl}
 use Rattle.dom_terms.specs.declared.terms.Term as program

@@ -4,7 +4,8 @@ use mathlib.Core.Path.{fun_ext}
 use Rattle.model_terms.specs.Variables.{Var, prog, logic, bound}
 use Rattle.model_terms.specs.VariableTests.{var_eq}
 use Rattle.model_terms.specs.Terms.{Term, literal, variable, sum, difference, appended, raised, Substitution, under_binder, term_with}
-use Rattle.model_formulas.specs.Substitution.{closing, closing_at}
+use Rattle.model_formulas.specs.Substitution.{closing}
+use Rattle.model_formulas.specs.Deciding.{closing_at}
 use Rattle.model_formulas.proofs.Nameless.{then_with}
 use Rattle.rule_table.proofs.Opening.{opening}
 use Rattle.rule_patterns.specs.Trees.{Tree, var, leaf, one, two, three, four, bind, tree_with}

@@ -8,7 +8,8 @@ use Rattle.model_terms.specs.Variables.{Var, prog, logic, bound}
 use Rattle.model_terms.specs.VariableTests.{var_eq}
 use Rattle.model_terms.specs.Terms.{Term, literal, variable, sum, difference, appended, raised, Substitution, under_binder, term_with, InTerm}
 use Rattle.model_formulas.specs.Formulas.{Formula, truth, falsity, conjunction, disjunction, implication, negation, existential, universal, equality, at_most, empty, bare_hole, node_formula, one_tree, one_root, concatenation, grove_sum, grove_sum_hole, application, hole_adjoint, context_adjoint, same_as, length_is, value_meets}
-use Rattle.model_formulas.specs.Substitution.{formula_with, FreeIn, closing, closing_at, replacing, replacing_at}
+use Rattle.model_formulas.specs.Substitution.{formula_with, FreeIn, closing, replacing}
+use Rattle.model_formulas.specs.Deciding.{closing_at, replacing_at}
 use Rattle.model_terms.specs.TermSorts.{has_sort}
 use Rattle.model_formulas.specs.WellSorted.{variable_at}
 use Rattle.model_formulas.proofs.Nameless.{then_with}

@@ -6,7 +6,8 @@ use Rattle.model_terms.specs.Variables.{Var, prog, logic, bound}
 use Rattle.model_terms.specs.VariableTests.{var_eq}
 use Rattle.model_terms.specs.Terms.{Term, variable, raised, Substitution, term_with}
 use Rattle.model_formulas.specs.Formulas.{Formula}
-use Rattle.model_formulas.specs.Substitution.{formula_with, closing, closing_at, replacing, replacing_at}
+use Rattle.model_formulas.specs.Substitution.{formula_with, closing, replacing}
+use Rattle.model_formulas.specs.Deciding.{closing_at, replacing_at}
 use Rattle.model_formulas.proofs.Nameless.{formula-then}
 use Rattle.rule_table.specs.Letters.{LogicVar, as_logic}
 use Rattle.rule_table.specs.Notation.{instead}

@@ -5,7 +5,8 @@ use Rattle.model_terms.specs.Variables.{Var, logic, bound, var_sort}
 use Rattle.model_terms.specs.Terms.{variable, raised_var}
 use Rattle.model_terms.specs.VariableTests.{var_eq}
 use Rattle.model_formulas.specs.Formulas.{existential, at_most, node_formula, one_tree, one_root, concatenation, grove_sum, conjunction, whole, same_as, length_is}
-use Rattle.model_formulas.specs.Nameless.{nameless, names, name_or}
+use Rattle.model_formulas.specs.Nameless.{nameless, names}
+use Rattle.model_formulas.specs.Deciding.{name_or}
 use Rattle.rule_table.specs.Closed.{number, some_node, first_and_rest, root_and_rest, some_length}
 
 -- a variable below its own binder

@@ -5,7 +5,8 @@ use Rattle.model_terms.specs.Variables.{Var, logic}
 use Rattle.model_terms.specs.Terms.{Term, variable}
 use Rattle.model_terms.specs.VariableTests.{var_eq}
 use Rattle.model_formulas.specs.Formulas.{Formula, conjunction, equality}
-use Rattle.model_formulas.specs.Substitution.{replacing, replacing_at}
+use Rattle.model_formulas.specs.Substitution.{replacing}
+use Rattle.model_formulas.specs.Deciding.{replacing_at}
 use Rattle.model_commands.specs.Theories.{Judgement, entails}
 use Rattle.rule_table.specs.Letters.{Letters, as_logic}
 use Rattle.rule_table.specs.Notation.{instead}

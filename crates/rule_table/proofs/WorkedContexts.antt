@@ -5,7 +5,8 @@ use Rattle.model_terms.specs.Terms.{variable}
 use Rattle.model_terms.specs.VariableTests.{var_eq}
 use Rattle.model_terms.specs.Variables.{logic}
 use Rattle.model_formulas.specs.Nameless.{nameless}
-use Rattle.model_formulas.specs.Substitution.{FreeIn, closing_at}
+use Rattle.model_formulas.specs.Substitution.{FreeIn}
+use Rattle.model_formulas.specs.Deciding.{closing_at}
 use Rattle.model_formulas.specs.Formulas.{Named, one_tree, concatenation, whole, disjunction, empty, Formula, truth, existential, application, bare_hole, hole_adjoint, context_adjoint, same_as}
 use Rattle.model_commands.specs.Theories.{entails}
 use Rattle.rule_table.specs.Letters.{Letters, LogicVar, as_logic, as_term}

@@ -5,7 +5,8 @@ use Rattle.model_shapes.specs.Values.{Name, null}
 use Rattle.model_terms.specs.Terms.{literal, variable}
 use Rattle.model_terms.specs.Variables.{bound}
 use Rattle.model_terms.specs.VariableTests.{var_eq}
-use Rattle.model_formulas.specs.Substitution.{FreeIn, closing, closing_at, formula_with}
+use Rattle.model_formulas.specs.Substitution.{FreeIn, closing, formula_with}
+use Rattle.model_formulas.specs.Deciding.{closing_at}
 use Rattle.model_formulas.specs.Formulas.{Formula, truth, negation, existential, universal, equality, empty, same_as}
 use Rattle.model_commands.specs.Theories.{Judgement, entails}
 use Rattle.rule_table.specs.Letters.{Letters, LogicVar, as_logic, as_term}

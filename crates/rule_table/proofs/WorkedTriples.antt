@@ -6,7 +6,8 @@ use Rattle.model_shapes.proofs.Truth.{false≢true}
 use Rattle.model_terms.specs.VariableTests.{same_var}
 use Rattle.model_terms.specs.Terms.{Term, literal, InTerm}
 use Rattle.model_terms.specs.VariableTests.{var_eq}
-use Rattle.model_formulas.specs.Substitution.{FreeIn, closing_at, formula_with}
+use Rattle.model_formulas.specs.Substitution.{FreeIn, formula_with}
+use Rattle.model_formulas.specs.Deciding.{closing_at}
 use Rattle.model_formulas.specs.Formulas.{Formula, whole, truth, falsity, conjunction, negation, equality, at_most, existential, hole_adjoint, same_as, application, empty, bare_hole, node_formula, one_tree, one_root, concatenation, grove_sum}
 use Rattle.model_terms.specs.Stores.{ProgVar, named, as_var}
 use Rattle.model_commands.specs.Commands.{Command, Modifies, skip, assign, call, node_name, parent_node, append_child, remove_child}

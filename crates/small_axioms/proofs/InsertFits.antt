@@ -1,5 +1,5 @@
--- A triple has the conclusion of a line of insertBefore that is read off where its formulas are those
--- that are asked for over its parts.
+-- A triple has the conclusion of a line of insertBefore that is read off where its formulas are
+-- those that are asked for over its parts.
 use Rattle.std.proofs.Common.{◌≡◌, sym, ap, ◌∙◌, subst, Bool}
 use Rattle.model_shapes.specs.Sorts.{DataSort, tree, forest, grove}
 use Rattle.model_shapes.specs.Values.{null}

@@ -28,7 +28,8 @@ fn is_null_equation(left: &Term, p: &Formula) -> bool
     }
 }
 
-/// Whether the formula is what holds before a node is moved and put last, out of a hole of the sort.
+/// Whether the formula is what holds before a node is moved and put last, out of a hole of this
+/// sort.
 pub(crate) fn is_last_pre(
     hole: DataSort,
     parts: &Appended,
@@ -112,7 +113,8 @@ fn is_child_before(
     }
 }
 
-/// Whether the formula is what holds before a node is put before another, out of a hole of the sort.
+/// Whether the formula is what holds before a node is put before another, out of a hole of this
+/// sort.
 pub(crate) fn is_before_pre(
     hole: DataSort,
     parts: &Inserted,

@@ -1,6 +1,6 @@
 //! The axioms of the commands of the document, and whether a triple is an instance of one.
-//! Promises the verdict of the table of rules on what is written at a step, by any of the eleven. No
-//! memory is taken. Stands on the theories of the program and on rule_table.
+//! Promises the verdict of the table of rules on what is written at a step, by any of the eleven.
+//! No memory is taken. Stands on the theories of the program and on rule_table.
 #![tactic(auto)]
 
 mod axioms;

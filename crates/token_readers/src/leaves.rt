@@ -21,8 +21,8 @@ fn word_of(token: Lexeme) -> Option<&str>
 {
     match token.kind {
         TokenKind::Word => Some(token.text),
-        // no symbol that is read from bytes is a reserved word, but one made by hand may be, and the
-        // word that version 2 reserves is lent as one
+        // no symbol that is read from bytes is a reserved word, but one made by hand may be, and
+        // the word that version 2 reserves is lent as one
         TokenKind::Symbol if is_reserved(token.text) || is_insert(token.text) => Some(token.text),
         _ => None,
     }

@@ -143,6 +143,6 @@ axiom-holds theory w name written fit i =
     (λ n. named-instance (in_steps ps n) axioms (axioms-sound ps bodies n) name written []
     (fitting-judgement ps n written.conclusion fit) (axiom-cites-nothing name written i) tt i)
 
-pub axiom-anywhere : (name : Name) (written : Written) → IsInstance (readings_in axioms name) written
-    → HoldsAnywhere written.conclusion
+pub axiom-anywhere : (name : Name) (written : Written)
+    → IsInstance (readings_in axioms name) written → HoldsAnywhere written.conclusion
 axiom-anywhere name written i theory w fit = axiom-holds theory w name written fit i

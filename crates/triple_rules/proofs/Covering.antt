@@ -10,7 +10,8 @@ use Rattle.model_terms.specs.Terms.{Term, literal, variable, sum, difference, ap
 use Rattle.model_formulas.specs.Formulas.{Formula, truth, falsity, conjunction, disjunction, implication, negation, existential, universal, equality, at_most, empty, bare_hole, node_formula, one_tree, one_root, concatenation, grove_sum, grove_sum_hole, application, hole_adjoint, context_adjoint, same_as, length_is, value_meets}
 use Rattle.model_formulas.specs.SameFormulas.{same_term}
 use Rattle.model_formulas.proofs.SameFormulas.{term-is, same_formula-both}
-use Rattle.model_formulas.specs.Substitution.{formula_with, replacing, replacing_at}
+use Rattle.model_formulas.specs.Substitution.{formula_with, replacing}
+use Rattle.model_formulas.specs.Deciding.{replacing_at}
 use Rattle.rule_table.specs.Letters.{LogicVar, as_logic}
 use Rattle.triple_rules.specs.Covered.{term_covers, covers}
 

@@ -13,7 +13,8 @@ use Rattle.model_terms.specs.Terms.{Term, variable, sum, difference, appended, r
 use Rattle.model_formulas.proofs.SameFormulas.{same_formula-is}
 use Rattle.model_formulas.specs.SameFormulas.{same_formula}
 use Rattle.model_formulas.specs.Formulas.{Formula}
-use Rattle.model_formulas.specs.Substitution.{formula_with, replacing, replacing_at}
+use Rattle.model_formulas.specs.Substitution.{formula_with, replacing}
+use Rattle.model_formulas.specs.Deciding.{replacing_at}
 use Rattle.model_formulas.specs.WellSorted.{variable_at}
 use Rattle.model_commands.specs.Commands.{Command}
 use Rattle.model_commands.specs.Theories.{Judgement, Step, entails, triple}

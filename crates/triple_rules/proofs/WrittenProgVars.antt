@@ -6,7 +6,8 @@ use Rattle.model_terms.specs.Variables.{Var, prog, logic, bound}
 use Rattle.model_terms.specs.VariableTests.{var_eq}
 use Rattle.model_terms.specs.Terms.{variable, raised_var, term_with}
 use Rattle.model_terms.specs.Stores.{ProgVar}
-use Rattle.model_formulas.specs.Nameless.{names, naming, name_or, nameless, walked}
+use Rattle.model_formulas.specs.Nameless.{names, naming, nameless, walked}
+use Rattle.model_formulas.specs.Deciding.{name_or}
 use Rattle.dom_terms.specs.Sorts.{sort_of}
 use Rattle.dom_terms.specs.Terms.{term_of, logic_var_of}
 use Rattle.dom_terms.specs.declared.terms.Term as rust_term

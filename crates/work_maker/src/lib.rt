@@ -3,7 +3,8 @@
 #![tactic(auto)]
 
 ghost use Rattle.std.specs.Prelude.{◌≡◌, ◌≤◌, IfOk};
-ghost use Rattle.model_generator.specs.Generated.{generated_theory, most_makers};
+ghost use Rattle.model_generator.specs.Made.{most_makers};
+ghost use Rattle.model_generator.specs.Generated.{generated_theory};
 ghost use Rattle.theory_syntax.specs.Theories.{theory_of};
 
 mod commands;

@@ -1,5 +1,6 @@
 use Rattle.model_text.specs.Nesting.{lexemes_of}
-use Rattle.model_grammar.specs.Writing.{formula_lexemes, text_of}
+use Rattle.model_grammar.specs.Writing.{text_of}
+use Rattle.model_grammar.specs.TheoryWriting.{formula_lexemes}
 use Rattle.model_round_trip.proofs.Laws.{formula_at, formula_reads, formula_reads_again}
 use Rattle.model_round_trip.proofs.printed_formulas_read_back.Goals as goal
 

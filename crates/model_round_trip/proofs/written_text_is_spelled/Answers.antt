@@ -1,4 +1,5 @@
-use Rattle.model_grammar.specs.Writing.{formula_lexemes, command_lexemes}
+use Rattle.model_grammar.specs.Writing.{command_lexemes}
+use Rattle.model_grammar.specs.TheoryWriting.{formula_lexemes}
 use Rattle.model_grammar.proofs.Spelled.{formula_spelled, command_spelled}
 use Rattle.model_round_trip.proofs.Laws.{formula_at, command_at}
 use Rattle.model_round_trip.proofs.Written.{theory_spelled}

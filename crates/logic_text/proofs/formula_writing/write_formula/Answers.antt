@@ -3,7 +3,8 @@ use Rattle.std.proofs.lemmas.Result.{IfOk-weaker}
 use Rattle.std.proofs.lemmas.Str.{IsUtf8-had}
 use Rattle.model_text.specs.Lexemes.{Lexeme}
 use Rattle.model_text.specs.Nesting.{lexemes_of}
-use Rattle.model_grammar.specs.Writing.{spaced, text_of, formula_lexemes}
+use Rattle.model_grammar.specs.Writing.{spaced, text_of}
+use Rattle.model_grammar.specs.TheoryWriting.{formula_lexemes}
 use Rattle.formula_syntax.specs.Formulas.{formula_of}
 use Rattle.logic_text.specs.DeclaredFormulas.{SpellsFormulaWith}
 use Rattle.logic_text.proofs.WrittenFormulas.{reads_back}

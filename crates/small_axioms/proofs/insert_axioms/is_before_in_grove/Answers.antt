@@ -21,10 +21,13 @@ returns c =
     (term-variable (term_of c.in-InsertBefore.child))
     (term-variable (term_of c.in-InsertBefore.next)) c.puts_before.result
     (nameless (formula_of c.first_part-held.result.now)) c.first_part-held.ensures
-    (nameless (formula_of c.inserted_parts-parts.result.context.now)) c.inserted_parts-parts.ensures.context
-    (plain c.inserted_parts-parts.result.mover.name.now) (plain c.inserted_parts-parts.result.mover.number.now)
+    (nameless (formula_of c.inserted_parts-parts.result.context.now))
+    c.inserted_parts-parts.ensures.context
+    (plain c.inserted_parts-parts.result.mover.name.now)
+    (plain c.inserted_parts-parts.result.mover.number.now)
     (plain c.inserted_parts-parts.result.mover.list.now)
-    (nameless (formula_of c.inserted_parts-parts.result.mover.children.now)) c.inserted_parts-parts.ensures.mover
+    (nameless (formula_of c.inserted_parts-parts.result.mover.children.now))
+    c.inserted_parts-parts.ensures.mover
     (command_of c.args.triple.now.command)
     (insert-seen c.args.triple.now.command c.in-InsertBefore.parent c.in-InsertBefore.child
     c.in-InsertBefore.next c.in-InsertBefore.is)

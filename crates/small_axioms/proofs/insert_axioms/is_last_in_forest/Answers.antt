@@ -21,10 +21,13 @@ returns c =
     (term-variable (term_of c.in-InsertBefore.child))
     (term-variable (term_of c.in-InsertBefore.next)) c.puts_last.result
     (nameless (formula_of c.first_part-held.result.now)) c.first_part-held.ensures
-    (nameless (formula_of c.appended_parts-parts.result.context.now)) c.appended_parts-parts.ensures.context
-    (plain c.appended_parts-parts.result.mover.name.now) (plain c.appended_parts-parts.result.mover.number.now)
+    (nameless (formula_of c.appended_parts-parts.result.context.now))
+    c.appended_parts-parts.ensures.context
+    (plain c.appended_parts-parts.result.mover.name.now)
+    (plain c.appended_parts-parts.result.mover.number.now)
     (plain c.appended_parts-parts.result.mover.list.now)
-    (nameless (formula_of c.appended_parts-parts.result.mover.children.now)) c.appended_parts-parts.ensures.mover
+    (nameless (formula_of c.appended_parts-parts.result.mover.children.now))
+    c.appended_parts-parts.ensures.mover
     (command_of c.args.triple.now.command)
     (insert-seen c.args.triple.now.command c.in-InsertBefore.parent c.in-InsertBefore.child
     c.in-InsertBefore.next c.in-InsertBefore.is)

@@ -13,7 +13,9 @@ pub returns : goal.returns
 returns c =
     let j = judgement_of c.args.triple.now in
     two-verdict c.args.triple.now insert_before_in_forest insert_before_in_grove before_forest-read
-    before_grove-read (λ j. refl) (λ j. refl) (concludes (insert_before_in_forest (read_insert_before j)) j)
-    (concludes (insert_before_in_grove (read_insert_before j)) j) (verdict_in c.verdict_where.result)
+    before_grove-read (λ j. refl) (λ j. refl)
+    (concludes (insert_before_in_forest (read_insert_before j)) j)
+    (concludes (insert_before_in_grove (read_insert_before j)) j)
+    (verdict_in c.verdict_where.result)
     (c.verdict_where.ensures ∙ ap (λ b. verdict_by b false) c.is_insert_before-fits.ensures) refl
     refl

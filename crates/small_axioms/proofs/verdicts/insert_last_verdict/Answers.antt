@@ -13,7 +13,8 @@ pub returns : goal.returns
 returns c =
     let j = judgement_of c.args.triple.now in
     two-verdict c.args.triple.now insert_last_in_forest insert_last_in_grove last_forest-read
-    last_grove-read (λ j. refl) (λ j. refl) (concludes (insert_last_in_forest (read_insert_last j)) j)
+    last_grove-read (λ j. refl) (λ j. refl)
+    (concludes (insert_last_in_forest (read_insert_last j)) j)
     (concludes (insert_last_in_grove (read_insert_last j)) j) (verdict_in c.verdict_where.result)
     (c.verdict_where.ensures ∙ ap (λ b. verdict_by b false) c.is_insert_last-fits.ensures) refl
     refl

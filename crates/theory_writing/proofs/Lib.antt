@@ -1,0 +1,4 @@
+pub mod MarkLemmas
+pub mod ConditionSizes
+pub mod LineLemmas
+pub mod WrittenTexts
