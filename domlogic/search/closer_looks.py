@@ -165,8 +165,8 @@ class CloserLooks:
         if fact is None:
             raise Fails("the length follows of the row as it was alone")
         second = self.shapes.gather(now, more, known.sort, [(equation, fact)])
-        length = self.length_by_fact(stretch, equation)
-        third, target = self.shapes.rewrite(shape, pure, known.sort, (*path, 2, 1), length, equation)
+        length, place = self.length_by_fact(stretch, equation), (*path, 2, 1)
+        third, target = self.shapes.rewrite(shape, pure, known.sort, place, length, equation)
         return self.book.cut(start, second, third), target
 
     def length_by_fact(self, forest: Formula, equation: Formula) -> int:

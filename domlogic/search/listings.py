@@ -99,7 +99,8 @@ class Sum:
             return
         several.sort(key=lambda at: self.want[at] == TRUE)  # `true` takes what is left
         for one, taken in self.taken_singly(over, single, found):
-            left_over = [it for it in over if it not in [places[0] for places, *_ in taken.values()]]
+            gone = [places[0] for places, *_ in taken.values()]
+            left_over = [it for it in over if it not in gone]
             for last, more in self.taken_together(left_over, several, one):
                 yield last, {**taken, **more}
 

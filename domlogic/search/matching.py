@@ -132,7 +132,7 @@ class Matcher:
         if head[0] == "@" and right[1][0] == "-o":
             yield from anywhere.with_hole(self, left, right, sort, found)
         have, want = self.counts(left, right, sort)
-        if want != 1:
+        if want != 1 or (have > 1 and not self.absorbs(right, found)):
             yield from (listings.rows if sort == "f" else listings.sums)(self, left, right, found)
         elif have < 2:
             yield from self.one_part(left, right, sort, found)
