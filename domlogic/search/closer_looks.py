@@ -3,13 +3,17 @@
 A look is a function that gives a step from what is known to another formula, and that formula.
 """
 import itertools
-from typing import Callable, Iterator, NamedTuple
+from typing import TYPE_CHECKING, Callable, Iterator, NamedTuple
 
 from domlogic.search.facts import Facts
 from domlogic.search.formulas import (NONE, TRUE, Formula, Path, Term, conjunction, conjuncts,
                                       has_head, part_at, sort_at, with_facts, with_part_at)
 from domlogic.search.matching import Progress
 from domlogic.search.refusals import Fails
+from domlogic.search.unknown_shapes import UnknownShapes
+
+if TYPE_CHECKING:
+    from domlogic.search.entailments import Matching
 
 
 class Look(NamedTuple):
@@ -22,7 +26,7 @@ class Look(NamedTuple):
 class CloserLooks:
     """The looks at one case, for one right side."""
 
-    def __init__(self, matching, known: Facts, right: Formula, progress: Progress):
+    def __init__(self, matching: "Matching", known: Facts, right: Formula, progress: Progress):
         self.matching, self.known, self.right, self.progress = matching, known, right, progress
         self.book, self.shapes = matching.book, matching.shapes
         self.places = list(self.shapes.paths(known.shape, known.sort))
@@ -48,6 +52,10 @@ class CloserLooks:
         for path, part, sort in self.places:
             if part[0] != "is it" and (self.known.rep(part), sort) in self.progress.needs:
                 yield lambda path=path: self.named_at(path)
+        for path, part, sort in self.places:
+            if sort == "t" and part[0] in ("true", "is it") and part in self.progress.trees:
+                yield lambda path=path, part=part: self.rewritten(
+                    path, UnknownShapes(self.matching).node(part))
         yield from self.other_lengths()
         for step in self.book.earlier:
             if step.judgement[0] == "entails" and step.judgement[3] in ("t", "f", "g"):

@@ -3,13 +3,13 @@ from domlogic.reading.nameless import is_pure
 from domlogic.search.book import Book
 from domlogic.search.closer_looks import CloserLooks
 from domlogic.search.facts import Facts
-from domlogic.search.forest_cases import ForestCases
 from domlogic.search.formulas import (FALSE, Formula, Path, Term, conjuncts, variables_named)
 from domlogic.search.lengths import Lengths
 from domlogic.search.matching import Matcher, Progress
 from domlogic.search.refusals import Fails, Refusal
 from domlogic.search.right_sides import Found, RightSides
 from domlogic.search.shapes import Shapes
+from domlogic.search.unknown_shapes import UnknownShapes
 from domlogic.search.witnesses import Attempt
 
 LOOKS = 3  # closer looks, one after the other
@@ -156,7 +156,7 @@ class Matching:
 
     def cases(self, part: Formula) -> int:
         """The step that a forest, of which little is known, is empty or has a first node."""
-        return ForestCases(self).cases(part)
+        return UnknownShapes(self).cases(part)
 
     def name(self, known: Facts, path: Path) -> tuple[int, Formula]:
         """The part at the path gets a name: the step, and what it entails."""

@@ -160,8 +160,8 @@ class Sum:
                     return False
         if have[0] == "and" or head in ("true", "and", "len", "is it", "*", "+") or head[0] == "@":
             return True
-        if have[0] != head:
-            return head in ("0f", "0g") and have[0] not in ("one tree", "one root", "node")
+        if have[0] != head:  # a closer look may be taken at a variable, or at `true`
+            return have[0] in ("is it", "true", "len")
         return all(self.may_be(have[at], want[at], found) for at in PLACES.get(head, ()))
 
     def taken_together(self, over: list[int], rest: list[int],

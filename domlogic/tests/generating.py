@@ -117,6 +117,8 @@ class Generator:
         self.unused = {it for it, kind in SORTS.items() if kind not in VALUES}
         self.used = {kind: [] for kind in VALUES}
         left = self.assertion(sort, size)
+        for _ in range(self.random.choice((0, 0, 1, 2))):
+            left = self.reworded(left, sort)
         right = left
         for _ in range(self.random.choice((0, 1, 2, 4, 6))):
             right = self.same_or_weaker(right, sort)
@@ -217,11 +219,17 @@ class Generator:
         return context and ("@" + hole, context, self.assertion(hole, size - 1))
 
     # -------------------------------------------------------------------------- the same or weaker
+    def reworded(self, formula: Formula, sort: str) -> Formula:
+        """The formula in other words, at one place."""
+        path, part, here = self.random.choice(Places(formula, sort).shapes)
+        ways = (self.turned, self.bracketed, self.with_unit, self.cut_out, self.regrouped)
+        return put(formula, path, self.random.choice(ways)(part, here))
+
     def same_or_weaker(self, formula: Formula, sort: str) -> Formula:
         """The formula in other words, or a weaker one, by a change at one place."""
         places = Places(formula, sort)
         path, part, here = self.random.choice(places.shapes)
-        ways = [self.turned, self.bracketed, self.with_unit, self.cut_out, self.less,
+        ways = [self.turned, self.bracketed, self.with_unit, self.cut_out, self.regrouped, self.less,
                 self.fact_moved, self.fact_copied, self.with_choice, None]
         ways += [self.anything, self.with_anything, self.anywhere] * 2 if self.loose else []
         way: Callable[[Formula, str], Formula] | None = self.random.choice(ways)
@@ -252,6 +260,15 @@ class Generator:
         hole = ("?" + sort,)
         context, inner, inner_sort = self.layers(part, sort, self.random.randint(0, 2))
         return ("@" + inner_sort, context, inner) if context else ("@" + sort, hole, part)
+
+    def regrouped(self, part: Formula, sort: str) -> Formula:
+        """(K @h (H @j P)) as ((K @h H) @j P), and back."""
+        app, outer, inner = part if part[0][0] == "@" else ("@", (), ())
+        if outer and inner[0][0] == "@":
+            return (inner[0], (app, outer, inner[1]), inner[2])
+        if outer and outer[0][0] == "@":
+            return (outer[0], outer[1], (app, outer[2], inner))
+        return part
 
     def layers(self, part: Formula, sort: str, depth: int) -> tuple:
         """(context, part in it, its sort), or no context where a layer can't be made."""

@@ -70,6 +70,9 @@ def test_closer_looks():
     proved("([$a#$i[$f]%$l] and ($f is <$t>)) entails [$a#$i[<$t>]%$l] at g")
     proved("$f entails (exists $g . ($g and ($g is true))) at f")
     proved("<$t> entails (exists $g . $g) at f")
+    proved("[$t] entails (exists $n . (exists $s . (exists $k . [$s#$n[true]%$k]))) at g")
+    proved("($r + [true]) entails (exists $n . (exists $s . (exists $k . "
+           "(true + [$s#$n[true]%$k])))) at g")
     proved("$f entails (0f or (exists $s . (exists $n . (exists $g . (exists $k . "
            "(exists $h . (<$s#$n[$g]%$k> * $h))))))) at f")
 
