@@ -2,7 +2,7 @@
 import itertools
 from typing import TYPE_CHECKING, Callable, Iterator
 
-from domlogic.search.formulas import EMPTY, NONE, PLACES, TRUE, Formula, with_part_at
+from domlogic.search.formulas import EMPTY, NONE, TRUE, Formula, with_part_at
 from domlogic.search.normal_form import SORT_OF
 from domlogic.search.refusals import Fails
 from domlogic.search.right_sides import Found
@@ -151,18 +151,17 @@ class Sum:
         return tuple(self.matcher.book.subst(self.want[at], found) for at in rest)
 
     def may_be(self, have: Formula, want: Formula, found: Found) -> bool:
-        """Says no where the left part can't be the wanted one, whatever is found."""
+        """Says no where the left part can't be the wanted one, whatever is found: another form, or a
+        node with another name, number or list. What is below is told by the match itself."""
         matcher, head = self.matcher, want[0]
-        if head == "node" == have[0]:
-            for at in (1, 2, 4):
-                term = matcher.meant(want[at], found, True)
-                if term != have[at] and not matcher.is_open(term):
-                    return False
-        if have[0] == "and" or head in ("true", "and", "len", "is it", "*", "+") or head[0] == "@":
+        if have[0] == "and" or head in ("true", "and", "is it") or head[0] == "@":
             return True
-        if have[0] != head:  # a closer look may be taken at a variable, or at `true`
-            return have[0] in ("is it", "true", "len")
-        return all(self.may_be(have[at], want[at], found) for at in PLACES.get(head, ()))
+        if have[0] != head:  # a closer look may be taken at a tree
+            return head == "node" and have[0] in ("is it", "true")
+        if head == "node":
+            terms = ((have[at], matcher.meant(want[at], found, True)) for at in (1, 2, 4))
+            return all(one == other or matcher.is_open(other) for one, other in terms)
+        return head != "one root" or self.may_be(have[1], want[1], found)
 
     def taken_together(self, over: list[int], rest: list[int],
                        found: Found) -> Iterator[tuple[Found, Taken]]:
