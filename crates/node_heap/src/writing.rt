@@ -15,7 +15,7 @@ use crate::heap::NodeHeap;
 use crate::records::Record;
 use crate::walking::Mark;
 use dom_terms::{Copied, List, OutOfMemory, Text};
-use grove_data::{Forest, Grove, Tree};
+use grove_data::{Forest, Grove, Tree, let_go};
 use logic_text::{push_str, write_literal};
 use std::alloc::Global;
 
@@ -35,13 +35,25 @@ impl NodeHeap {
         Ok(row)
     }
 
-    /// A heap of the same grove. It is made of that grove, whose drop takes stack for each tree
-    /// below another. Room for more nodes isn't copied.
+    /// An equal heap, on memory of its own. Room for more nodes isn't copied.
     pub fn copy(&self, alloc: Global) -> Result<NodeHeap, OutOfMemory>
-        ensures { IfOk result (λ copied. SameAt grove copied.grove self.now.grove) }
+        ensures { IfOk result (λ copied. copied.grove ≡ self.now.grove) }
     {
         let grove = self.to_grove(alloc)?;
-        NodeHeap::from_grove(alloc, &grove)
+        let copied = NodeHeap::from_grove(alloc, &grove);
+        let_go(alloc, grove);
+        let copied = copied?;
+        copied.is_equal(self);
+        Ok(copied)
+    }
+
+    // Does nothing: it states that heaps of one grove are equal.
+    fn is_equal(&self, other: &NodeHeap)
+        requires { SameAt grove self.now.grove other.now.grove }
+        ensures { self.now.grove ≡ other.now.grove }
+    {
+        let _nodes = &self.nodes;
+        let _others = &other.nodes;
     }
 
     /// The text of that grove, as the program prints it. What a heap stands for is a well-formed
