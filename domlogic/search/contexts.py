@@ -1,10 +1,11 @@
-"""Known contexts under a name: a call that wants a node anywhere, ($k @t node), meets it in a context that is no
-variable. So that context gets a name before the call, and is put for it behind."""
+"""Known contexts under a name: a call that wants a node anywhere, ($k @t node), meets it in a
+context that is no variable. So that gets a name before the call, and is put for it behind."""
 from typing import Iterator, NamedTuple
 
 from domlogic.search.book import Fails, disj, get_at, put_at
 from domlogic.search.frames import Frames, Path
 from domlogic.search.heaps import Case, Formula, Opened, Variable
+from domlogic.search.naming import named as name_for
 from domlogic.search.places import NUMBER, node_of
 
 
@@ -56,12 +57,14 @@ def named(frames: Frames, case: Case, root: Path, path: Path) -> Named:
     inside = get_at(part, path)
     context, _, cut_out = shapes.spot(part, "g", path)
     new = book.fresh("tg")
-    called = frames.matching.named(context, "tg", new)  # exists new . (new and (new is context))
+    called = name_for(book, context, "tg", new)
     _, _, some, _ = book.judged(called)
     fact, body = ("is", new, context), some[2]
-    both = book.ent("mono_app", (called, book.id(inside, "t")), ("@t", context, inside), ("@t", some, inside), "g")
+    in_some = ("@t", some, inside)
+    premises = called, book.id(inside, "t")
+    both = book.ent("mono_app", premises, ("@t", context, inside), in_some, "g")
     under = ("exists", new, ("@t", body, inside))
-    outside = book.ent("app_exists_ctx", (), ("@t", some, inside), under, "g")
+    outside = book.ent("app_exists_ctx", (), in_some, under, "g")
     plain = ("and", ("@t", ("is it", new), inside), fact)
     out = book.ent("pure_out", (), ("@t", body, inside), plain, "g")
     target = ("exists", new, plain)

@@ -27,6 +27,7 @@ class Execution:
         self.triples = self.stepping.triples
         self.place, self.outline = "", Outline()
         self.first_way, self.guessing, self.has_guessed = 0, 0, False
+        self.not_kept: tuple[Fails, str, list] | None = None
         self.deadline = time.process_time() + SECONDS
         self.forms = {"skip": self.skip, "block": self.block, "local": self.local,
                       "if": self.choice, "while": self.loop}
@@ -34,17 +35,18 @@ class Execution:
     def prove(self, pre: Formula, command: Command, post: Formula, sort: str) -> int:
         """The step of the triple. Where an invariant was guessed and isn't enough for the rest,
         others are tried; what is told is of the first."""
-        place, lines = "", []
+        failures = []
         for self.first_way in range(len(WAYS)):
             try:
                 return self.once(pre, command, post, sort)
             except Fails as why:
-                if self.first_way == 0:
-                    fails, place, lines = why, self.place, self.outline.lines
+                failures.append((why, self.place, self.outline.lines))
                 if not self.has_guessed or self.is_late():
                     break
             self.outline, self.has_guessed = Outline(), False
-        self.place, self.outline.lines = place, lines
+        # A loop that has a step of its own has its invariant from the author.
+        told = self.not_kept if command[0] == "while" and self.not_kept else failures[0]
+        fails, self.place, self.outline.lines = told
         raise fails
 
     def once(self, pre: Formula, command: Command, post: Formula, sort: str) -> int:
@@ -137,12 +139,11 @@ class Execution:
         try:
             number, start = self.triples.weaker_to(once, pre), self.book.id(pre, sort)
         except Fails as why:
-            lines = self.outline.lines[count:]
+            lines = list(self.outline.lines)
+            self.not_kept = self.not_kept or (why, place, lines)
             found = self.guessed(pre, command, sort, once, count)
             if found is None:
-                self.outline.back_to(count)
-                self.outline.lines += lines
-                self.place = place
+                self.place, self.outline.lines = place, lines
                 raise why from None
             start, number = found
         invariant = self.triples.post(number)
@@ -152,7 +153,7 @@ class Execution:
 
     def guessed(self, pre: Formula, command: Command, sort: str, once: int,
                 count: int) -> tuple[int, int] | None:
-        """(the step that pre entails an invariant of the loop, the triple of its block), or None."""
+        """(the step that pre entails an invariant of the loop, the triple of its block)."""
         guesses = Invariants(self.triples, command, pre, sort)
 
         def run_block(before: Formula) -> int:

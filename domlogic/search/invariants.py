@@ -2,8 +2,8 @@
 stays.
 
 The cases before the block and those behind it are taken together where the variables that the loop
-sets say the same of them: null or a node, yes or no. What comes of it is a guess. It holds where the
-block leads from it and the condition back to it.
+sets say the same of them: null or a node, yes or no. What comes of it is a guess, which holds
+where the block leads from it and the condition back to it.
 """
 from typing import Callable, Iterator, NamedTuple
 

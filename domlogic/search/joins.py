@@ -87,7 +87,7 @@ class Join:
         return self.met[one, other]
 
     def common(self, one: Formula, other: Formula) -> Formula | None:
-        """A term of the program that has the first value in the first case, the second in the other."""
+        """A term of the program that is the one in the first case and the other in the second."""
         for term in self.program_terms(self.book.term_sort(one)):
             if self.proved(0, ("=", term, one)) and self.proved(1, ("=", term, other)):
                 return term
@@ -126,7 +126,8 @@ class Join:
             return one
         head = one[0]
         if "and" in (head, other[0]):
-            return conj([it for it in conjuncts(one) if it in conjuncts(other) and self.is_open(it)])
+            shared = [it for it in conjuncts(one) if it in conjuncts(other)]
+            return conj([it for it in shared if self.is_open(it)])
         if head != other[0]:
             return TRUE
         if head in BRACKETS:
@@ -139,7 +140,7 @@ class Join:
         return TRUE
 
     def is_anchor(self, one: Formula, other: Formula) -> bool:
-        """Whether the two are one part: a node of one number, a spot in one context, or the same."""
+        """Whether the two are one part: a node of one number, a spot in one context, the same."""
         if self.is_same(one, other):
             return True
         if one[0] != other[0]:
@@ -215,5 +216,5 @@ class Join:
 
     def hold_in_both(self, fact: Formula, new: dict[Variable, tuple]) -> bool:
         """Whether the fact holds in each case, for what the new variables are there."""
-        return all(self.proved(at, self.book.subst(fact, {it: pair[at] for it, pair in new.items()}))
-                   for at in (0, 1))
+        terms = [{it: pair[at] for it, pair in new.items()} for at in (0, 1)]
+        return all(self.proved(at, self.book.subst(fact, terms[at])) for at in (0, 1))

@@ -1,7 +1,7 @@
 """One command from an assertion: from each of its cases, by the command's axiom or by a triple that
 is known."""
 from domlogic.search.book import TRUE, Book, Fails, free, modified
-from domlogic.search.calls import applied, call
+from domlogic.search.calls import NoPart, applied, call
 from domlogic.search.heaps import Case, Command, Formula, Variable
 from domlogic.search.closer import looks
 from domlogic.search.commands import TABLE
@@ -75,17 +75,18 @@ class Stepping:
     def closer(self, case: Case, command: Command, left: int, old: frozenset[Variable],
                why: Fails) -> int:
         """The same after a closer look at the case; `why` where none helps."""
-        needs, wanted = getattr(why, "needs", []), TRUE
-        if left and command[0] == "call" and hasattr(why, "needs"):
-            wanted = why.args[0][1]
-            for it in named_contexts(self.frames, case, wanted):
-                try:
-                    number = self.from_case(it.case, command, left - 1, old)
-                except Fails:
-                    continue
-                number = unnamed(self.frames, number, it.name)
-                return self.triples.stronger(it.step, self.triples.eliminated(number, (it.name,)))
-        for start, after in looks(self.frames, case, command, needs, wanted) if left else ():
+        if not left:
+            raise why
+        is_call = isinstance(why, NoPart)
+        needs, wanted = (why.needs, why.args[0][1]) if is_call else ([], TRUE)
+        for it in named_contexts(self.frames, case, wanted):
+            try:
+                number = self.from_case(it.case, command, left - 1, old)
+            except Fails:
+                continue
+            number = unnamed(self.frames, number, it.name)
+            return self.triples.stronger(it.step, self.triples.eliminated(number, (it.name,)))
+        for start, after in looks(self.frames, case, command, needs, wanted):
             try:
                 number = self.from_assertion(after, command, case.sort, left - 1, old)
             except Fails:
