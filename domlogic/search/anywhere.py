@@ -1,5 +1,5 @@
 """Matching at any depth: a part that stands somewhere on the left side."""
-from typing import TYPE_CHECKING, Callable, Iterator, NamedTuple
+from typing import TYPE_CHECKING, Iterator, NamedTuple
 
 from domlogic.search.formulas import TRUE, Formula, Path, part_at, with_part_at
 from domlogic.search.right_sides import Found
@@ -36,29 +36,24 @@ def places(matcher: "Matcher", left: Formula, sort: str, h: str,
             yield Somewhere(path, part, h, *beside[h])
 
 
-def cut_at(matcher: "Matcher", left: Formula, sort: str, there: Somewhere,
-           emit: Callable[[Found], int], final: Found) -> tuple[Formula, int]:
-    """(context, step): the left side entails (context @h P), with what was found put in."""
-    book, inner = matcher.book, emit(final)
-    lifted = book.lift(left, sort, there.path, inner)
-    now = with_part_at(left, there.path, book.judged(inner)[2])
-    context, _, number = matcher.shapes.spot(now, sort, there.path + there.inner)
-    return context, book.cut(lifted, number)
-
-
 def somewhere(matcher: "Matcher", left: Formula, right: Formula, sort: str,
               found: Found) -> "Matches":
     """(true @h P): P stands somewhere."""
     app, h = right[0], right[0][1]
     for there in places(matcher, left, sort, h, right[2]):
-        for one, first in matcher.matches(there.part, there.wanted, h, found):
+        wanted = matcher.shapes.canon(there.wanted, h).right
+        for one, first in matcher.matches(there.part, wanted, h, found):
             def emit(final: Found, there=there, first=first) -> int:
-                book = matcher.book
-                context, number = cut_at(matcher, left, sort, there, first, final)
-                whole = book.judged(number)[2]
+                book, shapes = matcher.book, matcher.shapes
+                back = shapes.canon(matcher.meant(there.wanted, final), h).back()
+                inner = book.cut(first(final), back)
+                lifted = book.lift(left, sort, there.path, inner)
+                now = with_part_at(left, there.path, book.judged(inner)[2])
+                context, _, spot = shapes.spot(now, sort, there.path + there.inner)
+                whole = book.judged(spot)[2]
                 ends = (book.ent("true_in", (), context, TRUE, h + sort), book.id(whole[2], h))
                 loose = book.ent("mono_app", ends, whole, (app, TRUE, whole[2]), sort)
-                return book.cut(number, loose)
+                return book.cut(lifted, spot, loose)
             yield one, emit
 
 

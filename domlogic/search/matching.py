@@ -131,24 +131,24 @@ class Matcher:
             yield from anywhere.somewhere(self, left, right, sort, found)
         if head[0] == "@" and right[1][0] == "-o":
             yield from anywhere.with_hole(self, left, right, sort, found)
-        if not self.is_listing(left, right, sort):
+        have, want = self.counts(left, right, sort)
+        if want != 1:
+            yield from (listings.rows if sort == "f" else listings.sums)(self, left, right, found)
+        elif have < 2:
             yield from self.one_part(left, right, sort, found)
         elif head == "len":
             yield from self.lengths(left, right, found)
-        else:
-            yield from (listings.rows if sort == "f" else listings.sums)(self, left, right, found)
 
     def wants_shape(self, right: Formula, found: Found) -> bool:
         """Says whether it is an unknown for a shape."""
         return right[0] == "is it" and right[1] in self.unknowns and right[1] not in found
 
-    def is_listing(self, left: Formula, right: Formula, sort: str) -> bool:
-        """Says whether a row or sum, of none or several parts, is on one of the sides."""
+    def counts(self, left: Formula, right: Formula, sort: str) -> tuple[int, int]:
+        """How many parts the two sides have as rows or sums; 1 where they are none."""
         if sort not in ("f", "g") or left[0] == "and":
-            return False
+            return 1, 1
         op = "*" if sort == "f" else "+"
-        have, want = self.shapes.atoms(op, left), self.shapes.atoms(op, right)
-        return len(want) != 1 or len(have) > 1
+        return len(self.shapes.atoms(op, left)), len(self.shapes.atoms(op, right))
 
     def both(self, left: Formula, right: Formula, sort: str, found: Found) -> Matches:
         """(P and Q): each of them."""
