@@ -14,6 +14,8 @@ from domlogic.search.stepping import Stepping
 
 # Told the command at which the search is.
 Watch = Callable[[Command], None]
+GUESSED = ", with a guessed invariant"
+NOT_FOUND = ", of which no invariant was found"
 SECONDS = 10.0  # of the processor's time, in which invariants are guessed
 
 
@@ -52,7 +54,7 @@ class Execution:
     def once(self, pre: Formula, command: Command, post: Formula, sort: str) -> int:
         """The step of the triple, with no other way of guessing."""
         number = self.run(pre, command, sort)
-        self.place = "at the end, behind " + heading(last_of(command))
+        self.place = "at the end, behind " + heading(last_of(command)) + GUESSED * self.has_guessed
         return self.triples.weaker_to(number, post)
 
     def run(self, pre: Formula, command: Command, sort: str) -> int:
@@ -143,7 +145,7 @@ class Execution:
             self.not_kept = self.not_kept or (why, place, lines)
             found = self.guessed(pre, command, sort, once, count)
             if found is None:
-                self.place, self.outline.lines = place, lines
+                self.place, self.outline.lines = place + NOT_FOUND, lines
                 raise why from None
             start, number = found
         invariant = self.triples.post(number)
@@ -158,6 +160,8 @@ class Execution:
 
         def run_block(before: Formula) -> int:
             self.outline.back_to(count)
+            self.outline.tell("guessed invariant:")
+            self.outline.known(before[1])
             self.outline.tell(heading(command) + " {")
             return self.inner(before, command[2], sort)
 
