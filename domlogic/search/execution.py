@@ -4,16 +4,19 @@ import time
 from typing import Callable
 
 from domlogic.reading.nameless import condition_formula
-from domlogic.search.book import DEFAULTS, Book, Fails, disj
-from domlogic.search.heaps import Command, Formula
+from domlogic.search.book import Book
 from domlogic.search.entailments import Matching
+from domlogic.search.formulas import DEFAULTS, Formula, disjunction
+from domlogic.search.heaps import Command
 from domlogic.search.invariants import WAYS, Invariants
 from domlogic.search.messages import heading
 from domlogic.search.outline import Outline
+from domlogic.search.refusals import Fails, Refusal
 from domlogic.search.stepping import Stepping
 
 # Told the command at which the search is.
 Watch = Callable[[Command], None]
+BY_STEP = " by an earlier step"
 GUESSED = ", with a guessed invariant"
 NOT_FOUND = ", of which no invariant was found"
 SECONDS = 10.0  # of the processor's time, in which invariants are guessed
@@ -63,20 +66,21 @@ class Execution:
             self.place = "at " + heading(command)
             self.watch(command)
         if self.guessing and self.is_late():
-            raise Fails((pre, "a guess in time"))
+            raise Fails(Refusal(pre, "a guess in time"))
         if command[0] not in self.forms:
             return self.told(heading(command), pre, command, sort)
         if not self.stepping.known_triples(command):
             return self.forms[command[0]](pre, command, sort)
         place, count = self.place, len(self.outline.lines)
         try:
-            return self.told(heading(command) + " by an earlier step", pre, command, sort)
+            return self.told(heading(command) + BY_STEP, pre, command, sort)
         except Fails as why:
             try:
                 self.outline.back_to(count)
                 return self.forms[command[0]](pre, command, sort)
             except Fails:  # the author's own step is what should have served
-                self.outline.back_to(count + 1)
+                self.outline.back_to(count)
+                self.outline.tell(heading(command) + BY_STEP)
                 self.place = place
                 raise why from None
 
@@ -128,7 +132,7 @@ class Execution:
         self.outline.tell("} else {")
         two = self.inner(("and", pre, ("not", test)), command[3], sort)
         posts = self.triples.possible_posts([one, two])
-        post = disj(posts)
+        post = disjunction(posts)
         one, two = (self.triples.one_of(it, posts, post) for it in (one, two))
         return self.ended(self.book.tri("if", (one, two), pre, command, post, sort))
 

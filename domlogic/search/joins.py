@@ -7,9 +7,10 @@ A join is a guess: whether the heaps entail it is for matching to prove.
 """
 from typing import Iterator
 
-from domlogic.search.book import LITERALS, NONE, TRUE, Fails, conj, conjuncts, free, put
-from domlogic.search.heaps import Case, Formula, Heaps, Opened, Variable, tidied
+from domlogic.search.formulas import TRUE, Formula, conjunction, conjuncts, free, with_part
+from domlogic.search.heaps import Case, Heaps, Opened, Variable, tidied
 from domlogic.search.places import CHILDREN, LIST, NAME, NUMBER
+from domlogic.search.refusals import Fails
 
 BRACKETS = ("one tree", "one root")
 
@@ -94,7 +95,7 @@ class Join:
         return None
 
     def program_terms(self, sort: str) -> Iterator[Formula]:
-        """Gives the program variables of a sort; of numbers their neighbours and differences too."""
+        """Gives the variables of a sort; of numbers also their neighbours and differences."""
         names = [("prog", name) for name, its in self.book.scope.program.items() if its == sort]
         yield from names
         if sort == "int":
@@ -127,7 +128,7 @@ class Join:
         head = one[0]
         if "and" in (head, other[0]):
             shared = [it for it in conjuncts(one) if it in conjuncts(other)]
-            return conj([it for it in shared if self.is_open(it)])
+            return conjunction([it for it in shared if self.is_open(it)])
         if head != other[0]:
             return TRUE
         if head in BRACKETS:
@@ -136,7 +137,7 @@ class Join:
             name, number, listing = (self.term(one[it], other[it]) for it in (NAME, NUMBER, LIST))
             return (head, name, number, self.part(one[CHILDREN], other[CHILDREN], "f"), listing)
         if head[0] == "@" and one[1] == other[1]:
-            return put(one, 2, self.part(one[2], other[2], head[1]))
+            return with_part(one, 2, self.part(one[2], other[2], head[1]))
         return TRUE
 
     def is_anchor(self, one: Formula, other: Formula) -> bool:

@@ -1,6 +1,7 @@
 """A name for a part: a logic variable, and the fact of what it is."""
 from domlogic.search.book import Book
-from domlogic.search.heaps import Formula, Variable
+from domlogic.search.formulas import Formula
+from domlogic.search.heaps import Variable
 
 
 def named(book: Book, part: Formula, sort: str, new: Variable) -> int:

@@ -1,18 +1,29 @@
 """One command from an assertion: from each of its cases, by the command's axiom or by a triple that
 is known."""
-from domlogic.search.book import TRUE, Book, Fails, free, modified
+from domlogic.reading.nameless import modified
+from domlogic.search.book import Book
 from domlogic.search.calls import NoPart, applied, call
-from domlogic.search.heaps import Case, Command, Formula, Variable
 from domlogic.search.closer import looks
 from domlogic.search.commands import TABLE
 from domlogic.search.contexts import named_contexts, unnamed
 from domlogic.search.entailments import Matching
+from domlogic.search.formulas import TRUE, Formula, free
 from domlogic.search.frames import Frames
+from domlogic.search.heaps import Case, Command, Variable
+from domlogic.search.refusals import Fails, Refusal
 
 COMPOUND = ("skip", "block", "local", "if", "while")
 COMMANDS = {**TABLE, "call": call}
 LOOKS = 2  # closer looks, one after the other
 NONE_SET: frozenset[Variable] = frozenset()
+
+
+def in_case(case: Case, why: Fails) -> Fails:
+    """The failure as one of the case, where it speaks of a part of that or of other names."""
+    if isinstance(why, NoPart):
+        return NoPart(case, why.args[0].wanted, why.needs)
+    told = why.args[0]
+    return Fails(Refusal(case.formula, *(told[1:] if isinstance(told, tuple) else [told])))
 
 
 class Stepping:
@@ -46,10 +57,8 @@ class Stepping:
         """The triple of the command from one case."""
         variable = self.spoken_of(case, command, old)
         if variable is not None:
-            new, inner, start = self.triples.old_value_named(case, variable)
-            number = self.from_case(inner, command, left, old | {variable})
-            return self.triples.stronger(start, self.triples.eliminated(number, (new,)))
-        fails = Fails((case.formula, "an earlier step for this command"))
+            return self.with_old_value(case, command, left, old, variable)
+        fails = Fails(Refusal(case.formula, "an earlier step for this command"))
         for triple in self.known_triples(command):
             try:
                 return applied(self.frames, case, triple, [])
@@ -60,7 +69,18 @@ class Stepping:
         try:
             return self.triples.by_cases(COMMANDS[command[0]](self.frames, case, command))
         except Fails as why:
-            return self.closer(case, command, left, old, why)
+            return self.closer(case, command, left, old, in_case(case, why))
+
+    def with_old_value(self, case: Case, command: Command, left: int, old: frozenset[Variable],
+                       variable: Variable) -> int:
+        """The same with a name for the old value of a variable; a refusal speaks of the case that
+        has none."""
+        new, inner, start = self.triples.old_value_named(case, variable)
+        try:
+            number = self.from_case(inner, command, left, old | {variable})
+        except Fails as why:
+            raise in_case(case, why) from None
+        return self.triples.stronger(start, self.triples.eliminated(number, (new,)))
 
     @staticmethod
     def spoken_of(case: Case, command: Command, old: frozenset[Variable]) -> Variable | None:
