@@ -135,13 +135,12 @@ def possible(before: list[Token]) -> set[str]:
     return found | ({END} if is_file else set())
 
 
-def is_offered(token: Token, offered: set[str]) -> bool:
-    """Says whether a token is one of what is offered."""
+def is_offered(token: Token, offered: set[str], reserved: set[str]) -> bool:
+    """Says whether a token is one of what is offered, in a file with these reserved words."""
     if token.kind in ("symbol", "word") and token.text in offered:
         return True
     if token.kind == "word":
-        return ANY_WORD in offered or (ANY_NAME in offered
-                                       and token.text not in RESERVED | {"insertBefore"})
+        return ANY_WORD in offered or (ANY_NAME in offered and token.text not in reserved)
     if token.kind == "number":
         value = int(token.text)
         return (NUMBER in offered or (SMALL in offered and value < 2**32)
@@ -248,6 +247,12 @@ def usual(token: Token, before: str, offered: set[str]) -> list[tuple[bool, str]
                               "Q)'."),
         (text == "}" and before == ";", "Behind the last command of a block there is no ';'."),
         (text == "}" and before == "{", "A block has at least one command: '{ skip }'."),
+        (offered == {"{"}, "'if', 'else', 'while' and 'local' have blocks: 'if B { .. } else { .. }'."),
+        (offered == {"else"}, "Each 'if' has an 'else': 'else { skip }' where there is nothing to do."),
+        (text == ";" and offered in ({"post"}, {"proof"}), "Several commands stand in braces: '{ C1 ; C2 }'."),
+        (text in ("step", "end") and offered == {";"}, "A step ends with ';'."),
+        (text == ";" and offered == {"at"}, "A judgement ends with its sort, as in 'at g'."),
+        (text == ":" and "(" in offered, "Behind a rule the steps that it cites stand in brackets: '()' for none."),
         (token.kind == "logic" and ANY_NAME in offered and LOGIC not in offered,
          "Logic variables stand in formulas and behind 'with', and in no command."),
         (reserved and wants_name, f"{code(text)} is a reserved word, and so it is no name."),

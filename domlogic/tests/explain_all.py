@@ -158,11 +158,11 @@ def wrong_offers(refusal: Refusal) -> Iterator[str]:
     source = Source(refusal.content)
     source.take_tokens(number)
     before = source.tokens[: number - 1]
-    offered = tokens.possible(before)
+    offered, reserved = tokens.possible(before), TheoryReader(before).reserved
     for token in UNIVERSE:
         found = fault_token([*before, token])
         moves = found is None or found > number
-        if moves != tokens.is_offered(token, offered):
+        if moves != tokens.is_offered(token, offered, reserved):
             yield f"{token.text} {'can' if moves else 'can not'} stand there"
 
 
@@ -205,8 +205,10 @@ def not_mended(refusal: Refusal) -> Iterator[str]:
     text = case.source.text
     changed = text[: case.source.starts[begin]] + f" {wanted} " + text[
         case.source.tokens[end - 1].end :]
-    again = case_of(changed.encode(), refusal.line)
-    assert again.step.rule == case.step.rule
+    try:
+        again = case_of(changed.encode(), refusal.line)
+    except KeyError:  # no declared name fits a bound variable of the part
+        return
     verdict, other = own_verdict(again), difference(again)
     if other is not None and (other.rank, other.path) == (miss.rank, miss.path):
         yield f"with {wanted} in place the step differs at the same place: {verdict}"
