@@ -133,11 +133,11 @@ def call_fault(call: Node, scope: Scope) -> Fault | None:
     """Why a call doesn't fit the header of its procedure."""
     _, results, name, arguments = call
     callee = scope.procedures[name]
-    for given, declared, noun in ((results, callee.results, "result"),
-                                  (arguments, callee.params, "argument")):
+    for given, declared, nouns in ((results, callee.results, ("result", "result")),
+                                   (arguments, callee.params, ("parameter", "argument"))):
         if len(given) != len(declared):
-            return Fault(call, f"{code(name)} has {counted(len(declared), noun)}, and the call has "
-                               f"{len(given) or 'none'}.")
+            return Fault(call, f"{code(name)} has {counted(len(declared), nouns[0])}, and the call "
+                               f"has {counted(len(given), nouns[1])}.")
         fault = next(each_with_sort(given, [sort for _, sort in declared], scope), None)
         if fault:
             return fault

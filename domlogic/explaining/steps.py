@@ -9,8 +9,8 @@ from domlogic.explaining.comparing import (BOUND_FREE, BOUND_SORT, KIND, LEFT, S
                                            State, Way)
 from domlogic.explaining.rows import Row
 from domlogic.explaining.source import Source
-from domlogic.explaining.wording import code, counted, labelled, shortened, sort_in_words, wrapped
-from domlogic.reading.matching import put_in, settled
+from domlogic.explaining.wording import code, counted, labelled, listed, shortened, sort_in_words, wrapped
+from domlogic.reading.matching import put_in, settled, sorts_of_letters
 from domlogic.reading.sorts import term_sort
 
 STEP = re.compile(r"step (\d+) of (\S+), line \d+: (\w+): (\w+) ?(\w*)")
@@ -119,21 +119,26 @@ def farthest_rows(tried: list[tuple[Row, Comparison, list[State]]]) -> list[tupl
 def sort_trouble(case: Case, row: Row, state: State) -> list[str]:
     """Why a judgement of the rule's form isn't one at this sort."""
     sort, wanted = case.judgement[-1], row.reading.conclusion[-1]
-    texts = [name for kind, *names in row.reading.conditions if kind == "string" for name in names]
-    for name in texts:
+    for name in texts_of(row):
         its = term_sort(state.guess[name], case.scope)
         if its != "str":
-            return wrapped(f"{name} has to be a text, and "
-                           f"{code(case.pattern_text(('letter', name), state))} has sort "
-                           f"{sort_in_words(its)}.")
-    told = "A letter stands at two sorts here."
+            return [*case.marked(*state.places[name]),
+                    *wrapped(f"{name} has to be a text, and it has sort {sort_in_words(its)}.")]
     if wanted is not None:
         names = "t, f or g" if wanted == "data" else sort_in_words(wanted)
-        told = f"The rule is for judgements at {names}, and this one is at {sort_in_words(sort)}."
-    else:
-        told = f"Its letters have their sorts in common only at another sort than {sort_in_words(sort)}: " \
-               "a letter is one formula at one sort."
-    return [*case.marked_sort(0), *wrapped(told)]
+        told = f"The rule is for judgements at {names}; this one is at {sort_in_words(sort)}."
+        return [*case.marked_sort(0), *wrapped(told)]
+    conclusion = (*row.reading.conclusion[:-1], sort)
+    found = sorts_of_letters([conclusion], state.guess, case.written)
+    two = next(it for it in found.items() if len(it[1]) > 1 and it[0] not in row.reading.anywhere)
+    sorts = listed([sort_in_words(it) for it in sorted(two[1])])
+    return [*case.marked_sort(0),
+            *wrapped(f"{two[0]} stands at sorts {sorts} here; a letter is one formula at one sort.")]
+
+
+def texts_of(row: Row) -> list[str]:
+    """The letters that have to be texts."""
+    return [name for kind, *names in row.reading.conditions if kind == "string" for name in names]
 
 
 def miss_lines(case: Case, miss: Miss, tied: list[tuple[Row, Miss]] = ()) -> list[str]:
@@ -206,11 +211,10 @@ def citation_trouble(case: Case) -> Iterator[str]:
     """A number that is cited, and isn't that of an earlier step."""
     count = case.cited_steps.index(None) + 1
     yield from case.marked_citation(count)
-    earlier = {0: "it is the first and has none to cite", 1: "the one before it is step 1"}.get(
-        case.at, f"those before it are steps 1 to {case.at}")
-    yield from wrapped(f"Step {case.step.premises[count - 1]} isn't an earlier step of this proof "
-                       "than step "
-                       f"{case.step.number}: {earlier}.")
+    earlier = {0: "there is none before the first", 1: "before it there is step 1 alone"}.get(
+        case.at, f"before it there are steps 1 to {case.at}")
+    yield from wrapped(f"Step {case.step.number} cites step {case.step.premises[count - 1]}, and "
+                       f"what is cited has to be an earlier step of this proof: {earlier}.")
     yield from mending.by_other_citations(case, count)
 
 

@@ -1,6 +1,6 @@
 """A token that can't be read: where it is, what could stand there, and what is meant by the usual ones."""
 from domlogic.explaining.source import Source
-from domlogic.explaining.wording import code, counted, figure, wrapped
+from domlogic.explaining.wording import code, counted, figure, shortened, wrapped
 from domlogic.reading.limits import LAST_I64, SHAPE_SORTS, VALUE_SORTS
 from domlogic.reading.reader import NoReading
 from domlogic.reading.theories import CONNECTIVES, TheoryReader
@@ -171,7 +171,7 @@ def refusal(source: Source, number: int) -> str:
     """A sentence on the token itself."""
     token = source.tokens[number - 1]
     if token.kind != "bad":
-        return f"{code(spelled(token))} can't stand here."
+        return f"{code(shortened(spelled(token), 40))} can't stand here."
     start = source.starts[number - 1]
     return f"No token begins here: {no_token(source, start)}."
 

@@ -245,7 +245,23 @@ def not_at_fault(refusal: Refusal) -> Iterator[str]:
     yield "no other part in its place moves the fault on"
 
 
-def independent(refusal: Refusal) -> Iterator[str]:
+def not_fitting(refusal: Refusal, told: list[str]) -> Iterator[str]:
+    """A rule or citations that are said to fit, by which the step is no instance."""
+    whole = " ".join(told)
+    step = case_of(refusal.content, refusal.line)
+    text, (begin, end) = step.source.text, step.source.span(step.step)
+    first, last = step.source.starts[begin], step.source.tokens[end - 1].end
+    for rules, cited in re.findall(r"(?:By ([^.]*)|With '\w+\(([\d, ]*)\)') it is an instance\.", whole):
+        for rule in re.findall(r"'(\w+)'", rules) or [""]:
+            own = text[first:last]
+            own = re.sub(r"by\s+\w+", f"by {rule}", own, count=1) if rule else own
+            own = re.sub(r"\([\d,\s]*\)", f"({cited})", own, count=1) if cited else own
+            changed = case_of((text[:first] + own + text[last:]).encode(), refusal.line)
+            if own_verdict(changed) is not None:
+                yield f"it isn't: {own}"
+
+
+def independent(refusal: Refusal, told: list[str]) -> Iterator[str]:
     """What the independent checks find."""
     if refusal.status == 3:
         yield from wrong_offers(refusal)
@@ -253,6 +269,7 @@ def independent(refusal: Refusal) -> Iterator[str]:
         yield from not_at_fault(refusal)
     elif refusal.status == 1 and refusal.line.endswith((": shape", ": premises")):
         yield from not_mended(refusal)
+        yield from not_fitting(refusal, told)
 
 
 def main() -> int:
@@ -270,7 +287,7 @@ def main() -> int:
         told = explanation(refusal.status, refusal.line, name, refusal.content)
         found = list(complaints(refusal, told))
         if at % options.every == 0:
-            found += independent(refusal)
+            found += independent(refusal, told)
         passed, failed = passed + (not found), failed + bool(found)
         if options.show or found:
             print("\n".join([f"{refusal.place[:160]}\n{refusal.line}", *told,
