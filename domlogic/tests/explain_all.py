@@ -104,7 +104,7 @@ def promised_of_step(line: str) -> list[str]:
         return found + [r"^wanted +'|is a rule for|takes|has to be|is for|at sort|judgements "
                         r"at|sort|stands here|behind|is wanted"]
     if verdict == "premises":
-        return found + [r"^wanted +'|and the step cites|isn't an earlier step|is wanted\.|stands "
+        return found + [r"^wanted +'|and the step cites|has to be an earlier step|is wanted\.|stands "
                         r"here|sort"]
     named = {"free": "stands", "assigned": "stands in", "modified": "The command changes '",
              "pure": "speaks of the data",
