@@ -15,7 +15,7 @@ from domlogic.reading.matching import put_in, settled, sorts_of_letters
 from domlogic.reading.sorts import term_sort
 
 STEP = re.compile(r"step (\d+) of (\S+), line \d+: (\w+): (\w+) ?(\w*)")
-NO_FORM = "The judgement isn't of the rule's form, whatever steps are cited."
+NO_FORM = "The step isn't of the rule's form, whatever it cites."
 
 
 def explained(source: Source, line: str) -> list[str]:
