@@ -2,6 +2,7 @@
 from typing import Iterator
 
 from domlogic.search.book import TRUE, Fails, get_at
+from domlogic.search.closer_looks import named as name_of
 from domlogic.search.heaps import Case, Command, Formula
 from domlogic.search.entailments import Facts
 from domlogic.search.frames import Frames
@@ -108,7 +109,7 @@ def named_row(frames: Frames, case: Case, path: tuple, at: int, side: int) -> It
     if len(parts[side - 1]) == 1 and parts[side - 1][0][0] == "is it":
         return
     wide = ("*", *(shapes.row_of_parts("*", it) for it in parts))
-    named = frames.matching.named(wide[side], "f", book.fresh("f"))
+    named = name_of(book, wide[side], "f", book.fresh("f"))
     number = book.cut(frames.turned(row, wide, "f"), book.lift(wide, "f", (side,), named))
     yield shapes.rewrite(case.shape, list(case.pure), case.sort, path, number)
 

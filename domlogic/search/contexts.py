@@ -3,6 +3,7 @@ variable. So that context gets a name before the call, and is put for it behind.
 from typing import Iterator, NamedTuple
 
 from domlogic.search.book import Fails, disj, get_at, put_at
+from domlogic.search.closer_looks import named as name_of
 from domlogic.search.frames import Frames, Path
 from domlogic.search.heaps import Case, Formula, Opened, Variable
 from domlogic.search.places import NUMBER, node_of
@@ -56,7 +57,7 @@ def named(frames: Frames, case: Case, root: Path, path: Path) -> Named:
     inside = get_at(part, path)
     context, _, cut_out = shapes.spot(part, "g", path)
     new = book.fresh("tg")
-    called = frames.matching.named(context, "tg", new)  # exists new . (new and (new is context))
+    called = name_of(book, context, "tg", new)  # exists new . (new and (new is context))
     _, _, some, _ = book.judged(called)
     fact, body = ("is", new, context), some[2]
     both = book.ent("mono_app", (called, book.id(inside, "t")), ("@t", context, inside), ("@t", some, inside), "g")
