@@ -5,11 +5,11 @@ A look is a function that gives a step from what is known to another formula, an
 import itertools
 from typing import TYPE_CHECKING, Callable, Iterator, NamedTuple
 
-from domlogic.search.book import Book
 from domlogic.search.facts import Facts
 from domlogic.search.formulas import (NONE, TRUE, Formula, Path, Term, conjunction, conjuncts,
                                       has_head, part_at, sort_at, with_facts, with_part_at)
 from domlogic.search.matching import Progress
+from domlogic.search.naming import named
 from domlogic.search.refusals import Fails
 from domlogic.search.unknown_shapes import UnknownShapes
 
@@ -200,14 +200,3 @@ class CloserLooks:
         start = self.shapes.gather(known.whole, more, known.sort, [(equation, number)])
         step, after = self.shapes.rewrite(known.shape, pure, known.sort, path, empty, equation)
         return book.cut(start, step), after
-
-
-def named(book: Book, part: Formula, sort: str, new: Term) -> int:
-    """P entails exists $x . ($x and ($x is P))."""
-    it, fact = ("is it", new), ("is", new, part)
-    pair, body = ("and", it, part), ("and", it, fact)
-    some, target = ("exists", new, pair), ("exists", new, body)
-    both = book.both(book.side(pair, 1, sort), book.ent("is_in", (), pair, fact, sort))
-    inner = book.cut(both, book.ent("exists_in", (), body, target, sort, (new,)))
-    return book.cut(book.ent("some", (), part, some, sort),
-                    book.ent("exists_out", (inner,), some, target, sort))
