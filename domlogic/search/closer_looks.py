@@ -5,6 +5,7 @@ A look is a function that gives a step from what is known to another formula, an
 import itertools
 from typing import Callable, Iterator, NamedTuple
 
+from domlogic.search.book import Book
 from domlogic.search.facts import Facts
 from domlogic.search.formulas import (NONE, TRUE, Formula, Path, Term, conjunction, conjuncts,
                                       has_head, part_at, sort_at, with_facts, with_part_at)
@@ -80,18 +81,8 @@ class CloserLooks:
     def named_at(self, path: Path) -> tuple[int, Formula]:
         """The part at the path gets a name: Z[P] entails exists $x . (Z[$x] and ($x is P))."""
         sort = sort_at(self.known.shape, self.known.sort, path)
-        number = self.named(part_at(self.known.shape, path), sort, self.book.fresh(sort))
+        number = named(self.book, part_at(self.known.shape, path), sort, self.book.fresh(sort))
         return self.rewritten(path, number)
-
-    def named(self, part: Formula, sort: str, new: Term) -> int:
-        """P entails exists $x . ($x and ($x is P))."""
-        book, it, fact = self.book, ("is it", new), ("is", new, part)
-        pair, body = ("and", it, part), ("and", it, fact)
-        some, target = ("exists", new, pair), ("exists", new, body)
-        both = book.both(book.side(pair, 1, sort), book.ent("is_in", (), pair, fact, sort))
-        inner = book.cut(both, book.ent("exists_in", (), body, target, sort, (new,)))
-        return book.cut(book.ent("some", (), part, some, sort),
-                        book.ent("exists_out", (inner,), some, target, sort))
 
     # ------------------------------------------------------------------------ facts and conjuncts
     def sides(self) -> Iterator[Callable[[], tuple[int, Formula]]]:
@@ -201,3 +192,14 @@ class CloserLooks:
         start = self.shapes.gather(known.whole, more, known.sort, [(equation, number)])
         step, after = self.shapes.rewrite(known.shape, pure, known.sort, path, empty, equation)
         return book.cut(start, step), after
+
+
+def named(book: Book, part: Formula, sort: str, new: Term) -> int:
+    """P entails exists $x . ($x and ($x is P))."""
+    it, fact = ("is it", new), ("is", new, part)
+    pair, body = ("and", it, part), ("and", it, fact)
+    some, target = ("exists", new, pair), ("exists", new, body)
+    both = book.both(book.side(pair, 1, sort), book.ent("is_in", (), pair, fact, sort))
+    inner = book.cut(both, book.ent("exists_in", (), body, target, sort, (new,)))
+    return book.cut(book.ent("some", (), part, some, sort),
+                    book.ent("exists_out", (inner,), some, target, sort))
