@@ -8,8 +8,8 @@ ADD = f"""add(p: node, s: str) returns (m: node) sort g ;; {SPOT} ;;
 
 
 def test_assignment_reads_the_old_value():
-    filled_text("""p(n: int) returns (x: int) sort g ;; (0g and x = n) ;; (0g and x = {n + 1}) ;;
-        x := {x + 1}""")
+    filled_text("""p(n: int) returns (x: int) sort g ;; 0g ;; (0g and x = {n + 1}) ;;
+        { x := n ; x := {x + 1} }""")
 
 
 def test_parts_of_a_node():
@@ -19,7 +19,8 @@ def test_parts_of_a_node():
 
 def test_parent_and_root():
     filled_text("""p(n: node) returns (m: node, r: node) sort g ;;
-        [$a#$i[(<$b#n[$f]%$l> * $g)]%$m] ;; ([$a#$i[(<$b#n[$f]%$l> * $g)]%$m] and (m = $i and r = null)) ;;
+        [$a#$i[(<$b#n[$f]%$l> * $g)]%$m] ;;
+        ([$a#$i[(<$b#n[$f]%$l> * $g)]%$m] and (m = $i and r = null)) ;;
         { m := parentNode(n) ; r := parentNode(m) }""")
 
 
@@ -44,7 +45,8 @@ def test_insertion_before_a_child_and_at_the_end():
 
 def test_removal_leaves_a_root():
     filled_text("""p(p: node, n: node) returns () sort g ;;
-        ($k @t $s#p[($f * (<$a#n[$g]%$m> * $h))]%$l) ;; (($k @t $s#p[($f * $h)]%$l) + [$a#n[$g]%$m]) ;; removeChild(p, n)""")
+        ($k @t $s#p[($f * (<$a#n[$g]%$m> * $h))]%$l) ;;
+        (($k @t $s#p[($f * $h)]%$l) + [$a#n[$g]%$m]) ;; removeChild(p, n)""")
 
 
 def test_choice_has_both_cases_behind():
@@ -59,7 +61,8 @@ def test_call_finds_its_variables():
 
 
 def test_recursion_is_by_the_specification():
-    filled_text("deep(n: node) returns () sort t ;; $a#n[$f]%$l ;; $a#n[$f]%$l ;; call () := deep(n)")
+    filled_text("""p(n: node) returns () sort t ;; $a#n[$f]%$l ;; $a#n[$f]%$l ;;
+        call () := p(n)""")
 
 
 def test_what_a_command_misses_is_named():

@@ -22,9 +22,10 @@ def test_a_counter_goes_up_to_a_bound():
 
 
 def test_a_row_grows_as_a_counter_goes_down():
-    filled_text(f"""p(p: node, n: int) returns () sort g ;; {SPOT} ;; ($k @t $s#p[($f * len n)]%$l) ;;
-        local i : int {{ local m : node {{ i := n ;
-            while (not i = 0) {{ m := createNode("a") ; appendChild(p, m) ; i := {{i - 1}} }} }} }}""")
+    filled_text(f"""p(p: node, n: int) returns () sort g ;; {SPOT} ;;
+        ($k @t $s#p[($f * len n)]%$l) ;;
+        local i : int {{ local m : node {{ i := n ; while (not i = 0) {{
+            m := createNode("a") ; appendChild(p, m) ; i := {{i - 1}} }} }} }}""")
 
 
 def test_a_flag_ends_a_loop():
