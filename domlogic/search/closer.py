@@ -1,11 +1,11 @@
 """A closer look at a case in which a command finds no axiom: what is known may say more."""
 from typing import Iterator
 
-from domlogic.search.closer_looks import named
 from domlogic.search.entailments import Facts
 from domlogic.search.formulas import TRUE, Formula, part_at
 from domlogic.search.frames import Frames
 from domlogic.search.heaps import Case, Command
+from domlogic.search.naming import named
 from domlogic.search.places import CHILDREN, LIST, NUMBER, node_of
 from domlogic.search.refusals import Fails
 

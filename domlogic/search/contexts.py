@@ -2,10 +2,10 @@
 context that is no variable. So that gets a name before the call, and is put for it behind."""
 from typing import Iterator, NamedTuple
 
-from domlogic.search.closer_looks import named as name_for
 from domlogic.search.formulas import Formula, Path, disjunction, part_at, with_part_at
 from domlogic.search.frames import Frames
 from domlogic.search.heaps import Case, Opened, Variable
+from domlogic.search.naming import named as name_for
 from domlogic.search.places import NUMBER, node_of
 from domlogic.search.refusals import Fails
 
