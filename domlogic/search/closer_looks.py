@@ -3,7 +3,7 @@
 A look is a function that gives a step from what is known to another formula, and that formula.
 """
 import itertools
-from typing import Callable, Iterator, NamedTuple
+from typing import TYPE_CHECKING, Callable, Iterator, NamedTuple
 
 from domlogic.search.book import Book
 from domlogic.search.facts import Facts
@@ -11,6 +11,10 @@ from domlogic.search.formulas import (NONE, TRUE, Formula, Path, Term, conjuncti
                                       has_head, part_at, sort_at, with_facts, with_part_at)
 from domlogic.search.matching import Progress
 from domlogic.search.refusals import Fails
+from domlogic.search.unknown_shapes import UnknownShapes
+
+if TYPE_CHECKING:
+    from domlogic.search.entailments import Matching
 
 
 class Look(NamedTuple):
@@ -23,7 +27,7 @@ class Look(NamedTuple):
 class CloserLooks:
     """The looks at one case, for one right side."""
 
-    def __init__(self, matching, known: Facts, right: Formula, progress: Progress):
+    def __init__(self, matching: "Matching", known: Facts, right: Formula, progress: Progress):
         self.matching, self.known, self.right, self.progress = matching, known, right, progress
         self.book, self.shapes = matching.book, matching.shapes
         self.places = list(self.shapes.paths(known.shape, known.sort))
@@ -49,6 +53,10 @@ class CloserLooks:
         for path, part, sort in self.places:
             if part[0] != "is it" and (self.known.rep(part), sort) in self.progress.needs:
                 yield lambda path=path: self.named_at(path)
+        for path, part, sort in self.places:
+            if sort == "t" and part[0] in ("true", "is it") and part in self.progress.trees:
+                yield lambda path=path, part=part: self.rewritten(
+                    path, UnknownShapes(self.matching).node(part))
         yield from self.other_lengths()
         for step in self.book.earlier:
             if step.judgement[0] == "entails" and step.judgement[3] in ("t", "f", "g"):
@@ -156,8 +164,8 @@ class CloserLooks:
         if fact is None:
             raise Fails("the length follows of the row as it was alone")
         second = self.shapes.gather(now, more, known.sort, [(equation, fact)])
-        length = self.length_by_fact(stretch, equation)
-        third, target = self.shapes.rewrite(shape, pure, known.sort, (*path, 2, 1), length, equation)
+        length, place = self.length_by_fact(stretch, equation), (*path, 2, 1)
+        third, target = self.shapes.rewrite(shape, pure, known.sort, place, length, equation)
         return self.book.cut(start, second, third), target
 
     def length_by_fact(self, forest: Formula, equation: Formula) -> int:
