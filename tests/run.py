@@ -1,7 +1,7 @@
 #!/usr/bin/env python3
 """Compares the built program with the rows of this folder and the examples of the rules, byte by byte.
 
-usage: tests/run.py (--cmd PROGRAM | --reference | --list) [--only TEXT] [--accented | --assistants]
+usage: tests/run.py (--cmd PROGRAM | --reference | --list) [--only TEXT] [--accented | --assistants] [--jobs N]
   PROGRAM       the built program; each row's words are handed to it
   --reference   the rows are answered by reference.py beside this file, and no program is asked
   --list        the rows are listed
@@ -9,11 +9,13 @@ usage: tests/run.py (--cmd PROGRAM | --reference | --list) [--only TEXT] [--acce
   --accented    each file ends in a comment that isn't ASCII: its tokens are the same, and the program
                 reads them from a list, as it does those of no ASCII file
   --assistants  the rows of the folder assistants/, of the words prove, show and explain
+  --jobs N      so many rows at a time, on so many processors; they are told in their order
 
 Prints each row that fails, and last 'N passed, M failed'. The exit status is 0 where none fails, and 2
 where a file of rows can't be read. README.md beside this file says how a row is written.
 """
 import argparse
+import concurrent.futures
 import glob
 import os
 import re
@@ -51,7 +53,7 @@ class Row:
         self.words, self.status, self.output = None, None, []
         self.texts, self.changes, self.cuts, self.sink, self.called = {}, [], {}, None, None
         self.printed, self.numbers, self.repeated = {}, [], []
-        self.fault = None
+        self.fault, self.judged = None, None
 
 
 def meant(text):
@@ -102,6 +104,8 @@ def set_field(row, field, text):
         row.status = int(text)
     elif field == "output":
         row.output.append(meant(text) + b"\n")
+    elif field == "checked":
+        row.judged = meant(text)
     elif field == "to":
         row.sink = text
     elif field == "called":
@@ -291,6 +295,13 @@ def reference_answer(row, given):
     return (12 if row.sink and output else status), b"" if row.sink else output, b""
 
 
+def checked(program, text):
+    """Returns what `check` prints of a file of this text."""
+    one = Row("", 0)
+    one.words = [b"check", b"printed"]
+    return program_answer(program, one, {"printed": text})[1]
+
+
 def complaint(program, row, files, change=dict):
     """Returns what is wrong with the answer of the program, or of the reference where that is None, or None."""
     if row.fault is not None or row.status is None:
@@ -302,6 +313,9 @@ def complaint(program, row, files, change=dict):
         return f"    not run: {why}"
     status, found, errors = answer
     wanted = row.status, b"".join(row.output)
+    if row.judged is not None:
+        found = checked(program, found)
+        wanted = row.status, row.judged if not found.startswith(row.judged) else found
     if (status, found, errors) == (*wanted, b""):
         return None
     told = [f"    wanted {wanted[0]} {wanted[1][:300]!r}", f"    got    {status} {found[:300]!r}"]
@@ -329,6 +343,15 @@ def all_rows(of_assistants):
         yield path, {}, list(rule_rows(found))
 
 
+def asked_rows(options):
+    """Gives the rows whose file or title has the wanted text, each with its file's name and the files it may name."""
+    for path, files, rows in all_rows(options.assistants):
+        name = os.path.relpath(path, TOP)
+        for row in rows:
+            if options.only in f"{name} {row.title}":
+                yield name, row, files
+
+
 def main():
     how = {"description": __doc__, "formatter_class": argparse.RawDescriptionHelpFormatter}
     parser = argparse.ArgumentParser(**how)
@@ -339,26 +362,25 @@ def main():
     parser.add_argument("--only", default="")
     parser.add_argument("--accented", action="store_true")
     parser.add_argument("--assistants", action="store_true")
+    parser.add_argument("--jobs", type=int, default=1)
     options = parser.parse_args()
     program, passed, failed = options.cmd and os.path.abspath(options.cmd), 0, 0
     if program and not os.access(program, os.X_OK):
         print(f"no program stands at {options.cmd}\n0 passed, 1 failed")
         return 1
-    for path, files, rows in all_rows(options.assistants):
-        name = os.path.relpath(path, TOP)
-        for row in rows:
-            words = b" ".join(row.words).decode(errors="replace")
-            if options.only not in f"{name} {row.title}":
-                continue
-            if options.list:
-                print(f"{name}:{row.place}: {row.title}")
-                continue
-            wrong = complaint(program, row, files, accented if options.accented else dict)
+    rows = list(asked_rows(options))
+    if options.list:
+        print(*(f"{name}:{row.place}: {row.title}\n" for name, row, _ in rows), sep="", end="")
+        return 0
+    judge = lambda it: complaint(program, it[1], it[2], accented if options.accented else dict)
+    with concurrent.futures.ThreadPoolExecutor(options.jobs) as pool:
+        complaints = pool.map(judge, rows) if options.jobs > 1 else map(judge, rows)
+        for (name, row, _), wrong in zip(rows, complaints):
             passed, failed = passed + (wrong is None), failed + (wrong is not None)
             if wrong is not None:
+                words = b" ".join(row.words).decode(errors="replace")
                 print(f"{name}:{row.place}: {row.title}\n    words  {words[:200]}\n{wrong}")
-    if not options.list:
-        print(f"{passed} passed, {failed} failed")
+    print(f"{passed} passed, {failed} failed")
     return 1 if failed else 0
 
 

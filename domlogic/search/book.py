@@ -41,7 +41,6 @@ class Book:
         for step in self.all:
             self.known.setdefault(step.judgement, step.number)
         self.counts: dict[str, int] = {}
-        self.without_names: dict[Formula, Formula] = {}
 
     # ---------------------------------------------------------------------------- names and sorts
     def fresh(self, sort: str) -> Term:
@@ -69,17 +68,25 @@ class Book:
 
     def same(self, one: Formula, other: Formula) -> bool:
         """Says whether they are equal up to the names of bound variables."""
-        if one == other:
-            return True
+        return one == other or self.alike(one, other, ())
+
+    def alike(self, one: Formula, other: Formula, bound: tuple[tuple[Term, Term], ...]) -> bool:
+        """The same below quantifiers: `bound` are their variables, the inner ones first."""
         if len(one) != len(other) or one[0] != other[0]:
             return False
-        return self.nameless(one) == self.nameless(other)
+        if one[0] == "logic" and bound:
+            pairs = (pair for pair in bound if one in pair[:1] or other in pair[1:])
+            return next(pairs, (one, one)) == (one, other)
+        if one[0] in QUANTIFIERS:
+            sorts = self.sort_of(one[1]), self.sort_of(other[1])
+            inner = ((one[1], other[1]), *bound)
+            return sorts[0] == sorts[1] and self.alike(one[2], other[2], inner)
+        return all(self.alike(*pair, bound) if isinstance(pair[0], tuple) else pair[0] == pair[1]
+                   for pair in zip(one[1:], other[1:]))
 
     def nameless(self, formula: Formula) -> Formula:
         """The formula without the names of bound variables."""
-        if formula not in self.without_names:
-            self.without_names[formula] = nameless(formula, self.logic)
-        return self.without_names[formula]
+        return nameless(formula, self.logic)
 
     def subst(self, node: tuple, terms: Mapping[Term, Term]) -> tuple:
         """Puts terms for variables, all at once; binders that would capture are renamed."""
@@ -196,12 +203,14 @@ class Book:
 
 # For modules that look for these names here.
 from domlogic.reading.nameless import is_pure, modified
-from domlogic.search.formulas import (DEFAULTS, EMPTY, FALSE, NONE, TRUE, conjuncts)
+from domlogic.search.formulas import (DEFAULTS, EMPTY, FALSE, LITERALS, NONE, PLACES, TRUE,
+                                      conjuncts)
 from domlogic.search.formulas import conjunction as conj
 from domlogic.search.formulas import disjunction as disj
 from domlogic.search.formulas import part_at as get_at
 from domlogic.search.formulas import with_facts as mk
 from domlogic.search.formulas import with_part as put
 from domlogic.search.formulas import with_part_at as put_at
-from domlogic.search.printing import command_text, formula_text, term_text, theory_text
+from domlogic.search.printing import (command_text, condition_text, formula_text, judgement_text,
+                                      step_text, term_text, theory_text)
 from domlogic.search.refusals import Fails

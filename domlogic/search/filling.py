@@ -2,22 +2,18 @@
 
 A proof that doesn't end in its procedure's own triple gets it as one more gap.
 """
-from typing import Callable, NamedTuple
+from typing import Iterable, NamedTuple
 
 from domlogic.reading.nameless import nameless_judgement
-from domlogic.reading.sorts import walk
 from domlogic.reading.theories import Procedure, Step, Theory
 from domlogic.search.book import Book, Fails
 from domlogic.search.entailments import Matching
+from domlogic.search.execution import Execution, Watch
 from domlogic.search.messages import Failure, ShownNames, failure_of, in_normal_form, lines_of
-from domlogic.search.triples import Execution
-
-# Told the command at which the search is.
-Watch = Callable[[tuple], None]
 
 
 class Filled(NamedTuple):
-    """The filled theory; of each step that the author wrote, by procedure and new number, what it was."""
+    """The filled theory; of each written step, by procedure and new number, what it was."""
 
     theory: Theory
     written: dict[tuple[str, int], Step]
@@ -28,7 +24,8 @@ class NotFilled(Exception):
 
 
 class Earlier(list):
-    """All steps so far, by number; `seen` are those written and the ends of proposals, which alone are looked at."""
+    """All steps so far, by number; `seen` are those written and the ends of proposals, which alone
+    are looked at."""
 
     def __init__(self, done: list[Step], seen: list[Step]):
         super().__init__(done)
@@ -43,19 +40,23 @@ def own_triple(procedure: Procedure) -> tuple:
 def asked_steps(theory: Theory, procedure: Procedure) -> list[Step]:
     """The steps of the proof, and the procedure's own triple where they don't end in it."""
     steps, own, logic = list(procedure.steps), own_triple(procedure), dict(theory.logic)
-    if not steps or nameless_judgement(steps[-1].judgement, logic) != nameless_judgement(own, logic):
+    last = steps and nameless_judgement(steps[-1].judgement, logic)
+    if last != nameless_judgement(own, logic):
         steps.append(Step(len(steps) + 1, None, None, (), (), own))
     return steps
 
 
-def proposed(book: Book, judgement: tuple, watch: Watch) -> list[tuple]:
-    """The steps of a proposal, which end in the judgement; Fails with a Failure where there is none."""
-    search = Matching(book) if judgement[0] == "entails" else Execution(book, watch)
+def searched(search: Matching | Execution, judgement: tuple) -> int:
+    """The step of the judgement; Fails with a Failure if there is none."""
     try:
-        last = search.prove(*judgement[1:])
+        return search.prove(*judgement[1:])
     except Fails as why:
         failure = failure_of(why, getattr(search, "place", ""))
-        raise Fails(in_normal_form(failure, book, judgement[-1])) from None
+        raise Fails(in_normal_form(failure, search.book, judgement[-1])) from None
+
+
+def ended_in(judgement: tuple, book: Book, last: int) -> list[tuple]:
+    """The steps that the last one needs, which end in the judgement as it is written."""
     steps = book.used(last)
     if steps and steps[-1][4] == judgement:
         return steps
@@ -67,6 +68,18 @@ def proposed(book: Book, judgement: tuple, watch: Watch) -> list[tuple]:
     premises = (here, cited, here + 1) if command else (cited, here + 1)
     rule = "consequence" if command else "cut"
     return [*steps, *same, (here + 2, rule, premises, (), judgement)]
+
+
+def logic_names(nodes: Iterable[tuple]) -> set[str]:
+    """The names of logic variables in them, bound ones too. Parts that are shared are met once."""
+    names, met, work = set(), set(), list(nodes)
+    while work:
+        node = work.pop()
+        if id(node) not in met:
+            met.add(id(node))
+            names |= {node[1]} if node[:1] == ("logic",) else set()
+            work += [part for part in node if isinstance(part, tuple)]
+    return names
 
 
 def title_of(step: Step, procedure: Procedure) -> str:
@@ -101,18 +114,22 @@ class Filling:
             ends[step.number] = len(done)
         return done
 
-    def gap_filled(self, procedure: Procedure, gap: Step, done: list[Step], ends: dict[int, int]) -> list[Step]:
+    def gap_filled(self, procedure: Procedure, gap: Step, done: list[Step],
+                   ends: dict[int, int]) -> list[Step]:
         """The steps that fill the gap; the variables that they bring are declared."""
         now = self.theory._replace(logic=self.logic)
         seen = [done[number - 1] for number in ends.values()]
         book = Book(now, procedure, len(done) + 1, Earlier(done, seen))
+        is_triple = gap.judgement[0] == "triple"
+        search = Execution(book, self.watch) if is_triple else Matching(book)
         try:
-            steps = proposed(book, gap.judgement, self.watch)
+            steps = ended_in(gap.judgement, book, searched(search, gap.judgement))
         except Fails as why:
             failure: Failure = why.args[0]
+            names = ShownNames(book.new, self.theory.logic)
             title = title_of(gap, procedure) + (failure.place and f", {failure.place}")
-            raise NotFilled(f"not filled: {title}", *lines_of(failure, ShownNames(book))) from None
-        names = {it[1] for one in steps for it in walk((one[3], one[4])) if it[:1] == ("logic",)}
+            raise NotFilled(f"not filled: {title}", *lines_of(failure, names)) from None
+        names = logic_names(it[3:] for it in steps)
         self.logic += [(name, sort) for name, sort in book.new.items() if name in names]
         return [Step(number, gap.line, *rest) for number, *rest in steps]
 

@@ -1,4 +1,5 @@
-"""What an author is told where the search finds no proof, in names that don't depend on how long it searched."""
+"""What an author is told where the search finds no proof, in names that don't depend on the length
+of the search."""
 from typing import Iterable, NamedTuple
 
 from domlogic.reading.sorts import walk
@@ -8,7 +9,8 @@ from domlogic.search.shapes import Shapes
 
 
 class Failure(NamedTuple):
-    """Where the search ends, what is known there, what is wanted, and the first of it that isn't shown."""
+    """Where the search ends, what is known there, what is wanted, and the first of it that isn't
+    shown."""
 
     place: str
     known: tuple | None
@@ -34,7 +36,9 @@ def failure_of(why: Fails, place: str) -> Failure:
         return Failure(place, None, told)
     known, wanted, *more = told
     kind, instead, missing = more[0][1:4] if more else (None, None, None)
-    return Failure(place, known, wanted, missing if kind else None, instead if kind == "part" else None)
+    if kind != "part":
+        instead = None
+    return Failure(place, known, wanted, missing if kind else None, instead)
 
 
 def in_normal_form(failure: Failure, book: Book, sort: str) -> Failure:
@@ -42,25 +46,27 @@ def in_normal_form(failure: Failure, book: Book, sort: str) -> Failure:
     shapes = Shapes(book)
 
     def normal(formula):
-        return formula if formula is None or isinstance(formula, str) else shapes.canon(formula, sort).right
+        is_formula = isinstance(formula, tuple)
+        return shapes.canon(formula, sort).right if is_formula else formula
 
     return failure._replace(known=normal(failure.known), wanted=normal(failure.wanted))
 
 
 def lines_of(failure: Failure, names: "ShownNames") -> list[str]:
     """The lines under the place."""
-    given = (("in the case", failure.known), ("wanted", failure.wanted), ("not shown", failure.missing),
-             ("where stands", failure.instead))
-    return [f"  {title:<12} {names.text(formula)}" for title, formula in given if formula is not None]
+    given = {"in the case": failure.known, "wanted": failure.wanted, "not shown": failure.missing,
+             "where stands": failure.instead}
+    told = [(title, formula) for title, formula in given.items() if formula is not None]
+    return [f"  {title:<12} {names.text(formula)}" for title, formula in told]
 
 
 class ShownNames:
-    """The search's own variables as they are shown: $node_1, $node_2 .. in the order in which they are met."""
+    """The search's own variables as they are shown: $node_1, $node_2 .. in the order in which they
+    are met."""
 
-    def __init__(self, book: Book):
-        self.new = book.new
-        self.taken = {name for name, _ in book.theory.logic}
-        self.shown: dict[str, str] = {}
+    def __init__(self, new: dict[str, str], declared: Iterable[tuple[str, str]]):
+        self.new, self.shown = new, {}
+        self.taken = {name for name, _ in declared}
 
     def text(self, formula: tuple | str) -> str:
         """The formula's text in shown names."""

@@ -1,4 +1,6 @@
 """The text of formulas, commands, judgements, steps and theories, as the language writes them."""
+import functools
+
 from domlogic.reading.limits import SHAPE_SORTS, VALUE_SORTS
 from domlogic.reading.texts import quoted
 from domlogic.reading.theories import Procedure, Step, Theory
@@ -16,6 +18,7 @@ def term_text(term: tuple) -> str:
     return f"{{{term_text(parts[0])} {head} {term_text(parts[1])}}}" if parts else head
 
 
+@functools.lru_cache(maxsize=1 << 16)  # steps of a proof repeat each other's formulas
 def formula_text(formula: tuple) -> str:
     """The text of a formula."""
     head, *parts = formula

@@ -1,1 +1,1 @@
-"""The words `prove`, `show` and `explain`, a module each: from words to the printed text and the status."""
+"""The words `prove`, `show` and `explain`, a module each: from words to the text and the status."""

@@ -1,32 +1,23 @@
 """`prove FILE`: the file with its gaps filled, as the proved program accepts it."""
 import re
 
-from domlogic.reading.limits import Refused
-from domlogic.reading.requests import theory_of
 from domlogic.reading.sorts import walk
 from domlogic.reading.theories import Theory
 from domlogic.search.book import theory_text
 from domlogic.search.filling import Filled, NotFilled, filled
+from domlogic.search.stepping import COMMANDS
 from domlogic.words.bar import Bar
-from domlogic.words.program import Answer, asked, checked
+from domlogic.words.program import ACCEPTED, GAP, LIMIT, REFUSED, Answer, checked, read
 
-ACCEPTED, REFUSED, LIMIT, GAP, UNREAD = 0, 1, 8, 9, 11
 WRONG = "the search proposed a wrong proof: this is a defect of the search, and nothing is accepted"
 TOO_LARGE = "the proof that the search found passes a limit"
 
 
 def prove(program: str, file: str) -> Answer:
-    """Fills the gaps of the file; what is printed is accepted by the program, or says why there is nothing."""
-    first = asked(program, "check", file)
-    if not is_fillable(first):
+    """Fills the gaps of the file; what is printed is accepted, or says why there is nothing."""
+    first, theory = read(program, file)
+    if theory is None or not is_fillable(first):
         return first
-    try:
-        with open(file, "rb") as given:
-            theory = theory_of(given.read())
-    except Refused as why:
-        return Answer(why.status, f"{why.line}\n")
-    except OSError:
-        return Answer(UNREAD, "")
     if first.status == ACCEPTED:
         return judged(program, Filled(theory, {}))
     try:
@@ -44,8 +35,8 @@ def is_fillable(first: Answer) -> bool:
 
 def searched(theory: Theory) -> Filled:
     """The filled theory, with a bar beside where it takes long."""
-    commands = {it for procedure in theory.procedures for it in walk(procedure.body) if is_simple(it)}
-    bar = Bar(len(commands))
+    bodies = [procedure.body for procedure in theory.procedures]
+    bar = Bar(len({it for body in bodies for it in walk(body) if is_simple(it)}))
     try:
         return filled(theory, bar.tell)
     finally:
@@ -54,8 +45,7 @@ def searched(theory: Theory) -> Filled:
 
 def is_simple(node: tuple) -> bool:
     """Whether the part of a body is a command that has no blocks."""
-    return node[:1] != () and node[0] in (":=", "call", "item", "createNode", "nodeName", "childNodes", "parentNode", "appendChild",
-                       "removeChild", "insertBefore")
+    return node[:1] != () and node[0] in COMMANDS
 
 
 def judged(program: str, done: Filled) -> Answer:
@@ -67,5 +57,6 @@ def judged(program: str, done: Filled) -> Answer:
     found = re.fullmatch(r"step (\d+) of ([^ ]+), line \d+: (.*)\n", answer.text)
     step = found and done.written.get((found[2], int(found[1])))
     if step:  # the author's own step is wrong: the gap before it kept `check` from saying so
-        return Answer(answer.status, f"step {step.number} of {found[2]}, line {step.line}: {found[3]}\n")
+        place = f"step {step.number} of {found[2]}, line {step.line}"
+        return Answer(answer.status, f"{place}: {found[3]}\n")
     return Answer(answer.status, f"{answer.text}{TOO_LARGE if answer.status == LIMIT else WRONG}\n")

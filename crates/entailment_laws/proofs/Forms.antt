@@ -1,7 +1,8 @@
 -- What a linear form comes to: where no variable counts, its constant.
-use Rattle.std.proofs.Common.{◌≡◌, ◌⊎◌, ℕ, zero, suc, ◌≤◌, refl, sym, ap, ◌∙◌, subst, arith, inl, inr, ⊎_elim, ℤ, pos, ◌+ℤ◌, ◌*ℤ◌, neg_ℤ, int_le, Bool, true, false, [], ◌∷◌, ◌++◌, length, cond, rules}
+use Rattle.std.proofs.Common.{◌≡◌, ◌⊎◌, ℕ, zero, suc, ◌≤◌, refl, sym, ap, ◌∙◌, subst, arith, inl, inr, ⊎_elim, ℤ, pos, ◌+ℤ◌, ◌*ℤ◌, neg_ℤ, Bool, true, false, [], ◌∷◌, ◌++◌, length, cond}
 use Rattle.std.proofs.Math.IntN.{zero-*ℤ, *ℤ-zero}
 use Rattle.std.proofs.lemmas.Int.{ints}
+use Rattle.model_shapes.proofs.Tests.{int-is}
 use Rattle.model_shapes.proofs.Truth.{both_true}
 use Rattle.model_shapes.specs.Things.{val}
 use Rattle.model_terms.specs.Variables.{Var}
@@ -12,11 +13,6 @@ use Rattle.model_shapes.specs.Tests.{int_eq}
 use Rattle.model_formulas.specs.Satisfaction.{Environment, number_of, meaning_of}
 use Rattle.rule_table.specs.Linear.{times, plain, Form, multiple, minus, coefficient, constant, none_counts, is_constant}
 use Rattle.entailment_laws.proofs.Ints.{add-mul, mul-add, mul-sub, neg-mul}
-
-pub int_eq-is : (a b : ℤ) → int_eq a b ≡ true → a ≡ b
-int_eq-is a b e =
-    let h : (int_le a b ≡ true) × (int_le b a ≡ true) = both_true (int_le a b) (int_le b a) e in
-    search (rules, ints)
 
 -- what the form comes to
 abbrev pub value_of : Environment → Form → ℤ
@@ -221,7 +217,7 @@ module _ (e : Environment) where
       by_test true q g ih =
           inl
           (ap (λ z. coefficient z form) (same_var-is x y q)
-          ∙ int_eq-is (coefficient y form) (pos 0) g)
+          ∙ int-is (coefficient y form) (pos 0) g)
       by_test false q g (inl m) = inl m
       by_test false q g (inr m) = inr (ap (λ z. pos 0 +ℤ z) m)
   counts-none x (plain a ∷ parts) form h = counts-none x parts form h

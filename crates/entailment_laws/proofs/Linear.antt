@@ -2,6 +2,7 @@
 use Rattle.std.proofs.Common.{◌≡◌, refl, sym, ap, ◌∙◌, subst, arith, ℤ, pos, ◌+ℤ◌, ◌-ℤ◌, ◌*ℤ◌, ◌≤ℤ◌, ◌<ℤ◌, int_le, int_lt, true, ◌&&◌, IsTrue, rules}
 use Rattle.std.proofs.Math.IntN.{zero-*ℤ, *ℤ-zero}
 use Rattle.std.proofs.lemmas.Int.{ints}
+use Rattle.model_shapes.proofs.Tests.{int-is}
 use Rattle.model_shapes.proofs.Truth.{both_true}
 use Rattle.model_shapes.specs.Sorts.{Sort, value, int_sort}
 use Rattle.model_shapes.specs.Values.{null, nolist, node_number, list_number, int, str, boolean}
@@ -13,7 +14,7 @@ use Rattle.model_shapes.specs.Tests.{int_eq}
 use Rattle.model_formulas.specs.Satisfaction.{Environment, Entails, Meets, number_of, meaning_of}
 use Rattle.rule_table.specs.Linear.{Weighed, order, equation, both_of, comparisons, sum_of, minus, multiple, rest, constant, in_range, are_fair, equations_alone, is_constant, at_least_zero, below_zero, is_zero}
 use Rattle.entailment_laws.proofs.Ints.{mul-not_negative}
-use Rattle.entailment_laws.proofs.Forms.{int_eq-is, value_of, value-append, value-multiple, value-minus, constant-means}
+use Rattle.entailment_laws.proofs.Forms.{value_of, value-append, value-multiple, value-minus, constant-means}
 use Rattle.entailment_laws.proofs.Quantified.{Stands}
 
 le_is : (a b : ℤ) → int_le a b ≡ true → a ≤ℤ b
@@ -83,7 +84,7 @@ module _ (e : Environment) where
   sum-zero (order a l r) s t f m =
       value-multiple e a (difference r l)
       ∙ ap (λ z. z *ℤ (number_of (meaning_of e r) -ℤ number_of (meaning_of e l)))
-      (int_eq-is a (pos 0) f)
+      (int-is a (pos 0) f)
       ∙ zero-*ℤ (number_of (meaning_of e r) -ℤ number_of (meaning_of e l))
   sum-zero (equation a l r) s t f m = equation-sum a l r m
   sum-zero (both_of v w) s t f m =
@@ -145,7 +146,7 @@ module _ (w : Weighed) (s : Sort) (fair : are_fair w ≡ true) where
       ∙ ap (λ z. val (int z))
       (last (number_of (meaning_of e a)) (number_of (meaning_of e b)) (value_of e (sum_of w))
       (sym (rest-value e a b w) ∙ constant-means e (rest a b (sum_of w)) g.0
-      ∙ int_eq-is (constant (rest a b (sum_of w))) (pos 0) g.1)
+      ∙ int-is (constant (rest a b (sum_of w))) (pos 0) g.1)
       (sum-zero e w s t f.1 m))
       ∙ sym (int_is (meaning_of e b) (sb e pr))
     where

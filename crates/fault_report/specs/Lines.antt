@@ -1,27 +1,25 @@
 -- Needn't be believed: the line of each report, among those of the definitions.
 use Rattle.std.specs.Prelude.{ℕ, List}
 use Rattle.model_answers.specs.Output.{fail_line, no_proof_line, bad_words_line, bad_text_line, bad_document_text_line, file_fault_line, range_line, repeat_line, fault_line, spent_line, limit_line, gap_line}
-use Rattle.row_patterns.specs.Verdicts.{verdict_in}
-use Rattle.grove_data.specs.UsedNumbers.{numbered_of}
-use Rattle.theory_syntax.specs.Commands.{command_of}
-use Rattle.dom_syntax.specs.Faults.{fault_at}
-use Rattle.dom_meaning.specs.Faults.{fault_kind_of, limit_kind_of}
-use Rattle.fault_report.specs.declared.reports.Report.{Report}
-use Rattle.fault_report.specs.declared.reports.Report.TheVariants as r
+use Rattle.fault_report.specs.declared.reports.Report as program
+use Rattle.fault_report.specs.Reports.{Report, step_fails, no_proof, bad_words, bad_text, bad_document_text, bad_file, out_of_range, repeated, faulted, fuel_spent, limit, gap_left, report_of}
 
 -- the line, with its newline
-abbrev pub line_of : Report → List ℕ
-line_of (r.StepFails step procedure at rule verdict) =
-    fail_line step procedure at rule (verdict_in verdict)
-line_of (r.NoProof procedure) = no_proof_line procedure
-line_of r.BadWords = bad_words_line
-line_of (r.BadText token) = bad_text_line token
-line_of (r.BadDocumentText token) = bad_document_text_line token
-line_of (r.BadFile procedure step kind) = file_fault_line (fault_at procedure step kind)
-line_of (r.OutOfRange kind n) = range_line (numbered_of kind n)
-line_of (r.Repeated kind n) = repeat_line (numbered_of kind n)
-line_of (r.Faulted kind steps command) =
-    fault_line (fault_kind_of kind) steps (command_of command)
-line_of (r.FuelSpent steps) = spent_line steps
-line_of (r.Limit kind) = limit_line (limit_kind_of kind)
-line_of (r.GapLeft step procedure at) = gap_line step procedure at
+abbrev pub report_line : Report → List ℕ
+report_line (step_fails step procedure at rule verdict) =
+    fail_line step procedure at rule verdict
+report_line (no_proof procedure) = no_proof_line procedure
+report_line bad_words = bad_words_line
+report_line (bad_text token) = bad_text_line token
+report_line (bad_document_text token) = bad_document_text_line token
+report_line (bad_file fault) = file_fault_line fault
+report_line (out_of_range number) = range_line number
+report_line (repeated number) = repeat_line number
+report_line (faulted kind steps command) = fault_line kind steps command
+report_line (fuel_spent steps) = spent_line steps
+report_line (limit kind) = limit_line kind
+report_line (gap_left step procedure at) = gap_line step procedure at
+
+-- the line of a report of the program
+abbrev pub line_of : program.Report → List ℕ
+line_of report = report_line (report_of report)

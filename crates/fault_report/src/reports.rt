@@ -1,13 +1,12 @@
 // What the program answers in one line.
 ghost use Rattle.std.specs.Prelude.{◌≡◌, IfOk};
-ghost use Rattle.model_answers.specs.Output.{range_line, repeat_line, file_fault_line};
-ghost use Rattle.model_answers.specs.Output.{fail_line, gap_line, no_proof_line, fault_line};
 ghost use Rattle.row_patterns.specs.Verdicts.{verdict_in};
 ghost use Rattle.grove_data.specs.UsedNumbers.{numbered_of};
 ghost use Rattle.theory_syntax.specs.Commands.{command_of};
 ghost use Rattle.dom_syntax.specs.Faults.{fault_at};
 ghost use Rattle.dom_meaning.specs.Faults.{fault_kind_of};
-ghost use Rattle.fault_report.specs.Lines.{line_of};
+ghost use Rattle.fault_report.specs.Reports as plain;
+ghost use Rattle.fault_report.specs.Reports.{report_of};
 
 use dom_meaning::FaultKind;
 use dom_syntax::{Command, FileKind};
@@ -102,14 +101,12 @@ pub enum Report {
 }
 
 impl Copied for Report {
-    ghost use Rattle.std.specs.Prelude.{ℕ, List};
+    ghost Seen = { plain.Report };
 
-    ghost Seen = { List ℕ };
-
-    ghost seen = { line_of };
+    ghost seen = { report_of };
 
     fn copy(&self, alloc: Global) -> Result<Report, OutOfMemory>
-        ensures { IfOk result (λ copied. line_of copied ≡ line_of self.now) }
+        ensures { IfOk result (λ copied. report_of copied ≡ report_of self.now) }
     {
         match self {
             Self::StepFails {
@@ -148,7 +145,7 @@ impl Copied for Report {
 
 // The report of a fault of a file.
 fn bad_file(procedure: u32, step: u32, kind: FileKind) -> Report
-    ensures { line_of result ≡ file_fault_line (fault_at procedure step kind) }
+    ensures { report_of result ≡ plain.bad_file (fault_at procedure step kind) }
 {
     Report::BadFile {
         procedure,
@@ -159,21 +156,22 @@ fn bad_file(procedure: u32, step: u32, kind: FileKind) -> Report
 
 // The report of a number that is out of range.
 fn out_of_range(kind: IdKind, number: u64) -> Report
-    ensures { line_of result ≡ range_line (numbered_of kind number) }
+    ensures { report_of result ≡ plain.out_of_range (numbered_of kind number) }
 {
     Report::OutOfRange { kind, number }
 }
 
 // The report of a number that repeats.
 fn repeated(kind: IdKind, number: u32) -> Report
-    ensures { line_of result ≡ repeat_line (numbered_of kind number) }
+    ensures { report_of result ≡ plain.repeated (numbered_of kind number) }
 {
     Report::Repeated { kind, number }
 }
 
 // The report of a gap, with the name copied.
 fn copy_of_gap(alloc: Global, step: u32, procedure: &Text, at: u32) -> Result<Report, OutOfMemory>
-    ensures { IfOk result (λ copied. line_of copied ≡ gap_line step procedure.now at) }
+    ensures { IfOk result
+        (λ copied. report_of copied ≡ plain.gap_left step procedure.now at) }
 {
     Ok(Report::GapLeft {
         step,
@@ -184,7 +182,7 @@ fn copy_of_gap(alloc: Global, step: u32, procedure: &Text, at: u32) -> Result<Re
 
 // The report of a proof's end, with the name copied.
 fn copy_of_end(alloc: Global, procedure: &Text) -> Result<Report, OutOfMemory>
-    ensures { IfOk result (λ copied. line_of copied ≡ no_proof_line procedure.now) }
+    ensures { IfOk result (λ copied. report_of copied ≡ plain.no_proof procedure.now) }
 {
     let procedure = procedure.copy(alloc)?;
     Ok(Report::NoProof { procedure })
@@ -199,8 +197,8 @@ fn copy_of_failure(
     rule: &Text,
     verdict: Verdict,
 ) -> Result<Report, OutOfMemory>
-    ensures { IfOk result (λ copied. line_of copied
-        ≡ fail_line step procedure.now at rule.now (verdict_in verdict)) }
+    ensures { IfOk result (λ copied. report_of copied
+        ≡ plain.step_fails step procedure.now at rule.now (verdict_in verdict)) }
 {
     Ok(Report::StepFails {
         step,
@@ -218,8 +216,8 @@ fn copy_of_fault(
     steps: u32,
     command: &Command,
 ) -> Result<Report, OutOfMemory>
-    ensures { IfOk result (λ copied. line_of copied
-        ≡ fault_line (fault_kind_of kind) steps (command_of command.now)) }
+    ensures { IfOk result (λ copied. report_of copied
+        ≡ plain.faulted (fault_kind_of kind) steps (command_of command.now)) }
 {
     let command = command.copy(alloc)?;
     Ok(Report::Faulted {

@@ -1,0 +1,57 @@
+"""Formulas without the names of bound variables which still know what these were called."""
+from typing import Iterator
+
+from domlogic.reading.nameless import opened, stands_in
+
+Node = tuple
+
+
+class Binder(str):
+    """The sort of a quantifier's variable, equal to the sort alone, with the name that is written."""
+
+    name: str
+
+    def __new__(cls, sort: str, name: str):
+        made = super().__new__(cls, sort)
+        made.name = name
+        return made
+
+
+def unnamed(node: Node, logic: dict[str, str], binders: tuple = ()) -> Node:
+    """The nameless form, equal to that of `nameless`, whose binders keep their names."""
+    if node[0] == "logic" and node in binders:
+        return ("bound", logic[node[1]], binders.index(node))
+    if node[0] in ("exists", "forall"):
+        _, bound, inside = node
+        return (node[0], Binder(logic[bound[1]], bound[1]), unnamed(inside, logic, (bound, *binders)))
+    return tuple(unnamed(it, logic, binders) if isinstance(it, tuple) else it for it in node)
+
+
+def unnamed_judgement(judgement: Node, logic: dict[str, str]) -> Node:
+    """The same of a judgement; a command has no binders."""
+    head, left, *command, right, sort = judgement
+    return (head, unnamed(left, logic), *command, unnamed(right, logic), sort)
+
+
+def named(node: Node) -> Node:
+    """The formula with names, those that were written wherever they can stand."""
+    if node[0] in ("exists", "forall") and isinstance(node[1], str):
+        variable = ("logic", free_name(node))
+        return (node[0], variable, named(opened(node[2], variable)))
+    return tuple(named(it) if isinstance(it, tuple) else it for it in node)
+
+
+def free_name(node: Node) -> str:
+    """The name that a quantifier's variable had, or one like it that isn't free behind it."""
+    name = getattr(node[1], "name", "$x")
+    while stands_in(("logic", name), node[2]):
+        name += "_"
+    return name
+
+
+def binders_above(formula: Node, path: tuple[int, ...]) -> Iterator[Node]:
+    """The bound variables in whose scope a part stands, the innermost last."""
+    for at in path:
+        if formula[0] in ("exists", "forall"):
+            yield formula[1]
+        formula = formula[at]
