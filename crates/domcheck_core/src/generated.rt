@@ -7,8 +7,8 @@ use crate::checks::check_bytes;
 use crate::replies::Reply;
 use crate::status::Status;
 use dom_terms::{OutOfMemory, Text};
-use theory_writing::write_theory;
 use std::alloc::Global;
+use theory_writing::write_theory;
 use work_maker::make_theory;
 
 // The text with so many procedures, written from the generated theory.

@@ -15,8 +15,8 @@ use dom_meaning::FaultKind;
 use dom_syntax::Command;
 use dom_terms::{LimitKind, OutOfMemory, Text, Verdict};
 use grove_data::IdKind;
-use theory_writing::write_command;
 use std::alloc::{AllocError, Global};
+use theory_writing::write_command;
 
 // The text of a number that is out of range.
 fn range_text(alloc: Global, kind: IdKind, number: u64) -> Result<String, AllocError>
