@@ -10,6 +10,7 @@ use Rattle.domcheck_core.specs.declared.status.Status.TheVariants as status
 pub generated_is_accepted : (n : ℕ) → 1 ≤ n → n ≤ most_makers → (bytes : List ℕ)
     → bytes ≡ made_text n → CheckAnswer bytes status.Done (line (accepted_text n (8 * n)))
 generated_is_accepted n some most bytes same =
-    let (read, file, accepted, own) = printed-is-accepted n some most in
+    let file = printed-is-accepted n some most in
     subst (λ (z : List ℕ). CheckAnswer z status.Done (line (accepted_text n (8 * n)))) (sym same)
-    (subst (CheckAnswer (made_text n) status.Done) own (judged read file (says_yes accepted)))
+    (subst (CheckAnswer (made_text n) status.Done) file.3
+    (judged file.0 file.1 (says_yes file.2)))
