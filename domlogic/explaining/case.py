@@ -16,9 +16,11 @@ LETTERS = {"W": "Y"}
 TERM_PLACES = {"=": (1, 2), "<=": (1, 2), "node": (1, 2, 4), "len": (1,), "is it": (1,), "is": (1,),
                "exists": (1,), "forall": (1,)}
 COMMANDS = {"skip": "skip", ":=": "x := E", "if": "if B BL else BL2", "while": "while B BL",
-            "local": "local x : s BL", "appendChild": "appendChild(E, F)", "removeChild": "removeChild(E, F)",
+            "local": "local x : s BL", "appendChild": "appendChild(E, F)",
+            "removeChild": "removeChild(E, F)",
             "insertBefore": "insertBefore(E, F, G)", "item": "x := item(E, F)",
-            **{query: f"x := {query}(E)" for query in ("createNode", "nodeName", "parentNode", "childNodes")}}
+            **{query: f"x := {query}(E)"
+               for query in ("createNode", "nodeName", "parentNode", "childNodes")}}
 
 
 class Case:
@@ -32,8 +34,11 @@ class Case:
         self.judgement = self.judged(self.step)
         numbers = self.step.premises
         self.cited_steps = [procedure.steps[it - 1] if 1 <= it <= at else None for it in numbers]
-        self.cited = None if None in self.cited_steps else [self.judged(it) for it in self.cited_steps]
-        self.written = Written(self.scope, (self.judgement, tuple(self.step.arguments), tuple(self.cited or ())))
+        self.cited = None if None in self.cited_steps else [self.judged(it)
+                                                            for it in self.cited_steps]
+        self.written = Written(self.scope,
+                               (self.judgement, tuple(self.step.arguments),
+                                tuple(self.cited or ())))
 
     def judged(self, step: Step) -> Node:
         return unnamed_judgement(step.judgement, self.scope.logic)
@@ -50,7 +55,8 @@ class Case:
             return self.source.written(node)
         return term_text(node) if is_term else formula_text(node)
 
-    def pattern_text(self, node: Node, state: State, is_term: bool = False, place: tuple = (0, ())) -> str:
+    def pattern_text(self, node: Node, state: State, is_term: bool = False,
+                     place: tuple = (0, ())) -> str:
         """A part at a place with what is read for its letters, and the letters for which nothing is."""
         if node[0] == "letter":
             node, is_term = state.guess.get(node[1], node), not is_formula(node[1])
@@ -60,7 +66,7 @@ class Case:
             return COMMANDS[node[0]]
         if ("HAT",) in walk(node) and "B" in state.guess:
             node = replaced(node, {("HAT",): condition_formula(state.guess["B"])})
-        return self.text(plain(called(node, state, place)), is_term)
+        return self.text(plain(called(node, state, place, self.scope.logic)), is_term)
 
     def letters(self, state: State, most: int = 60) -> str:
         """What is read for the letters, in the order in which it was read."""
@@ -148,7 +154,8 @@ def wanted_text(case: Case, miss: Miss) -> str:
 def wanted_lines(case: Case, miss: Miss, wanted: str) -> Iterator[str]:
     """What is wanted at a place and what is written there."""
     yield from labelled("wanted", f"{code(shortened(wanted, 160))}{origin(miss)}")
-    yield from labelled("written", code(shortened(case.written_text(miss.judgement, miss.path), 160)))
+    yield from labelled("written",
+                        code(shortened(case.written_text(miss.judgement, miss.path), 160)))
 
 
 def origin(miss: Miss) -> str:

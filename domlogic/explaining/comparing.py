@@ -71,7 +71,8 @@ class Comparison:
         """The end of the way that came farthest."""
         return max(self.misses, key=lambda it: (it.rank, it.state.count))
 
-    def miss(self, path: Path, wanted: Node | None, state: State, letter: str = "", why: str = "") -> None:
+    def miss(self, path: Path, wanted: Node | None, state: State, letter: str = "",
+             why: str = "") -> None:
         rank = LAST if self.is_last else self.at
         self.misses.append(Miss(rank, self.at, path, wanted, state, letter, why))
 
@@ -82,7 +83,8 @@ class Comparison:
         parts.sort(key=lambda part: part[0][0] == "with")
         yield from self.sequence(parts, (), state, at)
 
-    def premises(self, patterns: list, cited: list[Node], state: State, at: int = 1) -> Iterator[State]:
+    def premises(self, patterns: list, cited: list[Node], state: State,
+                 at: int = 1) -> Iterator[State]:
         """The ways through the premises, the first of which is the one of this number."""
         if not patterns:
             yield from self.ends(state)
@@ -144,7 +146,8 @@ class Comparison:
         else:
             self.miss(path, ("letter", name), state)
 
-    def same(self, wanted: Node, found: Node, path: Path, state: State, letter: str = "") -> Iterator[State]:
+    def same(self, wanted: Node, found: Node, path: Path, state: State,
+             letter: str = "") -> Iterator[State]:
         """The one way, where a part is what is wanted."""
         if wanted == found:
             yield state._replace(count=state.count + 1)
@@ -180,7 +183,8 @@ class Comparison:
         if term_sort(term, scope) != term_sort(variable, scope):
             self.miss(path, pattern, state, why=TERM_SORT)
         elif name in state.guess:
-            yield from self.same(replaced(state.guess[name], {variable: term}), found, path, state, f"{name} with")
+            yield from self.same(replaced(state.guess[name], {variable: term}), found, path, state,
+                                 f"{name} with")
         elif is_outside(variable, term, found):
             self.miss(path, pattern, state, why=LEFT)
         else:
@@ -189,7 +193,8 @@ class Comparison:
     def ends(self, state: State) -> Iterator[State]:
         """The way, where what was looked at last is right too."""
         self.is_last, self.at = True, 0
-        holds = all(list(self.put_in(pattern, found, path, state)) for pattern, found, path in state.later)
+        holds = all(list(self.put_in(pattern, found, path, state)) for pattern, found,
+                    path in state.later)
         self.is_last = False
         if holds:
             yield state
@@ -212,7 +217,8 @@ def narrowed(wanted: Node, found: Node) -> tuple[Path, Node]:
         return narrowed_below(wanted, found)
     pairs = [(at, a, b) for at, (a, b) in enumerate(zip(wanted, found)) if a != b]
     is_small = max(size_of(wanted), size_of(found)) <= SMALL
-    if (len(pairs) > 1 and is_small) or any(not isinstance(it, tuple) for _, a, b in pairs for it in (a, b)):
+    if (len(pairs) > 1 and is_small) or any(not isinstance(it, tuple) for _, a, b in pairs
+                                            for it in (a, b)):
         return (), wanted
     at, left, right = pairs[0]
     inner, left = narrowed(left, right)
@@ -228,12 +234,13 @@ def narrowed_below(wanted: Node, found: Node) -> tuple[Path, Node]:
     return (2, *inner), part
 
 
-def called(node: Node, state: State, place: tuple[int, Path]) -> Node:
+def called(node: Node, state: State, place: tuple[int, Path], logic: dict[str, str]) -> Node:
     """A part at a place with what is read for its letters, and with the names that bound variables have there."""
-    known = {("letter", name): found for name, found in state.guess.items() if isinstance(found, tuple)}
+    known = {("letter", name): found for name, found in state.guess.items()
+             if isinstance(found, tuple)}
     names = {}
     for letter, (name, judgement, path) in state.binders.items():
         is_inside = place[0] == judgement and place[1][: len(path)] == path
         if is_inside or state.guess[letter][1].startswith(NEW):
             names[state.guess[letter]] = ("logic", name)
-    return named(replaced(replaced(node, known), names))
+    return named(replaced(replaced(node, known), names), logic)

@@ -13,7 +13,8 @@ from domlogic.search.book import term_text
 
 def ways(case: Case) -> Iterator[Way]:
     """The readings of the conclusion, as in domlogic/reading/computing.py."""
-    for guess, premises, _ in COMPUTING[case.step.rule](case.step, case.judgement, case.written, case.theory):
+    for guess, premises, _ in COMPUTING[case.step.rule](case.step, case.judgement, case.written,
+                                                        case.theory):
         yield Way(None, Comparison(case.written), State(guess, {}, {}), premises)
 
 
@@ -22,15 +23,16 @@ def shape(case: Case) -> Iterator[str]:
     rule = case.step.rule
     if case.step.arguments and rule != "linear":
         yield from case.source.view_of(case.step.arguments[0])
-        yield f"{code(rule)} takes no argument after `with`."
+        yield f"{code(rule)} takes no argument after 'with'."
         return
-    yield from {"eq_subst": substitution, "linear": sum_form, "seq": block, "call": call}[rule](case)
+    yield from {"eq_subst": substitution, "linear": sum_form, "seq": block,
+                "call": call}[rule](case)
 
 
 def block(case: Case) -> Iterator[str]:
     """A command that is no block."""
     yield from case.marked(0, (2,))
-    yield "`seq` is for a block, `{ C1 ; .. ; Cn }`, and this command is none."
+    yield "'seq' is for a block, '{ C1 ; .. ; Cn }', and this command is none."
 
 
 # ---------------------------------------------------------------------------------------- eq_subst
@@ -41,7 +43,8 @@ def substitution(case: Case) -> Iterator[str]:
     if left[0] != "and" or left[1][0] != "=":
         path = (1, 1) if left[0] == "and" else (1,)
         yield from case.marked(0, path)
-        yield from wrapped("The left side has to be `(E = F and P)`, an equation and a formula in which it is used" +
+        yield from wrapped("The left side has to be '(E = F and P)', an equation and a formula in "
+                           "which it is used" +
                            ("; the equation stands first." if left[0] == "and" else "."))
         return
     old, new = left[1][1:]
@@ -55,11 +58,13 @@ def substitution(case: Case) -> Iterator[str]:
                         + (f", or {code(shown[1])} for it" if part == old else ""))
     yield from labelled("written", code(shortened(case.written_text(0, (2, *path)))))
     if (part, at_path(right, path)) == (new, old):
-        yield from wrapped(f"Equals are put from left to right: of {code(f'{shown[0]} = {shown[1]}')} the right term "
+        yield from wrapped("Equals are put from left to right: of "
+                           f"{code(f'{shown[0]} = {shown[1]}')} the right term "
                            "is put for the left one.")
 
 
-def unreplaced(one: Node, other: Node, old: Node, new: Node, is_term: bool = False) -> tuple[Path, Node] | None:
+def unreplaced(one: Node, other: Node, old: Node, new: Node, is_term: bool = False) -> tuple[Path,
+                                                                                             Node] | None:
     """The first place where another part stands than there or what may be put for it."""
     if one == other or (is_term and (one, other) == (old, new)):
         return None
@@ -95,12 +100,14 @@ def sum_form(case: Case) -> Iterator[str]:
     for path in paths:
         if not compares_ints(at_path(case.judgement, path), case.written):
             yield from case.marked(0, path)
-            yield "Each conjunct of the left side has to be `E <= F` or `E = F` of integers, and this one isn't."
+            yield "Each conjunct of the left side has to be 'E <= F' or 'E = F' of integers, and this one isn't."
             return
     if len(paths) != len(arguments):
         yield from case.marked(0, (1,))
-        yield from wrapped(f"After `with` a number is wanted for each conjunct of the left side: it has "
-                           f"{counted(len(paths), 'conjunct')}, and there {'is' if len(arguments) == 1 else 'are'} "
+        yield from wrapped("After 'with' a number is wanted for each conjunct of the left side: "
+                           "it has "
+                           f"{counted(len(paths), 'conjunct')}, and there "
+                           f"{'is' if len(arguments) == 1 else 'are'} "
                            f"{counted(len(arguments), 'number')}.")
         return
     for argument in arguments:
@@ -109,7 +116,7 @@ def sum_form(case: Case) -> Iterator[str]:
             yield "Each argument has to be a number as it is written, and this one isn't."
             return
     yield from case.marked(0, (2,))
-    yield "The right side has to be `E <= F` or `E = F` of integers, or `false`."
+    yield "The right side has to be 'E <= F' or 'E = F' of integers, or 'false'."
 
 
 def linear_side(case: Case, side: str) -> Iterator[str]:
@@ -118,7 +125,8 @@ def linear_side(case: Case, side: str) -> Iterator[str]:
     if side == "coefficient":
         yield from coefficient(case, facts, factors)
         return
-    terms = [pair for (_, low, high), factor in zip(facts, factors) for pair in ((high, factor), (low, -factor))]
+    terms = [pair for (_, low, high), factor in zip(facts, factors)
+             for pair in ((high, factor), (low, -factor))]
     total, right = difference(*terms), case.judgement[2]
     yield from case.marked(0, (2,))
     yield from wrapped("Of each conjunct take right - left, times its number: the sum is "
@@ -135,16 +143,18 @@ def coefficient(case: Case, facts: list[Node], factors: list[int]) -> Iterator[s
             why = f"it has to be from -{figure(MOST)} to {figure(MOST)}" if is_large else \
                 "a number below 0 is for an equation alone"
             yield from case.source.view_of(argument)
-            yield from wrapped(f"{factor} is the number of the conjunct {code(case.written_text(0, path))}, and {why}.")
+            yield from wrapped(f"{factor} is the number of the conjunct "
+                               f"{code(case.written_text(0, path))}, and {why}.")
             return
 
 
 def wanted_sum(case: Case, facts: list[Node], factors: list[int], total: dict, right: Node) -> str:
     """What the sum would have to be."""
     if right == ("false",):
-        return "For `false` it has to be a number below 0."
+        return "For 'false' it has to be a number below 0."
     own = difference((right[2], 1), (right[1], -1))
-    left = {part: factor for part in {**own, **total} if (factor := own.get(part, 0) - total.get(part, 0))}
+    left = {part: factor for part in {**own, **total}
+            if (factor := own.get(part, 0) - total.get(part, 0))}
     told = f"Of the right side, {code(case.written_text(0, (2,)))}, it is {code(form_text(own))}"
     if right[0] == "<=":
         return f"{told}, which less that sum is {code(form_text(left))}: that has to be a number, and at least 0."
@@ -152,7 +162,7 @@ def wanted_sum(case: Case, facts: list[Node], factors: list[int], total: dict, r
         return f"{told}: for an equation the two have to be the same."
     at = next(at for at, fact in enumerate(facts) if fact[0] == "<=" and factors[at])
     return f"{told}, the same; but an equation follows from equations alone, so the number {factors[at]} of conjunct " \
-           f"{at + 1}, a `<=`, has to be 0."
+           f"{at + 1}, a '<=', has to be 0."
 
 
 def form_text(form: dict) -> str:
@@ -163,7 +173,8 @@ def form_text(form: dict) -> str:
     for factor, text in parts:
         sign = " - " if factor < 0 else " + "
         number = str(abs(factor)) if not text or abs(factor) != 1 else ""
-        told += (sign if told else sign.strip().replace("+", "")) + " ".join(filter(None, (number, text)))
+        told += (sign if told
+                 else sign.strip().replace("+", "")) + " ".join(filter(None, (number, text)))
     return told or "0"
 
 
@@ -174,12 +185,13 @@ def call(case: Case) -> Iterator[str]:
     _, pre, command, post, sort = case.judgement
     if command[0] != "call":
         yield from case.marked(0, (2,))
-        yield "`call` is for a command `call (r, ..) := f(E, ..)`, and this command is none."
+        yield "'call' is for a command 'call (r, ..) := f(E, ..)', and this command is none."
         return
     callee = next(it for it in case.theory.procedures if it.name == command[2])
     if sort != callee.sort:
         yield from case.marked_sort(0)
-        yield from wrapped(f"{code(callee.name)} is specified at sort {sort_in_words(callee.sort)}, and the step is at "
+        yield from wrapped(f"{code(callee.name)} is specified at sort "
+                           f"{sort_in_words(callee.sort)}, and the step is at "
                            f"{sort_in_words(sort)}.")
         return
     yield from specification(case, callee)
@@ -190,16 +202,19 @@ def specification(case: Case, callee: Procedure) -> Iterator[str]:
     _, pre, (_, results, _, arguments), post, _ = case.judgement
     terms = {("prog", name): term for (name, _), term in zip(callee.params, arguments)}
     terms |= {("prog", name): term for (name, _), term in zip(callee.results, results)}
-    for name, own, found, at in (("requires", callee.pre, pre, 1), ("ensures", callee.post, post, 3)):
+    for name, own, found, at in (("requires", callee.pre, pre, 1),
+                                 ("ensures", callee.post, post, 3)):
         wanted = replaced(unnamed(own, case.scope.logic), terms)
         if wanted == found:
             continue
         path, part = narrowed(wanted, found)
-        yield from wrapped(f"The {'pre' if at == 1 else 'post'} has to be the {name} of {code(callee.name)} with the "
-                           f"arguments and results put in: {code(shortened(case.text(named(wanted)), 120))}.")
+        yield from wrapped(f"The {'pre' if at == 1 else 'post'} has to be the {name} of "
+                           f"{code(callee.name)} with the "
+                           "arguments and results put in: "
+                           f"{code(shortened(case.text(named(wanted, case.scope.logic)), 120))}.")
         yield from case.marked(0, (at, *path))
         is_term = is_term_at(case.step.judgement, (at, *path))
-        yield from labelled("wanted", code(shortened(case.text(named(part), is_term), 160)))
+        yield from labelled("wanted", code(shortened(case.text(named(part, case.scope.logic), is_term), 160)))
         yield from labelled("written", code(shortened(case.written_text(0, (at, *path)), 160)))
         return
 

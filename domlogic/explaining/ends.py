@@ -13,14 +13,16 @@ from domlogic.reading.theories import Procedure, Step
 from domlogic.search.book import formula_text, term_text
 
 # The parts of a procedure's own triple: where they are in a triple, and what the header calls them.
-PARTS = ((1, "pre", "requires"), (2, "command", "body"), (3, "post", "ensures"), (4, "sort", "sort"))
+PARTS = ((1, "pre", "requires"), (2, "command", "body"), (3, "post", "ensures"),
+         (4, "sort", "sort"))
 
 
 def accepted(line: str) -> list[str]:
     """What is known of an accepted file."""
     number = int(re.match(r"accepted: (\d+)", line)[1])
     whose = "Its procedure" if number == 1 else f"Each of its {number} procedures"
-    return wrapped(f"{whose}, started on any well-formed grove and variables that meet its requires, in any context, "
+    return wrapped(f"{whose}, started on any well-formed grove and variables that meet its "
+                   "requires, in any context, "
                    "never faults, and meets its ensures wherever it ends. That it ends isn't said.")
 
 
@@ -48,7 +50,8 @@ def unwritten() -> list[str]:
 
 
 def bad_words() -> list[str]:
-    return wrapped("The words are none that the program has: `check FILE` takes one file, whose name is UTF-8.")
+    return wrapped("The words are none that the program has: 'check FILE' takes one file, whose "
+                   "name is UTF-8.")
 
 
 def gap(source: Source, line: str) -> list[str]:
@@ -58,10 +61,13 @@ def gap(source: Source, line: str) -> list[str]:
     step = procedure.steps[int(number) - 1]
     at = source.span(step)[0] + 2
     kind = "triple" if step.judgement[0] == "triple" else "entailment"
-    return [*source.view(at), *labelled("open", code(shortened(source.written(step.judgement), 200))),
-            *wrapped(f"All before this step holds, and its {kind} has no reason yet: `auto` leaves it open. "
-                     "`./domcheck prove FILE` looks for the steps that show it and prints the file with them; by "
-                     "hand, put `by RULE(STEPS)` in place of `auto`.")]
+    return [*source.view(at),
+            *labelled("open", code(shortened(source.written(step.judgement), 200))),
+            *wrapped(f"All before this step holds, and its {kind} has no reason yet: 'auto' leaves "
+                     "it open. "
+                     "'./domcheck prove FILE' looks for the steps that show it and prints the file "
+                     "with them; by "
+                     "hand, put 'by RULE(STEPS)' in place of 'auto'.")]
 
 
 # ---------------------------------------------------------------------------------------- no proof
@@ -75,32 +81,39 @@ def no_proof(source: Source, line: str) -> list[str]:
     own = ("triple", procedure.pre, procedure.body, procedure.post, procedure.sort)
     if not procedure.steps:
         begin = source.span(procedure)[1] - 2
-        return [*source.view(begin), *wrapped(f"The proof of {name} has no steps. It has to end in the procedure's "
-                                              "own triple:"), *labelled("wanted", triple_text(source, procedure))]
+        return [*source.view(begin), *wrapped(f"The proof of {name} has no steps. It has to end in "
+                                              "the procedure's "
+                                              "own triple:"),
+                                              *labelled("wanted", triple_text(source, procedure))]
     last = procedure.steps[-1]
-    told = [f"Each step holds, but the last, step {last.number}, isn't the triple of the header of {name}."]
+    told = [f"Each step holds, but the last, step {last.number}, isn't the triple of the header of "
+            f"{name}."]
     told += elsewhere(procedure, own, logic)
     if last.judgement[0] != "triple":
         return [*told, *source.view(source.span(last.judgement)[0]),
-                *wrapped("It is an entailment. The last step has to be the procedure's own triple:"),
+                *wrapped(
+                    "It is an entailment. The last step has to be the procedure's own triple:"),
                 *labelled("wanted", triple_text(source, procedure))]
     return told + list(differences(source, procedure, last, own, logic))
 
 
 def triple_text(source: Source, procedure: Procedure) -> str:
     """The procedure's own triple."""
-    parts = [shortened(source.written(it), 80) for it in (procedure.pre, procedure.body, procedure.post)]
+    parts = [shortened(source.written(it), 80)
+             for it in (procedure.pre, procedure.body, procedure.post)]
     return code("pre {} do {} post {}".format(*parts) + f" at {procedure.sort}")
 
 
 def elsewhere(procedure: Procedure, own: Node, logic: dict[str, str]) -> list[str]:
     """An earlier step that is the procedure's own triple."""
     wanted = unnamed_judgement(own, logic)
-    numbers = [it.number for it in procedure.steps[:-1] if unnamed_judgement(it.judgement, logic) == wanted]
+    numbers = [it.number for it in procedure.steps[:-1]
+               if unnamed_judgement(it.judgement, logic) == wanted]
     return [f"Step {numbers[-1]} is that triple: it has to be the last step."] if numbers else []
 
 
-def differences(source: Source, procedure: Procedure, last: Step, own: Node, logic: dict[str, str]) -> Iterator[str]:
+def differences(source: Source, procedure: Procedure, last: Step, own: Node,
+                logic: dict[str, str]) -> Iterator[str]:
     """The parts of the triple that differ, and the first place of the first of them."""
     left, right = unnamed_judgement(own, logic), unnamed_judgement(last.judgement, logic)
     parts = [it for it in PARTS if left[it[0]] != right[it[0]]]
@@ -115,10 +128,10 @@ def differences(source: Source, procedure: Procedure, last: Step, own: Node, log
         yield from source.view(source.span(last.judgement)[1] - 1)
         yield f"The step is at {sort_in_words(last.judgement[4])}, the procedure at {sort_in_words(procedure.sort)}."
     else:
-        yield from first_place(source, last, at, left[at], right[at])
+        yield from first_place(source, last, at, left[at], right[at], logic)
 
 
-def first_place(source: Source, last: Step, at: int, wanted: Node, found: Node) -> Iterator[str]:
+def first_place(source: Source, last: Step, at: int, wanted: Node, found: Node, logic: dict[str, str]) -> Iterator[str]:
     """The first place in which a part of the last step differs."""
     path, part = narrowed(wanted, found)
     path = (at, *path)
@@ -128,6 +141,8 @@ def first_place(source: Source, last: Step, at: int, wanted: Node, found: Node) 
     yield from source.view_of(marked)
     if len(path) > 1:
         is_term = is_term_at(last.judgement, path)
-        text = source.written(part) if id(part) in source.spans else (term_text if is_term else formula_text)(named(part))
+        text = source.written(part) if id(part) in source.spans else (term_text if is_term
+                                                                      else formula_text)(
+                                                                          named(part, logic))
         yield from labelled("wanted", code(shortened(text, 160)))
         yield from labelled("written", code(shortened(source.written(marked), 160)))

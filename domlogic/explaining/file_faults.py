@@ -20,7 +20,8 @@ class Place:
     def __init__(self, source: Source, procedure: int, step: int):
         self.source, self.theory = source, source.theory
         self.number = procedure
-        self.procedure: Procedure | None = self.theory.procedures[procedure - 1] if procedure else None
+        self.procedure: Procedure | None = self.theory.procedures[
+            procedure - 1] if procedure else None
         self.step: Step | None = self.procedure.steps[step - 1] if step else None
         self.order = step
         self.scope: Scope | None = scope_of(self.theory, self.procedure) if procedure else None
@@ -46,17 +47,23 @@ class Place:
 
 def explained(source: Source, line: str) -> list[str]:
     """What to say of `bad file: procedure P, step S: KIND`."""
-    procedure, step, kind = re.fullmatch(r"bad file: procedure (\d+), step (\d+): (\w+)", line).groups()
-    source.take_theory()
-    place = Place(source, int(procedure), int(step))
-    span, sentence = next(FINDERS[kind](place))
+    span, sentence = first_fault(source, line)
     return [*source.view(*span), *wrapped(sentence)]
+
+
+def first_fault(source: Source, line: str) -> Placed:
+    """What is at fault at the place of the line."""
+    procedure, step, kind = re.fullmatch(r"bad file: procedure (\d+), step (\d+): (\w+)",
+                                         line).groups()
+    source.take_theory()
+    return next(FINDERS[kind](Place(source, int(procedure), int(step))))
 
 
 def version(place: Place) -> Iterator[Placed]:
     """The number of the first line."""
     number = place.theory.version
-    yield (1, 2), f"The number behind `domlogic` is 1 or 2, the versions of the language; {number} is none."
+    yield (1,
+           2), f"The number behind 'domlogic' is 1 or 2, the versions of the language; {number} is none."
 
 
 def repeats(named: list[tuple[str, Span]]) -> Iterator[tuple[str, Span, Span]]:
@@ -101,13 +108,15 @@ def unknown(place: Place) -> Iterator[Placed]:
     command = [place.command()] if place.command() else []
     parts = parts + command if place.step is None else parts[:1] + command + parts[1:]
     what = {"prog": "{} is no parameter, result or local of {}.",
-            "logic": "{} has no line `logic SORT {};` at the head of the file."}
+            "logic": "{} has no line 'logic SORT {};' at the head of the file."}
     for node in walk((*parts, *place.arguments())):
         if node and node[0] in known and node[1] not in known[node[0]]:
-            names = (code(node[1]), place.procedure.name) if node[0] == "prog" else (code(node[1]), node[1])
+            names = (code(node[1]), place.procedure.name) if node[0] == "prog" else (code(node[1]),
+                                                                                     node[1])
             yield place.source.span(node), what[node[0]].format(*names)
         if node and node[0] == "call" and node[2] not in place.scope.procedures:
-            yield place.source.span(node), f"The file has no procedure with the name {code(node[2])}."
+            yield place.source.span(
+                node), f"The file has no procedure with the name {code(node[2])}."
 
 
 def sort(place: Place) -> Iterator[Placed]:
@@ -139,7 +148,8 @@ def constant(place: Place) -> Iterator[Placed]:
     for _, variable, how in setting(place.command()):
         if variable[1] in place.scope.params:
             yield (place.source.span(variable),
-                   f"{code(variable[1])} is a parameter, which keeps its value, and it is {how} here. "
+                   f"{code(variable[1])} is a parameter, which keeps its value, and it is {how} "
+                   "here. "
                    "Copy it to a result or a local first.")
 
 
@@ -153,7 +163,8 @@ def results(place: Place) -> Iterator[Placed]:
             yield span, f"{code(name)} is a result of this call twice."
         for node in walk(call[3]):
             if node and node in call[1]:
-                yield (place.source.span(node), f"{code(node[1])} is a result of this call and stands in its "
+                yield (place.source.span(node), f"{code(node[1])} is a result of this call and "
+                                                "stands in its "
                        "arguments. Copy it to another variable before the call.")
 
 
@@ -162,7 +173,8 @@ def scope(place: Place) -> Iterator[Placed]:
     params = place.scope.params
     both = params | {name for name, _ in place.procedure.results}
     for formula, seen, what in ((place.procedure.pre, params, "requires speaks of parameters"),
-                                (place.procedure.post, both, "ensures speaks of parameters and results")):
+                                (place.procedure.post, both, "ensures speaks of parameters and "
+                                                             "results")):
         for node in walk(formula):
             if node[0] == "prog" and node[1] not in seen:
                 kind = "result" if node[1] in both else "local"
@@ -173,7 +185,8 @@ def rule(place: Place) -> Iterator[Placed]:
     """A rule that the logic, or this version of it, doesn't have."""
     name, at = place.step.rule, place.source.span(place.step)[0] + 3
     if name in OF_VERSION_2:
-        yield (at, at + 1), f"{code(name)} is a rule of files that begin with `domlogic 2`; this one begins with 1."
+        yield (at, at
+               + 1), f"{code(name)} is a rule of files that begin with 'domlogic 2'; this one begins with 1."
         return
     near = difflib.get_close_matches(name, sorted(RULES), 3)
     meant = f" Rules with a name like it: {', '.join(map(code, near))}." if near else ""
@@ -183,7 +196,8 @@ def rule(place: Place) -> Iterator[Placed]:
 def number(place: Place) -> Iterator[Placed]:
     """A step's number that isn't its place."""
     at = place.source.span(place.step)[0] + 1
-    yield (at, at + 1), (f"This is step {place.order} of the proof of {place.procedure.name}, and its number is "
+    yield (at, at + 1), (f"This is step {place.order} of the proof of {place.procedure.name}, and "
+                         "its number is "
                          f"{place.step.number}. Steps are numbered from 1 in each proof.")
 
 

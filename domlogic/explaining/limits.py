@@ -1,4 +1,6 @@
 """A limit that the file passes: its figure, and where and by how much it is passed."""
+from collections import Counter
+
 from domlogic.explaining.source import Source
 from domlogic.explaining.wording import counted, figure, wrapped
 from domlogic.reading.limits import FILE_BYTES, FILE_NESTING, STEPS, TEXT_BYTES, VARIABLES
@@ -26,8 +28,9 @@ def nesting(source: Source) -> list[str]:
         if depth > FILE_NESTING:
             break
     return [*source.view_of_text(start, end),
-            *wrapped(f"This is the {depth}st bracket that is open at one place, and at most {FILE_NESTING} may be. "
-                     "Give a part of the formula a name, by `some`, or state the procedure for a smaller part.")]
+            *wrapped(f"Here {depth} brackets are open, and at most {FILE_NESTING} may be. Of a "
+                     "formula, give a part a "
+                     "name, by 'some'; of a body, put a part into a procedure of its own.")]
 
 
 def text(source: Source) -> list[str]:
@@ -39,7 +42,8 @@ def text(source: Source) -> list[str]:
         if token.kind == "literal" and count > TEXT_BYTES:
             break
     return [*source.view_of_text(start, end),
-            *wrapped(f"This text has {figure(count)} bytes, and a text has at most {figure(TEXT_BYTES)}.")]
+            *wrapped(f"This text has {figure(count)} bytes, and a text has at most "
+                     f"{figure(TEXT_BYTES)}.")]
 
 
 def variables(source: Source) -> list[str]:
@@ -49,16 +53,17 @@ def variables(source: Source) -> list[str]:
     count = len(declared_by(found))
     begin = source.span(found)[0]
     return [*source.view(begin, begin + 2),
-            *wrapped(f"{found.name} has {figure(count)} parameters, results and locals, and a procedure has at most "
+            *wrapped(f"{found.name} has {figure(count)} parameters, results and locals, and a "
+                     "procedure has at most "
                      f"{VARIABLES}.")]
 
 
 def steps(source: Source) -> list[str]:
-    """How many steps all proofs have."""
-    procedures = source.take_theory().procedures
-    count = sum(len(it.steps) for it in procedures)
-    return wrapped(f"The file has {figure(count)} steps in {counted(len(procedures), 'proof')}, and a file has at most "
-                   f"{figure(STEPS)}. Share its procedures out to several files.")
+    """How many steps all proofs have: each begins with a word that stands nowhere else in a well-formed file."""
+    counts = Counter(token.text for token in tokens_of(source.content) if token.kind == "word")
+    return wrapped(f"The file has {figure(counts['step'])} steps in "
+                   f"{counted(counts['proof'], 'proof')}, and a file has "
+                   f"at most {figure(STEPS)}. Share its procedures out to several files.")
 
 
 TOLD = {"file": file, "nesting": nesting, "text": text, "variables": variables, "steps": steps}

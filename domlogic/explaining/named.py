@@ -1,6 +1,4 @@
 """Formulas without the names of bound variables which still know what these were called."""
-from typing import Iterator
-
 from domlogic.reading.nameless import opened, stands_in
 
 Node = tuple
@@ -23,7 +21,8 @@ def unnamed(node: Node, logic: dict[str, str], binders: tuple = ()) -> Node:
         return ("bound", logic[node[1]], binders.index(node))
     if node[0] in ("exists", "forall"):
         _, bound, inside = node
-        return (node[0], Binder(logic[bound[1]], bound[1]), unnamed(inside, logic, (bound, *binders)))
+        return (node[0], Binder(logic[bound[1]], bound[1]),
+                unnamed(inside, logic, (bound, *binders)))
     return tuple(unnamed(it, logic, binders) if isinstance(it, tuple) else it for it in node)
 
 
@@ -33,25 +32,18 @@ def unnamed_judgement(judgement: Node, logic: dict[str, str]) -> Node:
     return (head, unnamed(left, logic), *command, unnamed(right, logic), sort)
 
 
-def named(node: Node) -> Node:
+def named(node: Node, logic: dict[str, str]) -> Node:
     """The formula with names, those that were written wherever they can stand."""
     if node[0] in ("exists", "forall") and isinstance(node[1], str):
-        variable = ("logic", free_name(node))
-        return (node[0], variable, named(opened(node[2], variable)))
-    return tuple(named(it) if isinstance(it, tuple) else it for it in node)
+        variable = ("logic", free_name(node, logic))
+        return (node[0], variable, named(opened(node[2], variable), logic))
+    return tuple(named(it, logic) if isinstance(it, tuple) else it for it in node)
 
 
-def free_name(node: Node) -> str:
-    """The name that a quantifier's variable had, or one like it that isn't free behind it."""
-    name = getattr(node[1], "name", "$x")
-    while stands_in(("logic", name), node[2]):
-        name += "_"
-    return name
-
-
-def binders_above(formula: Node, path: tuple[int, ...]) -> Iterator[Node]:
-    """The bound variables in whose scope a part stands, the innermost last."""
-    for at in path:
-        if formula[0] in ("exists", "forall"):
-            yield formula[1]
-        formula = formula[at]
+def free_name(quantified: Node, logic: dict[str, str]) -> str:
+    """A name for a quantifier's variable: its own, or another of its sort, that isn't free behind it."""
+    _, binder, inside = quantified
+    own = getattr(binder, "name", "$x")
+    others = (name for name, sort in logic.items() if sort == binder and " " not in name)
+    fitting = (it for it in (own, *others) if not stands_in(("logic", it), inside))
+    return next(fitting, own + "_")

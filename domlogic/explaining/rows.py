@@ -11,14 +11,19 @@ from domlogic.reading.rules import AXIOMS, ENTAILMENTS, TRIPLES
 
 # What one line of the manual can't say in letters.
 COMPUTED = {
-    "eq_subst": "(E = F and P) entails Q, where Q is P with the term E replaced by F at some of its places",
-    "linear": "with A1, .., An: P entails Q, where P has n conjuncts Li <= Ri or Li = Ri of integers, "
+    "eq_subst": "(E = F and P) entails Q, where Q is P with the term E replaced by F at some of "
+                "its places",
+    "linear": "with A1, .., An: P entails Q, where P has n conjuncts Li <= Ri or Li = Ri of "
+              "integers, "
               "and Q is a sum of them",
-    "seq": "pre P0 do C1 post P1, .., a step for each command, give pre P0 do { C1 ; .. ; Cn } post Pn",
-    "call": "pre R do call (r, ..) := f(E, ..) post S, where R and S are the requires and the ensures of f "
+    "seq": "pre P0 do C1 post P1, .., a step for each command, give pre P0 do { C1 ; .. ; Cn } "
+           "post Pn",
+    "call": "pre R do call (r, ..) := f(E, ..) post S, where R and S are the requires and the "
+            "ensures of f "
             "with the arguments and the results put in",
 }
-CONDITIONS = {"literal": "E and F are two literals that differ", "texts": "E and F are texts of the same pieces",
+CONDITIONS = {"literal": "E and F are two literals that differ", "texts": "E and F are texts of "
+                                                                          "the same pieces",
               "pure": "Q is pure"}
 # The manual has another letter for it.
 LETTERS = {"W": "Y"}
@@ -107,7 +112,8 @@ def general_lines() -> dict[str, str]:
         body, _, conditions = form.partition("|")
         named = [it.split() for it in conditions.split(";") if it.strip()]
         left, both, right = body.partition(" both ways ")
-        bodies = {name: f"{left} entails {right}", f"{name}_back": f"{right} entails {left}"} if both else {name: body}
+        bodies = {name: f"{left} entails {right}",
+                  f"{name}_back": f"{right} entails {left}"} if both else {name: body}
         for each, text in bodies.items():
             found.setdefault(each, line_text(arguments, text, named))
     return found

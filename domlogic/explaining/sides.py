@@ -66,7 +66,8 @@ def variable_trouble(case: Case, state: State, letters: list[str]) -> Iterator[s
     letter = next(it for it in others if stands_in(variable, state.guess[it]))
     shown = LETTERS.get(letter, letter)
     yield from marked(case, state, letter, variable)
-    told = {"free": "is the local, and it stands in", "assigned": "is what the command sets, and it stands in"}
+    told = {"free": "is the local, and it stands in", "assigned": "is what the command sets, and "
+                                                                  "it stands in"}
     side = "free" if case.step.rule == "local" else "assigned"
     what = "is $x, and it stands free in" if name[0] == "$" else told[side]
     yield from wrapped(f"{code(variable[1])} {what} {shown}.")
@@ -98,7 +99,8 @@ def texts_trouble(case: Case, state: State, letters: list[str]) -> Iterator[str]
     yield from marked(case, state, letters[1], state.guess[letters[1]])
     for letter, found in zip(letters, lists):
         told = listed([code(shortened(term_text(it))) for it in found]) if found else "none"
-        yield from wrapped(f"The pieces of {letter}, neighbouring literals joined and empty ones dropped: {told}.")
+        yield from wrapped(f"The pieces of {letter}, neighbouring literals joined and empty ones "
+                           f"dropped: {told}.")
     pairs = enumerate(zip(*lists), 1)
     at = next((at for at, (one, other) in pairs if one != other), min(map(len, lists)) + 1)
     yield f"They first differ at piece {at}."
@@ -119,8 +121,10 @@ def pure_trouble(case: Case, state: State, letters: list[str]) -> Iterator[str]:
     judgement, path = state.places[letters[0]]
     path += impure(state.guess[letters[0]])
     yield from case.marked(judgement, path)
-    yield from wrapped(f"{code(shortened(case.written_text(judgement, path)))} speaks of the data, so {letters[0]} "
-                       "isn't pure: that is made of `true`, `false`, comparisons, connectives, quantifiers and `is`.")
+    yield from wrapped(f"{code(shortened(case.written_text(judgement, path)))} speaks of the data, "
+                       f"so {letters[0]} "
+                       "isn't pure: that is made of 'true', 'false', comparisons, connectives, "
+                       "quantifiers and 'is'.")
 
 
 TOLD: dict[str, Callable[[Case, State, list[str]], Iterator[str]]] = {

@@ -28,7 +28,8 @@ def term_fault(term: Node, wanted: str | None, scope: Scope) -> Fault | None:
     sort = term_sort(term, scope)
     if wanted is None or sort == wanted:
         return None
-    return Fault(term, f"This term has sort {sort_in_words(sort)}, and {sort_in_words(wanted)} is wanted here.")
+    return Fault(term, f"This term has sort {sort_in_words(sort)}, and {sort_in_words(wanted)} is "
+                       "wanted here.")
 
 
 def terms_fault(scope: Scope, *pairs) -> Fault | None:
@@ -48,7 +49,8 @@ def comparison_fault(comparison: Node, scope: Scope) -> Fault | None:
         return Fault(comparison, f"The left term has sort {sort_in_words(sorts[0])}, the right one "
                                  f"{sort_in_words(sorts[1])}: terms of one sort are compared.")
     if operator == "<=" and sorts[0] != "int":
-        return Fault(comparison, f"`<=` is of integers, and these terms have sort {sort_in_words(sorts[0])}.")
+        return Fault(comparison, "'<=' is of integers, and these terms have sort "
+                                 f"{sort_in_words(sorts[0])}.")
     return None
 
 
@@ -98,7 +100,8 @@ def formula_fault(formula: Node, sort: str, scope: Scope) -> Fault | None:
         return terms_fault(scope, parts[0], "int")
     if head == "is" and scope.logic[parts[0][1]] in VALUE_SORTS:
         its = sort_in_words(scope.logic[parts[0][1]])
-        return Fault(parts[0], f"{code(parts[0][1])} has sort {its}, and `is` speaks of data: of a tree, a forest, "
+        return Fault(parts[0], f"{code(parts[0][1])} has sort {its}, and 'is' speaks of data: of a "
+                               "tree, a forest, "
                                "a grove or a context.")
     if head == "node":
         name, node, children, childlist = parts
@@ -122,14 +125,16 @@ def condition_fault(condition: Node, scope: Scope) -> Fault | None:
 
 def each_with_sort(given: tuple, wanted: list[str], scope: Scope) -> Iterator[Fault]:
     """The faults of terms that stand for parameters or results."""
-    yield from (it for it in map(lambda term, sort: term_fault(term, sort, scope), given, wanted) if it)
+    yield from (it for it in map(lambda term, sort: term_fault(term, sort, scope), given, wanted)
+                if it)
 
 
 def call_fault(call: Node, scope: Scope) -> Fault | None:
     """Why a call doesn't fit the header of its procedure."""
     _, results, name, arguments = call
     callee = scope.procedures[name]
-    for given, declared, noun in ((results, callee.results, "result"), (arguments, callee.params, "argument")):
+    for given, declared, noun in ((results, callee.results, "result"),
+                                  (arguments, callee.params, "argument")):
         if len(given) != len(declared):
             return Fault(call, f"{code(name)} has {counted(len(declared), noun)}, and the call has "
                                f"{len(given) or 'none'}.")
@@ -146,7 +151,8 @@ def assignment_fault(command: Node, scope: Scope) -> Fault | None:
     sorts = term_sort(target, scope), term_sort(term, scope)
     if inner or sorts[0] == sorts[1]:
         return inner
-    return Fault(term, f"This term has sort {sort_in_words(sorts[1])}, and {code(target[1])} has sort "
+    return Fault(term, f"This term has sort {sort_in_words(sorts[1])}, and {code(target[1])} has "
+                       "sort "
                        f"{sort_in_words(sorts[0])}.")
 
 
@@ -156,7 +162,8 @@ def operands_fault(command: Node, scope: Scope) -> Fault | None:
     wanted = OPERANDS[head]
     if head not in MOVES and term_sort(parts[0], scope) != wanted[0]:
         its = sort_in_words(term_sort(parts[0], scope))
-        return Fault(parts[0], f"{code(parts[0][1])} has sort {its}, and {code(head)} gives a value of sort "
+        return Fault(parts[0], f"{code(parts[0][1])} has sort {its}, and {code(head)} gives a "
+                               "value of sort "
                                f"{sort_in_words(wanted[0])}.")
     return terms_fault(scope, *(it for pair in zip(parts, wanted) for it in pair))
 
@@ -166,7 +173,8 @@ def local_fault(command: Node, scope: Scope) -> Fault | None:
     _, (_, name), sort, block = command
     if scope.program[name] == sort:
         return command_fault(block, scope)
-    return Fault(command, f"{code(name)} is declared here with sort {sort_in_words(sort)}, and in its procedure "
+    return Fault(command, f"{code(name)} is declared here with sort {sort_in_words(sort)}, and in "
+                          "its procedure "
                           f"with sort {sort_in_words(scope.program[name])}.")
 
 
@@ -174,7 +182,8 @@ def command_fault(command: Node, scope: Scope) -> Fault | None:
     """The first part of a command that has the wrong sort."""
     head, *parts = command
     if head in ("call", ":=", "local"):
-        return {"call": call_fault, ":=": assignment_fault, "local": local_fault}[head](command, scope)
+        return {"call": call_fault, ":=": assignment_fault, "local": local_fault}[head](command,
+                                                                                        scope)
     if head in OPERANDS:
         return operands_fault(command, scope)
     if head in ("if", "while"):

@@ -2,9 +2,10 @@
 import re
 from typing import Iterator
 
-from domlogic.explaining import computed, rows, sides
+from domlogic.explaining import computed, mending, rows, sides
 from domlogic.explaining.case import Case, wanted_lines, wanted_text
-from domlogic.explaining.comparing import (BOUND_FREE, BOUND_SORT, KIND, LEFT, SORT, TERM_SORT, Comparison, Miss,
+from domlogic.explaining.comparing import (BOUND_FREE, BOUND_SORT, KIND, LEFT, SORT, TERM_SORT,
+                                           Comparison, Miss,
                                            State, Way)
 from domlogic.explaining.rows import Row
 from domlogic.explaining.source import Source
@@ -47,7 +48,7 @@ def shape(case: Case) -> Iterator[str]:
     rule, is_triple = case.step.rule, case.judgement[0] == "triple"
     yield NO_FORM
     if rows.judges_triples(rule) != is_triple:
-        kinds = ("a triple, `pre P do C post Q`", "an entailment, `P entails Q`")
+        kinds = ("a triple, 'pre P do C post Q'", "an entailment, 'P entails Q'")
         wanted, written = kinds if not is_triple else kinds[::-1]
         yield from rule_lines(case)
         yield from case.marked_rule()
@@ -57,13 +58,14 @@ def shape(case: Case) -> Iterator[str]:
         yield from computed.shape(case)
     else:
         yield from argument_trouble(case) or form_trouble(case)
+    yield from mending.by_other_rules(case)
 
 
 def argument_trouble(case: Case) -> list[str]:
     """What is said of arguments that the rule doesn't take."""
     wanted, given = rows.ROWS[case.step.rule][0].reading.arguments, case.step.arguments
     if len(wanted) != len(given):
-        told = f"{code(case.step.rule)} takes {counted(len(wanted), 'argument')} after `with`, and the step has " \
+        told = f"{code(case.step.rule)} takes {counted(len(wanted), 'argument')} after 'with', and the step has " \
                f"{len(given) or 'none'}."
         return [*rule_lines(case), *case.marked_rule(), *wrapped(told)]
     for (_, name), found in zip(wanted, given):
@@ -75,14 +77,17 @@ def argument_trouble(case: Case) -> list[str]:
 
 def first_state(case: Case, row: Row) -> State:
     """What the arguments say of the letters."""
-    return State({name: it for (_, name), it in zip(row.reading.arguments, case.step.arguments)}, {}, {})
+    return State({name: it for (_, name), it in zip(row.reading.arguments, case.step.arguments)},
+                 {}, {})
 
 
 def conclusions(case: Case) -> Iterator[tuple[Row, Comparison, list[State]]]:
     """The rows of the rule, each with the ways to read the conclusion."""
-    for row in (rows.OF_TRIPLES if case.judgement[0] == "triple" else rows.OF_ENTAILMENTS)[case.step.rule]:
+    for row in (rows.OF_TRIPLES if case.judgement[0] == "triple"
+                else rows.OF_ENTAILMENTS)[case.step.rule]:
         comparison = Comparison(case.written)
-        found = comparison.judgement(row.reading.conclusion, case.judgement, first_state(case, row), 0)
+        found = comparison.judgement(row.reading.conclusion, case.judgement, first_state(case, row),
+                                     0)
         yield row, comparison, list(found)
 
 
@@ -91,10 +96,12 @@ def form_trouble(case: Case) -> list[str]:
     tried = list(conclusions(case))
     for row, _, states in tried:
         if states:
-            return [*rule_lines(case, row.text), *letter_lines(case, states[0]), *sort_trouble(case, row, states[0])]
+            return [*rule_lines(case, row.text), *letter_lines(case, states[0]),
+                    *sort_trouble(case, row, states[0])]
     farthest = farthest_rows(tried)
     row, miss = farthest[0]
-    told = [*rule_lines(case, row.general if len(farthest) > 1 else row.text), *letter_lines(case, miss.state)]
+    told = [*rule_lines(case, row.general if len(farthest) > 1 else row.text),
+            *letter_lines(case, miss.state)]
     if len({it.general for it, _, _ in tried}) > 1:
         told[:0] = ["Of the lines of the rule none fits farther than this one."]
     return told + miss_lines(case, miss, farthest)
@@ -116,7 +123,8 @@ def sort_trouble(case: Case, row: Row, state: State) -> list[str]:
     for name in texts:
         its = term_sort(state.guess[name], case.scope)
         if its != "str":
-            return wrapped(f"{name} has to be a text, and {code(case.pattern_text(('letter', name), state))} has sort "
+            return wrapped(f"{name} has to be a text, and "
+                           f"{code(case.pattern_text(('letter', name), state))} has sort "
                            f"{sort_in_words(its)}.")
     told = "A letter stands at two sorts here."
     if wanted is not None:
@@ -162,8 +170,10 @@ def readings(case: Case) -> Iterator[Way]:
     for row, comparison, states in conclusions(case):
         for state in states:
             wanted = settled(row.reading, case.judgement[-1], state.guess, case.written)
-            texts = [name for kind, *names in row.reading.conditions if kind == "string" for name in names]
-            if wanted is not None and all(term_sort(state.guess[it], case.scope) == "str" for it in texts):
+            texts = [name for kind, *names in row.reading.conditions if kind == "string"
+                     for name in names]
+            if wanted is not None and all(term_sort(state.guess[it], case.scope) == "str"
+                                          for it in texts):
                 yield Way(row, comparison, state, wanted)
 
 
@@ -198,8 +208,10 @@ def citation_trouble(case: Case) -> Iterator[str]:
     yield from case.marked_citation(count)
     earlier = {0: "it is the first and has none to cite", 1: "the one before it is step 1"}.get(
         case.at, f"those before it are steps 1 to {case.at}")
-    yield from wrapped(f"Step {case.step.premises[count - 1]} isn't an earlier step of this proof than step "
+    yield from wrapped(f"Step {case.step.premises[count - 1]} isn't an earlier step of this proof "
+                       "than step "
                        f"{case.step.number}: {earlier}.")
+    yield from mending.by_other_citations(case, count)
 
 
 def farthest_way(case: Case, ways: list[Way]) -> tuple[Way, Miss]:
@@ -225,6 +237,7 @@ def premise_trouble(case: Case, ways: list[Way]) -> Iterator[str]:
     number = case.step.premises[miss.judgement - 1]
     yield from labelled("cited", f"for it is step {number}; the first part that differs:")
     yield from differing(case, way, miss)
+    yield from mending.by_other_citations(case, miss.judgement)
 
 
 def differing(case: Case, way: Way, miss: Miss) -> Iterator[str]:
@@ -236,7 +249,8 @@ def differing(case: Case, way: Way, miss: Miss) -> Iterator[str]:
         yield f"It is {kinds[0]}, and {kinds[1]} is wanted."
     elif miss.why == SORT:
         yield from case.marked_sort(miss.judgement)
-        yield from wrapped(f"It is at sort {sort_in_words(step.judgement[-1])}, and {sort_in_words(wanted[-1])} is "
+        yield from wrapped(f"It is at sort {sort_in_words(step.judgement[-1])}, and "
+                           f"{sort_in_words(wanted[-1])} is "
                            "wanted.")
     else:
         yield from miss_lines(case, miss)

@@ -9,7 +9,7 @@ from domlogic.reading.names import run_end
 
 # What a token may be, by its kind or its text.
 ANY_NAME, ANY_WORD = "a name", "the name of a rule"
-LOGIC, TEXT = "a logic name, as `$n`", "a text, as `\"a\"`"
+LOGIC, TEXT = "a logic name, as '$n'", "a text, as '\"a\"'"
 NUMBER, SMALL, NOT_ZERO = "a number", "a number up to 4,294,967,295", "a number from 1 on"
 END = "the end of the file"
 SIGNS = SYMBOLS | {"0f", "0g"}
@@ -24,7 +24,8 @@ GROUPS = (
     ("a condition", COMMAND_TERM | {"true", "false", "("}),
     ("a term", TERM),
     ("a term without logic variables", COMMAND_TERM),
-    ("a command", {"skip", "{", "if", "while", "local", "call", "appendChild", "removeChild", ANY_NAME}),
+    ("a command",
+     {"skip", "{", "if", "while", "local", "call", "appendChild", "removeChild", ANY_NAME}),
     ("a connective:", set(CONNECTIVES)),
     ("a sort:", {*VALUE_SORTS, *SHAPE_SORTS}),
     ("a sort:", set(SHAPE_SORTS)),
@@ -44,7 +45,8 @@ def explained(source: Source, number: int) -> list[str]:
     if is_end:
         end = source.tokens[-1].end if source.tokens else 0
         shown = source.view_of_text(end, end + 1)
-        told = [f"The file ends here, behind {counted(len(before), 'token')}, and isn't whole. What can follow:"]
+        told = [f"The file ends here, behind {counted(len(before), 'token')}, and isn't whole. "
+                "What can follow:"]
     else:
         shown = source.view(number - 1)
         told = wrapped(f"{refusal(source, number)} What can stand here:")
@@ -138,7 +140,8 @@ def is_offered(token: Token, offered: set[str]) -> bool:
     if token.kind in ("symbol", "word") and token.text in offered:
         return True
     if token.kind == "word":
-        return ANY_WORD in offered or (ANY_NAME in offered and token.text not in RESERVED | {"insertBefore"})
+        return ANY_WORD in offered or (ANY_NAME in offered
+                                       and token.text not in RESERVED | {"insertBefore"})
     if token.kind == "number":
         value = int(token.text)
         return (NUMBER in offered or (SMALL in offered and value < 2**32)
@@ -186,7 +189,7 @@ def no_token(source: Source, start: int) -> str:
     if text[start] in DIGITS:
         return no_number(run)
     if text[start] == "$":
-        return "behind `$` comes a word, with no space between"
+        return "behind '$' comes a word, with no space between"
     return f"{code(run[0])} is no symbol" + (", and begins no word" if run[0].isprintable() else "")
 
 
@@ -195,7 +198,7 @@ def unfinished(source: Source, start: int) -> str:
     text, at = source.text, start + 1
     while at < len(text) and text[at] not in '"\n':
         if text[at] == "\\" and text[at + 1 : at + 2] not in ('"', "\\", "n"):
-            return 'behind `\\` in a text comes `"`, `\\` or `n`'
+            return "behind '\\' in a text comes '\"', '\\' or 'n'"
         at += 1 + (text[at] == "\\")
     if at >= len(text) and not source.is_whole:
         return "the text has a byte that is no UTF-8"
@@ -228,20 +231,24 @@ def usual(token: Token, before: str, offered: set[str]) -> list[tuple[bool, str]
     wants_name = ANY_NAME in offered and "(" not in offered
     return [
         (token.kind == "number" and SMALL in offered, "The number is too great for this place."),
-        (token.kind == "number" and NOT_ZERO in offered, "`- 0` isn't written: it is `0`."),
+        (token.kind == "number" and NOT_ZERO in offered, "'- 0' isn't written: it is '0'."),
         (before == "insertBefore" and text == "(" and ":=" in offered,
-         "`insertBefore` is a command in files that begin with `domlogic 2`, and a name in others."),
-        (text == "#" and "#" not in offered, "A comment begins with `//`; `#` stands in nodes, `S#I[P]%L`."),
-        (text == "=" and ":=" in offered, "An assignment is written `x := E`."),
-        (text == "=" and before == "=", "An equation has one `=`."),
-        (text == "<" and "<=" in offered, "There is no `<`: of integers `x < y` is `{x + 1} <= y`."),
-        (text in ("+", "-", "++"), "A sum has braces: `{a + 1}`, `{s ++ \"b\"}`; other connectives are of formulas."),
+         "'insertBefore' is a command in files that begin with 'domlogic 2', and a name in others."),
+        (text == "#" and "#" not in offered, "A comment begins with '//'; '#' stands in nodes, "
+                                             "'S#I[P]%L'."),
+        (text == "=" and ":=" in offered, "An assignment is written 'x := E'."),
+        (text == "=" and before == "=", "An equation has one '='."),
+        (text == "<" and "<=" in offered,
+         "There is no '<': of integers 'x < y' is '{x + 1} <= y'."),
+        (text in ("+", "-", "++"), "A sum has braces: '{a + 1}', '{s ++ \"b\"}'; other connectives "
+                                   "are of formulas."),
         (text == ")" and "and" in offered,
-         "Round brackets hold two formulas with a connective, `(P and Q)`; a comparison has none."),
-        (text in CONNECTIVES, "A connective joins two formulas in brackets of their own, `(P and Q)`."),
-        (text == "}" and before == ";", "Behind the last command of a block there is no `;`."),
-        (text == "}" and before == "{", "A block has at least one command: `{ skip }`."),
+         "Round brackets hold two formulas with a connective, '(P and Q)'; a comparison has none."),
+        (text in CONNECTIVES, "A connective joins two formulas in brackets of their own, '(P and "
+                              "Q)'."),
+        (text == "}" and before == ";", "Behind the last command of a block there is no ';'."),
+        (text == "}" and before == "{", "A block has at least one command: '{ skip }'."),
         (token.kind == "logic" and ANY_NAME in offered and LOGIC not in offered,
-         "Logic variables stand in formulas and behind `with`, and in no command."),
+         "Logic variables stand in formulas and behind 'with', and in no command."),
         (reserved and wants_name, f"{code(text)} is a reserved word, and so it is no name."),
     ]

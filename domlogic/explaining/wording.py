@@ -9,7 +9,7 @@ VALUES = {"node": "a node", "list": "a list of children", "int": "an integer", "
 
 def code(text: str) -> str:
     """The text as a part of a file."""
-    return f"`{text}`"
+    return f"'{text}'"
 
 
 def listed(items: list[str], word: str = "and") -> str:

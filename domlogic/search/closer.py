@@ -1,20 +1,24 @@
 """A closer look at a case in which a command finds no axiom: what is known may say more."""
 from typing import Iterator
 
-from domlogic.search.book import TRUE, Fails
+from domlogic.search.book import TRUE, Fails, get_at
 from domlogic.search.heaps import Case, Command, Formula
 from domlogic.search.entailments import Facts
 from domlogic.search.frames import Frames
-from domlogic.search.places import CHILDREN, LIST, node_of
+from domlogic.search.places import CHILDREN, LIST, NUMBER, node_of
 
 # A step, and the formula that the case entails by it.
 Look = tuple[int, Formula]
 
 
-def looks(frames: Frames, case: Case, command: Command, needs: list) -> Iterator[Look]:
-    """Gives formulas that the case entails and that may serve the command better."""
+def looks(frames: Frames, case: Case, command: Command, needs: list,
+          wanted: Formula) -> Iterator[Look]:
+    """Gives formulas that the case entails and that may serve the command better. A call wants the
+    formula `wanted`."""
     if command[0] == "call":
+        yield from lengths(frames, case, wanted)
         yield from named_parts(frames, case, needs)
+        yield from named_rests(frames, case, wanted)
     yield from opened_variables(frames, case)
     if command[0] == "item":
         yield from split_for_item(frames, case, command)
@@ -38,6 +42,75 @@ def named_parts(frames: Frames, case: Case, needs: list) -> Iterator[Look]:
             if sort == wanted_sort and known.rep(part) == wanted and part[0] != "is it":
                 yield frames.matching.name(known, path)
                 break
+
+
+def wanted_nodes(formula: Formula) -> Iterator[Formula]:
+    """Gives the nodes of a formula."""
+    if formula[0] == "node":
+        yield formula
+    for part in formula[1:]:
+        if isinstance(part, tuple) and part:
+            yield from wanted_nodes(part)
+
+
+def lengths(frames: Frames, case: Case, wanted: Formula) -> Iterator[Look]:
+    """Children have some length where a call wants to know no more of them."""
+    book, known = frames.book, frames.known(case)
+    for node in wanted_nodes(wanted):
+        if node[CHILDREN][0] != "len" or node[CHILDREN][1][0] != "logic":
+            continue
+        try:
+            path, there = node_of(frames.shapes, known, node[NUMBER])
+        except Fails:
+            continue
+        try:
+            frames.matching.length(there[CHILDREN])
+        except Fails:
+            new = book.fresh("int")
+            some = ("exists", new, ("and", ("len", new), ("<=", ("int", 0), new)))
+            number = book.cut(book.ent("true_in", (), there[CHILDREN], TRUE, "f"),
+                              book.ent("len_some", (), TRUE, some, "f"))
+            yield frames.shapes.rewrite(case.shape, list(case.pure), case.sort,
+                                        (*path, CHILDREN), number)
+
+
+def named_rests(frames: Frames, case: Case, wanted: Formula) -> Iterator[Look]:
+    """The children before all trees that a call names, or behind them, get a name, also where there are none."""
+    known = frames.known(case)
+    for node in wanted_nodes(wanted):
+        atoms = frames.shapes.atoms("*", frames.shapes.canon(node[CHILDREN], "f").right)
+        trees = [at for at, it in enumerate(atoms) if it[0] == "one tree" and it[1][0] == "node"]
+        try:
+            path, there = node_of(frames.shapes, known, node[NUMBER])
+            places = [child_place(frames, known, there, atoms[at][1][NUMBER]) for at in trees]
+        except Fails:
+            continue
+        if trees and trees[0] == 1 and atoms[0][0] == "is it":
+            yield from named_row(frames, case, (*path, CHILDREN), places[0], 1)
+        if trees and trees[-1] == len(atoms) - 2 and atoms[-1][0] == "is it":
+            yield from named_row(frames, case, (*path, CHILDREN), places[-1] + 1, 2)
+
+
+def child_place(frames: Frames, known: Facts, parent: Formula, term: Formula) -> int:
+    """At which place among the children the node of the term stands."""
+    _, node = node_of(frames.shapes, known, term)
+    children = frames.shapes.atoms("*", parent[CHILDREN])
+    if ("one tree", node) not in children:
+        raise Fails("no child")
+    return children.index(("one tree", node))
+
+
+def named_row(frames: Frames, case: Case, path: tuple, at: int, side: int) -> Iterator[Look]:
+    """Of the row at the path the atoms up to a place (side 1), or from there on (side 2), get a name."""
+    shapes, book, row = frames.shapes, frames.book, get_at(case.shape, path)
+    atoms = shapes.atoms("*", row)
+    parts = atoms[:at], atoms[at:]
+    if len(parts[side - 1]) == 1 and parts[side - 1][0][0] == "is it":
+        return
+    wide = ("*", *(shapes.row_of_parts("*", it) for it in parts))
+    named = frames.matching.named(wide[side], "f", book.fresh("f"))
+    number = book.cut(frames.turned(row, wide, "f"), book.lift(wide, "f", (side,), named))
+    yield shapes.rewrite(case.shape, list(case.pure), case.sort, path, number)
 
 
 def opened_variables(frames: Frames, case: Case) -> Iterator[Look]:

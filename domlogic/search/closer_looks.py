@@ -2,11 +2,12 @@
 
 A look is a function that gives a step from what is known to another formula, and that formula.
 """
+import itertools
 from typing import Callable, Iterator, NamedTuple
 
 from domlogic.search.facts import Facts
 from domlogic.search.formulas import (NONE, TRUE, Formula, Path, Term, conjunction, conjuncts,
-                                      has_head, part_at, sort_at, with_facts)
+                                      has_head, part_at, sort_at, with_facts, with_part_at)
 from domlogic.search.matching import Progress
 from domlogic.search.refusals import Fails
 
@@ -43,7 +44,7 @@ class CloserLooks:
             if part[0] == "->":
                 yield lambda part=part: self.modus_ponens(part)
         yield from self.sides()
-        yield from self.missed_equations()
+        yield from self.wanted_lengths()
         for path, part, sort in self.places:
             if part[0] != "is it" and (self.known.rep(part), sort) in self.progress.needs:
                 yield lambda path=path: self.named_at(path)
@@ -112,16 +113,6 @@ class CloserLooks:
         after = with_facts(("and", part[2], rest) if rest != TRUE else part[2], known.pure)
         return self.shapes.gather(known.whole, after, known.sort, [(part[2], number)]), after
 
-    def missed_equations(self) -> Iterator[Callable[[], tuple[int, Formula]]]:
-        """An equation that matching missed, where it follows."""
-        known = self.known
-        for equation in self.progress.equations:
-            number = None if equation in known.pure else known.prove(equation)
-            if number is not None:
-                after = with_facts(known.shape, [*known.pure, equation])
-                step = self.shapes.gather(known.whole, after, known.sort, [(equation, number)])
-                yield lambda step=step, after=after: (step, after)
-
     def by_earlier(self, step) -> tuple[int, Formula]:
         """An entailment of an earlier step, used at the first part that entails its left side."""
         known, facts = self.known, self.known.pure
@@ -136,6 +127,56 @@ class CloserLooks:
         raise Fails("an earlier step says nothing of this case")
 
     # ------------------------------------------------------------------------------------ lengths
+    def wanted_lengths(self) -> Iterator[Callable[[], tuple[int, Formula]]]:
+        """A stretch of a row, of which another length was wanted that is the same by the facts."""
+        for group, wanted in dict.fromkeys(self.progress.lengths):
+            term = self.matching.lengths.length(group)[1]
+            equation = ("=", term, wanted[1])
+            number = self.known.prove(equation)
+            places = self.rows_with(group) if number is not None else ()
+            for path, before, stretch, after in places:
+                yield lambda path=path, row=(before, stretch, after), wanted=wanted: \
+                    self.stretch_replaced(path, row, wanted)
+
+    def rows_with(self, group: Formula) -> Iterator[tuple[Path, Formula, Formula, Formula]]:
+        """Gives the whole rows in which the stretch stands, with what is before and behind it."""
+        row_of, atoms = self.shapes.row_of_parts, self.shapes.atoms
+        for path, part, sort in self.places:
+            if sort != "f" or (path and part_at(self.known.shape, path[:-1])[0] == "*"):
+                continue
+            parts = atoms("*", part)
+            for start, end in itertools.combinations_with_replacement(range(len(parts) + 1), 2):
+                stretch = row_of("*", parts[start:end])
+                if self.known.rep(stretch) == group:
+                    yield path, row_of("*", parts[:start]), stretch, row_of("*", parts[end:])
+
+    def stretch_replaced(self, path: Path, row: tuple[Formula, Formula, Formula],
+                         wanted: Formula) -> tuple[int, Formula]:
+        """The stretch of the row becomes len E, where E is its length by the facts."""
+        known, (before, stretch, after) = self.known, row
+        listing = ("*", before, ("*", stretch, after))
+        parted = self.shapes.canon(listing, "f").back()
+        start, now = self.rewritten(path, parted)
+        equation = ("=", self.matching.lengths.length(stretch)[1], wanted[1])
+        pure = [*known.pure, equation]
+        shape = with_part_at(known.shape, path, listing)
+        more = with_facts(shape, pure)
+        fact = Facts(self.matching, shape, known.pure, known.sort).prove(equation)
+        if fact is None:
+            raise Fails("the length follows of the row as it was alone")
+        second = self.shapes.gather(now, more, known.sort, [(equation, fact)])
+        length = self.length_by_fact(stretch, equation)
+        third, target = self.shapes.rewrite(shape, pure, known.sort, (*path, 2, 1), length, equation)
+        return self.book.cut(start, second, third), target
+
+    def length_by_fact(self, forest: Formula, equation: Formula) -> int:
+        """(forest and E = F) entails len F, where E is the length of the forest."""
+        book, pair = self.book, ("and", forest, equation)
+        length = book.cut(book.side(pair, 1, "f"), self.matching.lengths.only_length(forest))
+        both = book.both(book.side(pair, 2, "f"), length)
+        done = ("len", equation[2])
+        return book.cut(both, book.ent("eq_subst", (), book.judged(both)[2], done, "f"))
+
     def other_lengths(self) -> Iterator[Callable[[], tuple[int, Formula]]]:
         """A forest of no length is empty; a row with a length is one of its length alone."""
         for path, part, _ in self.places:

@@ -123,7 +123,8 @@ class Matching:
         normal = self.shapes.canon(right, sort)
         for way in self.right_sides.ways(normal.right, sort):
             progress.hits = 0
-            matcher = Matcher(self, known, {*unknowns, *way.unknowns()}, progress)
+            mine = {*unknowns, *way.unknowns()}
+            matcher = Matcher(self, known, mine, way.facts(), progress)
             done = Attempt(matcher, self.right_sides, way, meant).done()
             if done is not None:
                 found, number = done

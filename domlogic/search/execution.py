@@ -26,7 +26,7 @@ class Execution:
         self.stepping = Stepping(book, self.matching)
         self.triples = self.stepping.triples
         self.place, self.outline = "", Outline()
-        self.first_way, self.has_guessed = 0, False
+        self.first_way, self.guessing, self.has_guessed = 0, 0, False
         self.deadline = time.process_time() + SECONDS
         self.forms = {"skip": self.skip, "block": self.block, "local": self.local,
                       "if": self.choice, "while": self.loop}
@@ -41,7 +41,7 @@ class Execution:
             except Fails as why:
                 if self.first_way == 0:
                     fails, place, lines = why, self.place, self.outline.lines
-                if not self.has_guessed or time.process_time() > self.deadline:
+                if not self.has_guessed or self.is_late():
                     break
             self.outline, self.has_guessed = Outline(), False
         self.place, self.outline.lines = place, lines
@@ -58,6 +58,8 @@ class Execution:
         if command[0] != "block":
             self.place = "at " + heading(command)
             self.watch(command)
+        if self.guessing and self.is_late():
+            raise Fails((pre, "a guess in time"))
         if command[0] not in self.forms:
             return self.told(heading(command), pre, command, sort)
         if not self.stepping.known_triples(command):
@@ -158,14 +160,18 @@ class Execution:
             self.outline.tell(heading(command) + " {")
             return self.inner(before, command[2], sort)
 
+        self.guessing += 1
         for way in WAYS[self.first_way:]:
-            if time.process_time() > self.deadline:
-                break
-            found = guesses.found(way, once, run_block)
+            found = None if self.is_late() else guesses.found(way, once, run_block)
             if found:
                 self.has_guessed = True
-                return found
-        return None
+                break
+        self.guessing -= 1
+        return found
+
+    def is_late(self) -> bool:
+        """Whether the time for guesses is over."""
+        return time.process_time() > self.deadline
 
 
 def last_of(command: Command) -> Command:

@@ -88,16 +88,39 @@ class Facts(Nodes):
         if goal != FALSE and book.term_sort(goal[1]) != "int":
             return None
         facts = [it for it in self.pure if it[0] in ("=", "<=") and book.term_sort(it[1]) == "int"]
-        used = next(summed(facts, goal), None)
+        orders = self.orders_of_negations()
+        used = next(summed([*facts, *orders], goal), None)
         if used is None or (not used and goal == FALSE):
             return None
-        if used:
-            known = self.shapes.gather(whole, conjunction([it for it, _ in used]), sort)
-        else:
+        if not used:
             zero = ("=", ("int", 0), ("int", 0))
             known, used = book.ent("eq_refl", (), whole, zero, sort), [(zero, 0)]
+        else:
+            shown = [(it, self.order_shown(it, orders[it])) for it, _ in used if it in orders]
+            taken = conjunction([it for it, _ in used])
+            known = self.shapes.gather(whole, taken, sort, shown)
         facts, factors = conjunction([it for it, _ in used]), [("int", by) for _, by in used]
         return book.cut(known, book.ent("linear", (), facts, goal, sort, factors))
+
+    def orders_of_negations(self) -> dict[Formula, Formula]:
+        """From each fact (not E <= F) what it says of ints: F + 1 <= E."""
+        denied = [it for it in self.pure if it[0] == "not" and it[1][0] == "<="]
+        return {("<=", ("+", it[1][2], ("int", 1)), it[1][1]): it for it in denied}
+
+    def order_shown(self, order: Formula, fact: Formula) -> int:
+        """F + 1 <= E from the fact (not E <= F)."""
+        book, whole, sort, (_, denied) = self.book, self.whole, self.sort, fact
+        goal, cases = ("->", whole, order), ("or", denied, order)
+        absurd, plain = ("and", denied, whole), ("and", order, whole)
+        mine = book.cut(book.side(absurd, 2, sort), self.project(fact))
+        clash = book.cut(self.clash(mine, book.side(absurd, 1, sort)),
+                         book.ent("false_out", (), FALSE, order, sort))
+        one = book.ent("imp_in", (clash,), denied, goal, sort)
+        two = book.ent("imp_in", (book.side(plain, 1, sort),), order, goal, sort)
+        total = book.cut(book.ent("int_total", (), whole, cases, sort),
+                         book.ent("or_out", (one, two), cases, goal, sort))
+        both = book.both(total, book.id(whole, sort))
+        return book.cut(both, book.ent("imp_out", (), ("and", goal, whole), order, sort))
 
     def by_is(self, goal: Formula) -> int | None:
         """($x is P) from ($x is Q), where Q entails P."""
@@ -200,7 +223,8 @@ class Facts(Nodes):
             found = way()
             if found is not None:
                 return found
-        return self.by_sums(FALSE) if any(it[0] == "<=" for it in self.pure) else None
+        has_orders = any(it[0] == "<=" or it[0] == "not" and it[1][0] == "<=" for it in self.pure)
+        return self.by_sums(FALSE) if has_orders else None
 
     def distinct_literals(self) -> int | None:
         """Two literals in one class."""

@@ -7,10 +7,9 @@ from dataclasses import dataclass, field
 from typing import Callable, Iterator
 
 from domlogic.reading.computing import difference
+from domlogic.search import anywhere, listings
 from domlogic.search.facts import Facts
-from domlogic.search.formulas import (LITERALS, PLACES, TRUE, Formula, Term, free, part_sort,
-                                      with_part_at)
-from domlogic.search.normal_form import SORT_OF
+from domlogic.search.formulas import LITERALS, PLACES, TRUE, Formula, Term, free, part_sort
 from domlogic.search.refusals import Fails, Missing
 from domlogic.search.right_sides import Found
 
@@ -18,9 +17,9 @@ from domlogic.search.right_sides import Found
 # in the end put in.
 Emit = Callable[[Found], int]
 Matches = Iterator[tuple[Found, Emit]]
-Piece = tuple[Formula, Emit]  # a stretch of the left row, or some roots, with its step
 
 MOST_PAIRS = 200000  # pairs that are compared for one proposal
+AFTER_SHAPES = 1000  # a fact that fails came farther than any part of a shape
 
 
 @dataclass
@@ -28,18 +27,31 @@ class Progress:
     """What was met on the way, for closer looks and for messages."""
 
     needs: list[tuple[Formula, str]] = field(default_factory=list)  # parts that want a name
-    equations: list[Formula] = field(default_factory=list)  # equations that would help
+    lengths: list[tuple[Formula, Formula]] = field(default_factory=list)  # forests, len E wanted
     farthest: Missing = Missing()
     hits: int = 0
+
+    def fact_missed(self, fact: Formula) -> None:
+        """The fact doesn't follow: that is farther than any part of a shape."""
+        if self.hits + AFTER_SHAPES > self.farthest.hits:
+            self.farthest = Missing(self.hits + AFTER_SHAPES, "fact", None, fact)
+
+    def part_missed(self, there: Formula, asked: Formula) -> None:
+        """Nothing at a part of the left side is what is asked."""
+        if self.hits > self.farthest.hits:
+            self.farthest = Missing(self.hits, "part", there, asked)
 
 
 class Matcher:
     """Matches one way to prove a right side with what is known."""
 
-    def __init__(self, matching, known: Facts, unknowns: set[Term], progress: Progress):
+    def __init__(self, matching, known: Facts, unknowns: set[Term], facts: list[Formula],
+                 progress: Progress):
+        """`facts` are wanted too: they are asked as soon as all of their unknowns are found."""
         self.matching, self.known, self.unknowns = matching, known, unknowns
         self.book, self.shapes = known.book, known.shapes
-        self.progress = progress
+        self.facts, self.progress = facts, progress
+        self.judged: dict[Formula, bool] = {}
 
     # ------------------------------------------------------------------------------------- terms
     def meant(self, formula: Formula, found: Found, is_term: bool = False) -> Formula:
@@ -94,8 +106,7 @@ class Matcher:
             progress.hits += 1
             yield it
         if none and progress.hits > progress.farthest.hits:
-            asked = self.meant(right, found)
-            progress.farthest = Missing(progress.hits, "part", left, asked)
+            progress.part_missed(left, self.meant(right, found))
 
     def ways(self, left: Formula, right: Formula, sort: str, found: Found) -> Matches:
         """The same, by the form of the right side."""
@@ -106,7 +117,7 @@ class Matcher:
         if head == "true":
             yield found, lambda final: book.ent("true_in", (), left, TRUE, sort)
             return
-        if head == "is it" and self.wants_shape(right, found):
+        if self.wants_shape(right, found):
             if left[0] == "is it":
                 yield {**found, right[1]: left[1]}, lambda final: book.id(left, sort)
                 return
@@ -117,27 +128,27 @@ class Matcher:
             yield from self.both(left, right, sort, found)
             return
         if head[0] == "@" and right[1] == TRUE:
-            yield from self.somewhere(left, right, sort, found)
+            yield from anywhere.somewhere(self, left, right, sort, found)
         if head[0] == "@" and right[1][0] == "-o":
-            yield from self.with_hole(left, right, sort, found)
-        if not self.is_listing(left, right, sort):
+            yield from anywhere.with_hole(self, left, right, sort, found)
+        have, want = self.counts(left, right, sort)
+        if want != 1:
+            yield from (listings.rows if sort == "f" else listings.sums)(self, left, right, found)
+        elif have < 2:
             yield from self.one_part(left, right, sort, found)
         elif head == "len":
             yield from self.lengths(left, right, found)
-        else:
-            yield from (self.rows if sort == "f" else self.sums)(left, right, found)
 
     def wants_shape(self, right: Formula, found: Found) -> bool:
         """Says whether it is an unknown for a shape."""
         return right[0] == "is it" and right[1] in self.unknowns and right[1] not in found
 
-    def is_listing(self, left: Formula, right: Formula, sort: str) -> bool:
-        """Says whether a row or sum, of none or several parts, is on one of the sides."""
+    def counts(self, left: Formula, right: Formula, sort: str) -> tuple[int, int]:
+        """How many parts the two sides have as rows or sums; 1 where they are none."""
         if sort not in ("f", "g") or left[0] == "and":
-            return False
+            return 1, 1
         op = "*" if sort == "f" else "+"
-        have, want = self.shapes.atoms(op, left), self.shapes.atoms(op, right)
-        return len(want) != 1 or len(have) > 1
+        return len(self.shapes.atoms(op, left)), len(self.shapes.atoms(op, right))
 
     def both(self, left: Formula, right: Formula, sort: str, found: Found) -> Matches:
         """(P and Q): each of them."""
@@ -182,120 +193,25 @@ class Matcher:
             return {**found, context[1]: left[1][1]}
         return None
 
-    # ----------------------------------------------------------------------------- at any depth
-    def somewhere(self, left: Formula, right: Formula, sort: str, found: Found) -> Matches:
-        """(true @h P): P stands somewhere."""
-        book, app, h = self.book, right[0], right[0][1]
-        for path, part, part_sort_ in list(self.shapes.paths(left, sort)):
-            if part_sort_ != h:
-                continue
-            for one, first in self.matches(part, right[2], h, found):
-                def emit(final: Found, path=path, part=part, first=first) -> int:
-                    context, _, number = self.shapes.spot(left, sort, path)
-                    loose, inner = book.ent("true_in", (), context, TRUE, h + sort), first(final)
-                    done = (app, TRUE, book.judged(inner)[2])
-                    return book.cut(number, book.ent("mono_app", (loose, inner),
-                                                     (app, context, part), done, sort))
-                yield one, emit
-
-    def with_hole(self, left: Formula, right: Formula, sort: str, found: Found) -> Matches:
-        """((A -o B) @h P): P stands somewhere, and with A in its place B holds."""
-        book, app, h = self.book, right[0], right[0][1]
-        for path, part, part_sort_ in list(self.shapes.paths(left, sort)):
-            if part_sort_ != h:
-                continue
-            for one, first in self.matches(part, right[2], h, found):
-                wanted = self.meant(right[1], one)
-                if self.is_open(wanted):
-                    continue
-                context, _, number = self.shapes.spot(left, sort, path)
-                inner = self.matching.tried((app, context, wanted[1]), wanted[2], sort)
-                if inner is None:
-                    continue
-
-                def emit(final: Found, start=number, whole=(app, context, part), inner=inner,
-                         first=first, wanted=wanted) -> int:
-                    into = book.ent("hole_adj_in", (inner,), whole[1], wanted, h + sort)
-                    done = first(final)
-                    after = (app, wanted, book.judged(done)[2])
-                    return book.cut(start, book.ent("mono_app", (into, done), whole, after, sort))
-                yield one, emit
-
-    # ------------------------------------------------------------------------------ rows and sums
+    # ----------------------------------------------------------------------------- rows and sums
     def absorbs(self, atom: Formula, found: Found) -> bool:
         """Says whether a part of a wanted row or sum may take any number of parts."""
         atom = self.meant(atom, found)
-        return atom[0] in ("true", "len", "and") or self.wants_shape(atom, found) or \
-            (atom[0][0] == "@" and atom[1][0] in ("true", "-o"))
+        return atom[0] in ("true", "len", "and") or (
+            atom[0][0] == "@" and atom[1][0] in ("true", "-o"))
 
-    def rows(self, left: Formula, right: Formula, found: Found) -> Matches:
-        """Each part of the wanted row takes a stretch of the left one."""
-        have, want = self.shapes.atoms("*", left), self.shapes.atoms("*", right)
-        for one, pieces in self.stretches(have, want, found):
-            yield one, lambda final, pieces=pieces: self.grouped("*", left, pieces, final)
-
-    def stretches(self, have: list[Formula], want: list[Formula],
-                  found: Found) -> Iterator[tuple[Found, list[Piece]]]:
-        """Gives what is found with a stretch of the left parts for each of the wanted ones."""
-        if not want:
-            if not have:
-                yield found, []
-            return
-        first, *rest = want
-        counts = [1] if have else []
-        if self.absorbs(first, found) and first[0] != "is it":
-            counts = range(len(have), -1, -1) if rest else [len(have)]
-        for count in counts:
-            group = self.shapes.row_of_parts("*", have[:count])
-            for one, emit in self.matches(group, first, "f", found):
-                for last, pieces in self.stretches(have[count:], rest, one):
-                    yield last, [(group, emit), *pieces]
-
-    def grouped(self, op: str, left: Formula, pieces: list[Piece], found: Found) -> int:
-        """The step from the left row, or sum, to that of the right sides of the pieces."""
-        book, sort = self.book, SORT_OF[op]
-        listing = self.shapes.row_of_parts(op, [group for group, _ in pieces])
-        conv = self.shapes.canon(listing, sort)
-        if conv.right != left:
-            raise Fails("the pieces are not the whole")
-        number, now, path = conv.back(), listing, ()
-        for at, (_, emit) in enumerate(pieces):
-            place = path + (1,) if at + 1 < len(pieces) else path
-            inner = emit(found)
-            _, one, other, _ = book.judged(inner)
-            if one != other:
-                number = book.cut(number, book.lift(now, sort, place, inner))
-                now = with_part_at(now, place, other)
-            path += (2,)
-        return number
-
-    def sums(self, left: Formula, right: Formula, found: Found) -> Matches:
-        """Each part of the wanted sum takes one of the left parts, or all that are left."""
-        have, want = self.shapes.atoms("+", left), self.shapes.atoms("+", right)
-        order = sorted(range(len(want)), key=lambda at: self.absorbs(want[at], found))
-
-        def chosen(over: list[int], rest: list[int], found: Found) -> Iterator:
-            if not rest:
-                if not over:
-                    yield found, {}
-                return
-            at, *others = rest
-            takes_all = self.absorbs(want[at], found) and want[at][0] != "is it"
-            for taken in [over] if takes_all else [[it] for it in over]:
-                group = self.shapes.row_of_parts("+", [have[it] for it in taken])
-                for one, emit in self.matches(group, want[at], "g", found):
-                    left_over = [it for it in over if it not in taken]
-                    for last, found_pieces in chosen(left_over, others, one):
-                        yield last, {**found_pieces, at: (taken, group, emit)}
-
-        for one, taken in chosen(list(range(len(have))), order, found):
-            pieces = [taken[at] for at in range(len(want))]
-
-            def emit(final: Found, pieces=pieces) -> int:
-                conv = self.shapes.reordered(have, [it for places, *_ in pieces for it in places])
-                listing = [(group, emit) for _, group, emit in pieces]
-                return self.book.cut(conv.fwd(), self.grouped("+", conv.right, listing, final))
-            yield one, emit
+    def possible(self, found: Found) -> bool:
+        """Says whether the wanted facts, of which all is found, follow from what is known."""
+        for fact in self.facts:
+            wanted = self.book.subst(fact, found)
+            if self.is_open(wanted):
+                continue
+            if wanted not in self.judged:
+                self.judged[wanted] = self.known.prove(wanted) is not None
+            if not self.judged[wanted]:
+                self.progress.fact_missed(wanted)
+                return False
+        return True
 
     def lengths(self, left: Formula, right: Formula, found: Found) -> Matches:
         """len E: the length of the left side."""
@@ -310,4 +226,4 @@ class Matcher:
             yield found, lambda final: lengths.length_as(
                 left, lengths.only_length(left), term, self.meant(right[1], final, True))
         elif not self.is_open(want):
-            self.progress.equations.append(("=", term, want))
+            self.progress.lengths.append((left, ("len", want)))

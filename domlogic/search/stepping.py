@@ -1,10 +1,11 @@
 """One command from an assertion: from each of its cases, by the command's axiom or by a triple that
 is known."""
-from domlogic.search.book import Book, Fails, free, modified
+from domlogic.search.book import TRUE, Book, Fails, free, modified
 from domlogic.search.calls import applied, call
 from domlogic.search.heaps import Case, Command, Formula, Variable
 from domlogic.search.closer import looks
 from domlogic.search.commands import TABLE
+from domlogic.search.contexts import named_contexts, unnamed
 from domlogic.search.entailments import Matching
 from domlogic.search.frames import Frames
 
@@ -74,8 +75,17 @@ class Stepping:
     def closer(self, case: Case, command: Command, left: int, old: frozenset[Variable],
                why: Fails) -> int:
         """The same after a closer look at the case; `why` where none helps."""
-        needs = getattr(why, "needs", [])
-        for start, after in looks(self.frames, case, command, needs) if left else ():
+        needs, wanted = getattr(why, "needs", []), TRUE
+        if left and command[0] == "call" and hasattr(why, "needs"):
+            wanted = why.args[0][1]
+            for it in named_contexts(self.frames, case, wanted):
+                try:
+                    number = self.from_case(it.case, command, left - 1, old)
+                except Fails:
+                    continue
+                number = unnamed(self.frames, number, it.name)
+                return self.triples.stronger(it.step, self.triples.eliminated(number, (it.name,)))
+        for start, after in looks(self.frames, case, command, needs, wanted) if left else ():
             try:
                 number = self.from_assertion(after, command, case.sort, left - 1, old)
             except Fails:

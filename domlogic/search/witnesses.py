@@ -3,10 +3,8 @@ from typing import Iterator
 
 from domlogic.search.formulas import DEFAULTS, Formula, Term
 from domlogic.search.matching import Emit, Matcher
-from domlogic.search.refusals import Fails, Missing
+from domlogic.search.refusals import Fails
 from domlogic.search.right_sides import Found, RightSides, Way
-
-AFTER_SHAPES = 1000  # a fact that fails after all shapes fit came farther than any shape
 
 
 class Attempt:
@@ -28,13 +26,16 @@ class Attempt:
         return None
 
     def matches(self) -> Iterator[tuple[Found, Emit | None]]:
-        """Gives the ways to match the shape."""
+        """Gives the ways to match the shape; what equations tell of unknowns is found first."""
+        found: Found = {}
+        for fact in self.equations_first():
+            self.learn_from_equation(self.book.subst(fact, found), found)
         if self.shape is None:
-            yield {}, None
+            yield found, None
             return
         sort = self.known.sort
         wanted = self.shapes.canon(self.shape, sort).right
-        yield from self.matcher.matches(self.meant, wanted, sort, {})
+        yield from self.matcher.matches(self.meant, wanted, sort, found)
 
     # ---------------------------------------------------------------------------------- witnesses
     def completed(self, found: Found) -> Found:
@@ -50,16 +51,27 @@ class Attempt:
                 found[unknown] = DEFAULTS[sort] if sort in DEFAULTS else self.any_variable(sort)
         return found
 
+    def equations_first(self) -> list[Formula]:
+        """The wanted equations, as often as one may tell something for another."""
+        equations = [it for it in self.way.facts() if it[0] == "="]
+        return equations * len(equations)
+
+    def learn_from_equation(self, fact: Formula, found: Found) -> bool:
+        """An equation with one side unknown tells what it is."""
+        matcher = self.matcher
+        for one, other in ((fact[1], fact[2]), (fact[2], fact[1])):
+            if one in matcher.unknowns and one not in found and not matcher.is_open(other):
+                found[one] = other
+                return True
+        return False
+
     def learn(self, fact: Formula, found: Found) -> None:
-        """An equation with one side unknown, or a fact like a known one, tells what is unknown."""
+        """An equation, or a fact like a known one, tells what is unknown."""
         matcher = self.matcher
         if not matcher.is_open(fact):
             return
-        if fact[0] == "=":
-            for one, other in ((fact[1], fact[2]), (fact[2], fact[1])):
-                if one in matcher.unknowns and one not in found and not matcher.is_open(other):
-                    found[one] = other
-                    return
+        if fact[0] == "=" and self.learn_from_equation(fact, found):
+            return
         for have in self.known.pure:
             trial = dict(found)
             if matcher.unify(have, fact, trial):
@@ -81,9 +93,7 @@ class Attempt:
             wanted = self.book.subst(fact, found)
             number = self.known.prove(wanted)
             if number is None:
-                hits = progress.hits + AFTER_SHAPES
-                if hits > progress.farthest.hits:
-                    progress.farthest = Missing(hits, "fact", None, wanted)
+                progress.fact_missed(wanted)
                 return None
             numbers.append((wanted, number))
         return numbers

@@ -5,6 +5,7 @@ anything that the right side can spell out. In each other one, two terms more ar
 for negated equations. An exact entailment is true where these models meet its right side.
 """
 import itertools
+from random import Random
 from typing import Any, Iterator, NamedTuple
 
 from domlogic.tests.generating import Entailment
@@ -92,9 +93,10 @@ def node_count(formula: Formula) -> int:
 class Canonical:
     """Makes models of cases."""
 
-    def __init__(self, sorts: dict[Term, str], depth: int):
-        """`depth` is the number of nodes that a variable of shapes stands for, or more."""
-        self.sorts, self.depth = sorts, depth
+    def __init__(self, sorts: dict[Term, str], depth: int, random: Random | None = None):
+        """`depth` is the number of nodes that a variable of shapes stands for, or more; with a source
+        of chance it is any shape."""
+        self.sorts, self.depth, self.random = sorts, depth, random
         self.numbers = itertools.count(1000)
 
     def models(self, case: Case, asked: Entailment) -> Iterator[tuple[Model, Any]]:
@@ -183,6 +185,11 @@ class Canonical:
 
     def shape(self, sort: str, depth: int) -> Any:
         """A shape of new nodes, each below the other."""
+        if self.random is not None:
+            depth = self.random.choice((0, 0, 1, depth))
+            if sort != "t":
+                trees = [self.shape("t", depth) for _ in range(self.random.choice((0, 1, 2)))]
+                return tuple(trees) if sort == "f" else frozenset(trees)
         children: tuple = ()
         for _ in range(depth):
             children = (self.tree(children),)
@@ -192,13 +199,15 @@ class Canonical:
     def context(self, sort: str) -> Any:
         """A context of new nodes, the hole below them all, or beside them in a grove."""
         hole, k = sort
+        depth = self.depth if self.random is None else self.random.choice((0, 1, self.depth))
         if hole == "g":
-            return self.shape("g", self.depth) | {Hole("g")}
-        inside: Any = (Hole(hole),)
-        for _ in range(self.depth):
-            inside = (self.tree(inside),)
-        tree = self.tree(inside)
-        return tree if k == "t" else (tree,) if k == "f" else frozenset((tree,))
+            return self.shape("g", depth) | {Hole("g")}
+        inside: Any = Hole(hole)
+        if hole == "f" and (depth or k != "f"):
+            inside = self.tree((inside,))
+        for _ in range(depth):
+            inside = self.tree((inside,))
+        return inside if k == "t" else (inside,) if k == "f" else frozenset((inside,))
 
     def data(self, shape: Formula, sort: str, values: Values) -> Any:
         """What the shape describes."""

@@ -105,8 +105,9 @@ def sort_of(terms: tuple) -> str:
 class Generator:
     """A source of entailments."""
 
-    def __init__(self, seed: Any):
-        self.random = random.Random(seed)
+    def __init__(self, seed: Any, loose: bool = False):
+        """If `loose`, `true` stands on the right side, also for contexts."""
+        self.random, self.loose = random.Random(seed), loose
         self.unused: set[Term] = set()
         self.used: dict[str, list[Term]] = {}
 
@@ -119,7 +120,7 @@ class Generator:
         right = left
         for _ in range(self.random.choice((0, 1, 2, 4, 6))):
             right = self.same_or_weaker(right, sort)
-        for _ in range(self.random.choice((0, 0, 1, 2, 3))):
+        for _ in range(self.random.choice((0, 0, 1, 2, 3, 4))):
             right = self.changed(right, sort)
         for _ in range(self.random.choice((0, 0, 1, 2))):
             right = self.quantified(right, sort)
@@ -219,9 +220,10 @@ class Generator:
         """The formula in other words, or a weaker one, by a change at one place."""
         places = Places(formula, sort)
         path, part, here = self.random.choice(places.shapes)
-        way: Callable[[Formula, str], Formula] = self.random.choice(
-            (self.turned, self.bracketed, self.with_unit, self.cut_out, self.less, self.fact_moved,
-             self.fact_copied, self.with_choice, self.equal_put))
+        ways = [self.turned, self.bracketed, self.with_unit, self.cut_out, self.less,
+                self.fact_moved, self.fact_copied, self.with_choice, self.equal_put]
+        ways += [self.anything, self.with_anything, self.anywhere] * 2 if self.loose else []
+        way: Callable[[Formula, str], Formula] = self.random.choice(ways)
         if way == self.equal_put:
             return self.equals_put(formula, places)
         return put(formula, path, way(part, here))
@@ -304,6 +306,23 @@ class Generator:
         other = self.assertion(sort, self.random.randint(0, 2))
         self.unused = unused
         return ("or", part, other) if self.likely(0.5) else ("or", other, part)
+
+    def anything(self, part: Formula, sort: str) -> Formula:
+        """`true`."""
+        return ("true",)
+
+    def with_anything(self, part: Formula, sort: str) -> Formula:
+        """The part with `true` beside it, where something may be beside it."""
+        if sort == "t":
+            return part
+        op = "*" if sort == "f" else "+"
+        return (op, part, ("true",)) if self.likely(0.5) else (op, ("true",), part)
+
+    def anywhere(self, part: Formula, sort: str) -> Formula:
+        """(true @h P), with P in the part."""
+        inside = [it for it in Places(part, sort).shapes if not stands(it[1], "false")]
+        _, inner, inner_sort = self.random.choice(inside or [((), part, sort)])
+        return ("@" + inner_sort, ("true",), inner) if inner_sort + sort in LOGIC else part
 
     def equal_put(self, part: Formula, sort: str) -> Formula:
         """Stands for `equals_put`, which looks at the whole."""

@@ -1,11 +1,12 @@
 """Random exact entailments: the search against models, and what it proves against two kernels.
 
 usage: python3 domlogic/tests/random_entailments.py [--count N] [--seed S] [--program PROGRAM]
-           [--kernel EVERY] [--only K]
+           [--kernel EVERY] [--only K] [--loose]
   Makes N entailments from the seed, asks the search and the models which are true, and has each
   proof checked: by the proved program, where one is named, and each EVERY-th (10; 0 is none) by the
   kernel of the second reader. Prints each one on which they disagree; the status is 1 if there is
-  one. --only K takes the K-th alone.
+  one. --only K takes the K-th alone. With --loose `true` stands on the right side: that is no exact
+  class, and models are made by chance.
 """
 import argparse
 import os
@@ -13,6 +14,7 @@ import subprocess
 import sys
 import tempfile
 import time
+from random import Random
 from typing import NamedTuple
 
 sys.dont_write_bytecode = True  # the checkout stays as it is
@@ -27,6 +29,7 @@ from domlogic.tests.canonical import Canonical, Cases, node_count
 from domlogic.tests.generating import PROGRAM, SORTS, Entailment, Generator
 
 NOTHING = ("0g",)
+MODELS = 12  # models by chance for each case
 BATCH = 12000  # steps that are checked in one file
 
 
@@ -39,11 +42,12 @@ class Made(NamedTuple):
     new: dict
 
 
-def is_true(asked: Entailment) -> bool:
-    """Says whether the canonical models of the left side meet the right side."""
+def is_true(asked: Entailment, chance: Random | None = None) -> bool:
+    """Says whether the canonical models of the left side meet the right side, or models made by
+    chance."""
     cases = Cases(SORTS)
-    found = cases.of(asked.left)
-    maker = Canonical(cases.sorts, node_count(asked.right) + 1)
+    found = cases.of(asked.left) * (MODELS if chance else 1)
+    maker = Canonical(cases.sorts, node_count(asked.right) + 1, chance)
     for model, data in (it for case in found for it in maker.models(case, asked)):
         if not model.holds(asked.left, asked.sort, data):
             raise AssertionError("a canonical model isn't one of its left side")
@@ -109,10 +113,10 @@ class Run:
     def one(self, number: int) -> None:
         """One entailment."""
         started = time.process_time()
-        asked = Generator(f"{self.words.seed} {number}").entailment()
+        asked = Generator(f"{self.words.seed} {number}", self.words.loose).entailment()
         self.timed("made", started)
         started = time.process_time()
-        wanted = is_true(asked)
+        wanted = is_true(asked) and (not self.words.loose or is_true(asked, Random(number)))
         self.timed("judged", started)
         started = time.process_time()
         made = self.searched(number, asked)
@@ -172,6 +176,7 @@ def main() -> int:
     words.add_argument("--program")
     words.add_argument("--kernel", type=int, default=10)
     words.add_argument("--only", type=int)
+    words.add_argument("--loose", action="store_true")
     run = Run(words.parse_args())
     numbers = range(run.words.count) if run.words.only is None else [run.words.only]
     for number in numbers:

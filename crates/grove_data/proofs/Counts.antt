@@ -18,7 +18,7 @@ greatest_list-beside none b = omega arith
 greatest_list-beside (node s i k l r) b = omega (arith, greatest_list-beside r b)
 greatest_list-beside (hole r) b = greatest_list-beside r b
 
-size-beside : (a b : Trees) → size (beside a b) ≡ size a + size b
+pub size-beside : (a b : Trees) → size (beside a b) ≡ size a + size b
 size-beside none b = omega arith
 size-beside (node s i k l r) b = omega (arith, size-beside r b)
 size-beside (hole r) b = size-beside r b

@@ -6,3 +6,4 @@ pub mod Sorted
 pub mod Bare
 pub mod Moves
 pub mod Uses
+pub mod LettingGo

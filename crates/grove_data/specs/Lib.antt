@@ -3,3 +3,4 @@ pub mod Finding
 pub mod UsedNumbers
 pub mod SameTrees
 pub mod Moving
+pub mod LettingGo

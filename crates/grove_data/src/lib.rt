@@ -7,6 +7,7 @@
 mod changing;
 mod counting;
 mod finding;
+mod letting_go;
 mod roots;
 mod trees;
 mod unique;
@@ -14,6 +15,7 @@ mod unique;
 pub use changing::{moved_before, moved_below, moved_to_roots};
 pub use counting::{greatest_ids, has_at_most};
 pub use finding::{find, find_list, has_list, has_node, has_root, is_within, parent_of};
+pub use letting_go::let_go;
 pub use roots::{same_sorted, sort_roots};
 pub use trees::{Forest, Grove, IdKind, Tree};
 pub use unique::{UniqueFault, check_unique};

@@ -1,5 +1,5 @@
 -- A heap of the grove of a heap stands for the same grove.
-use Rattle.std.proofs.Common.{◌≡◌, subst, sym, ◌∙◌, ap}
+use Rattle.std.proofs.Common.{◌≡◌, subst, sym, ◌∙◌}
 use Rattle.model_shapes.specs.Sorts.{shape, grove}
 use Rattle.model_shapes.specs.Trees.{Trees, WellFormed}
 use Rattle.model_shapes.specs.Shapes.{SameAt, Shaped}

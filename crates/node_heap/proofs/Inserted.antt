@@ -1,5 +1,5 @@
 -- What an insertion tells, in the words of the machine.
-use Rattle.std.proofs.Common.{◌≡◌, ◌≢◌, ℕ, ◌≤◌, true, false, List, [], None, Ok, Err, refl, sym, ap, ◌∙◌, subst}
+use Rattle.std.proofs.Common.{◌≡◌, ◌≢◌, ℕ, ◌≤◌, true, false, List, [], Option, Some, None, Ok, Err, refl, sym, ap, ◌∙◌, inl, inr, subst}
 use Rattle.std.proofs.Math.Decide.{ℕ_discrete}
 use Rattle.model_shapes.specs.Sorts.{grove}
 use Rattle.model_shapes.specs.Values.{node_number}
@@ -19,7 +19,8 @@ use Rattle.node_heap.specs.Indexes.{lookup}
 use Rattle.node_heap.specs.Heap.{Linking}
 use Rattle.node_heap.specs.HeapView.{HeapView}
 use Rattle.node_heap.specs.Answers.{Did}
-use Rattle.node_heap.proofs.Found.{Found}
+use Rattle.node_heap.specs.Ends.{LacksOne}
+use Rattle.node_heap.proofs.Found.{Found, found}
 use Rattle.node_heap.proofs.Tests.{held, not_held}
 use Rattle.node_heap.proofs.WellFormed.{inserted_is}
 use Rattle.node_heap.proofs.Told.{did, did_not, here, nowhere, uses_below, child_count, no_child_count}
@@ -152,3 +153,13 @@ module _ (s : Slab Record) (nodes lists : List Pair) (g : Trees) (l : Linking s 
               (move_inserts _ _ _ v.grove p c w fp.entry fc.entry fw.entry (node_in p pk fp)
               (node_in c ck fc) (node_in w wk fw) store e (uses_in ∙ u) some)
               (subst (SameAt grove new.grove) after same) spare
+
+    -- a number that the index doesn't have, of the parent's and the child's
+    pub no_node_in : LacksOne nodes p c → Did {A = Unit {0}} insert_move (Err k.NoNode) v v
+    no_node_in (inl e) = no_parent_in e
+    no_node_in (inr e) = by_parent (lookup p nodes) refl
+      where
+        by_parent : (o : Option ℕ) → lookup p nodes ≡ o
+            → Did {A = Unit {0}} insert_move (Err k.NoNode) v v
+        by_parent None a = no_parent_in (sym a)
+        by_parent (Some pk) a = no_child_in pk (found s nodes lists g l p pk (sym a)) e

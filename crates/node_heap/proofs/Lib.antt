@@ -11,6 +11,7 @@ pub mod Create
 pub mod Ends
 pub mod Search
 pub mod Walk
+pub mod Rooted
 pub mod Empty
 pub mod Along
 pub mod Sorting

@@ -26,7 +26,8 @@ use Rattle.node_heap.specs.Indexes.{lookup, key_in}
 use Rattle.node_heap.specs.Heap.{Linking}
 use Rattle.node_heap.specs.HeapView.{HeapView}
 use Rattle.node_heap.specs.Answers.{Did, Reads}
-use Rattle.node_heap.proofs.Found.{Found}
+use Rattle.node_heap.specs.Ends.{LacksOne}
+use Rattle.node_heap.proofs.Found.{Found, found}
 use Rattle.node_heap.proofs.Tests.{once_there}
 use Rattle.node_heap.proofs.WellFormed.{removed_is, appended_is}
 
@@ -309,3 +310,18 @@ module _ (s : Slab Record) (nodes lists : List Pair) (g : Trees) (l : Linking s 
             (move_removes _ _ v.grove p c fp.entry fc.entry above_in below_in store
             (child_count p pk c ck fp fc up))
             (subst (SameAt grove new.grove) after same) spare
+
+  -- a number that the index doesn't have, of the two that a move is about
+  pub no_node_told : (v : HeapView) (is : g ≡ v.grove) (store : Store) (p c : ℕ)
+      → LacksOne nodes p c
+      → Did {A = Unit {0}} (append_move v v is store p 0 c 0) (Err k.NoNode) v v
+      × Did {A = Unit {0}} (remove_move v v is store p 0 c 0) (Err k.NoNode) v v
+  no_node_told v is store p c (inl e) = no_parent_told v v is store p 0 c 0 e
+  no_node_told v is store p c (inr e) = by_parent (lookup p nodes) refl
+    where
+      by_parent : (o : Option ℕ) → lookup p nodes ≡ o
+          → Did {A = Unit {0}} (append_move v v is store p 0 c 0) (Err k.NoNode) v v
+          × Did {A = Unit {0}} (remove_move v v is store p 0 c 0) (Err k.NoNode) v v
+      by_parent None a = no_parent_told v v is store p 0 c 0 (sym a)
+      by_parent (Some pk) a =
+          no_child_told v v is store p pk c 0 (found s nodes lists g l p pk (sym a)) e

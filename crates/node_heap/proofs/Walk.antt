@@ -1,9 +1,11 @@
 -- The walk from a node to its root.
-use Rattle.std.proofs.Common.{◌≡◌, ◌≢◌, ℕ, ◌<◌, ◌≤◌, List, Option, Some, None, refl, sym, ap, ◌∙◌, arith, subst}
-use Rattle.std.specs.Option.{option_map, IsSome}
-use Rattle.model_shapes.specs.Trees.{Trees}
-use Rattle.model_heap.specs.Lists.{count}
-use Rattle.model_heap.specs.Entries.{rows_of, uses, tree_at, kids_of, parent_of, depth}
+use Rattle.std.proofs.Common.{◌≡◌, ◌≢◌, ℕ, ◌<◌, ◌≤◌, false, List, [], ◌∷◌, Option, Some, None, refl, sym, ap, ◌∙◌, inl, inr, arith, subst}
+use Rattle.std.specs.Option.{option_map, is_some, IsSome}
+use Rattle.std.proofs.lemmas.Bool.{cases_eq}
+use Rattle.model_shapes.specs.Trees.{Trees, none, node, hole}
+use Rattle.model_heap.specs.Lists.{count, head_of}
+use Rattle.model_heap.specs.Entries.{entry, roots, rows_of, uses, tree_at, kids_of, parent_of, depth}
+use Rattle.model_heap.proofs.Moves.{test_yes, test_no, none_here, or_none, entry_absent, tree_absent, uses-beside}
 use Rattle.model_heap.proofs.Kinship.{Kin-rows_of, depth_kid, tree_step, root_outside, root_of, tree_holds}
 use Rattle.slab.specs.Slab.{Slab, get}
 use Rattle.node_heap.specs.declared.records.Record.{Record}
@@ -19,6 +21,40 @@ number_of (Some r) = r.number
 
 abbrev pub number_at : Slab Record → ℕ → ℕ
 number_at s k = number_of (get s k)
+
+-- NOTHING STANDS BELOW A LEAF
+none_among : (x : ℕ) (r : Trees) → roots r ≡ [] → uses x r ≡ 0
+none_among x none e = refl
+none_among x (node s i kids l rest) e = absurd (cc)
+none_among x (hole rest) e = none_among x rest e
+
+none_below : (c x : ℕ) (q : Option ℕ) (r : Trees) → x ≢ c → uses c r ≤ 1
+    → kids_of (entry q r c) ≡ [] → uses x (tree_at c r) ≡ 0
+none_below c x q none d u e = refl
+none_below c x q (node s i kids l rest) d u e =
+    elim (cases_eq c i) [
+      | inl f ↦
+          let k : roots kids ≡ [] = rw (test_yes c i f) at e in
+          let o : x ≢ i = λ z. d (z ∙ sym f) in
+          rw (test_yes c i f) (omega (arith, none_here x i o, none_among x kids k))
+      | inr f ↦ elim (cases_eq (uses c kids) 0) [
+        | inl z ↦
+            let k : kids_of (entry q rest c) ≡ [] = rw
+            (test_no c i f, entry_absent (Some i) kids c z) at e in
+            rw (test_no c i f, tree_absent c kids z)
+            (none_below c x q rest d (omega (arith, u)) k)
+        | inr z ↦
+            let y : uses c rest ≡ 0 = omega (arith, u, z) in
+            let k : kids_of (entry (Some i) kids c) ≡ [] = rw
+            (test_no c i f, entry_absent q rest c y, or_none) at e in
+            rw (test_no c i f, tree_absent c rest y) (omega (
+              arith,
+              uses-beside x (tree_at c kids) none,
+              none_below c x (Some i) kids d (omega (arith, u)) k,
+            ))
+      ]
+    ]
+none_below c x q (hole rest) d u e = none_below c x q rest d u e
 
 -- the walk has come to a number, which stands in the child's tree where the first did
 pub record Walk (s : Slab Record) (nodes : List Pair) (g : Trees) (p c k : ℕ) : Type 0 where
@@ -92,6 +128,22 @@ module _ (s : Slab Record) (nodes lists : List Pair) (g : Trees) (l : Linking s 
       let same : w.number ≡ c = l.stands.apart w.number c (subst IsSome (sym w.found.is) refl)
       (subst IsSome (sym fc.is) refl) (sym w.found.key ∙ e ∙ fc.key) in
       sym w.same ∙ ap (λ n. uses n (tree_at c g)) same ∙ tree_holds c g there
+
+-- it needn't begin where the child is a leaf
+pub walk_spared : (s : Slab Record) (nodes lists : List Pair) (g : Trees)
+    (l : Linking s nodes lists g) (p c pk ck : ℕ) (fp : Found s nodes g p pk)
+    (fc : Found s nodes g c ck) → pk ≢ ck → (r : Record) → get s ck ≡ Some r
+    → is_some r.first ≡ false → uses p (tree_at c g) ≡ 0
+walk_spared s nodes lists g l p c pk ck fp fc d r a e =
+    let same : fc.it ≡ r = let x = fc.at in cc in
+    let leaf : is_some (option_map (key_in nodes) (head_of fc.entry.kids)) ≡ false =
+    ap is_some (sym fc.fits.first ∙ ap (λ (r : Record). r.first) same) ∙ e in
+    let other : p ≢ c = λ z. d (fp.key ∙ ap (key_in nodes) z ∙ sym fc.key) in
+    none_below c p None g other (l.once c) (ap kids_of fc.is ∙ no_head fc.entry.kids leaf)
+  where
+    no_head : (xs : List ℕ) → is_some (option_map (key_in nodes) (head_of xs)) ≡ false → xs ≡ []
+    no_head [] h = refl
+    no_head (x ∷ xs) h = absurd (cc)
 
 pub apart_from : (p c : ℕ) (g : Trees) → uses c g ≡ 1 → uses p (tree_at c g) ≡ 0 → p ≢ c
 apart_from p c g u h e = omega (arith, h, tree_holds c g u, ap (λ n. uses n (tree_at c g)) e)

@@ -4,6 +4,7 @@ pub mod Links
 pub mod Heap
 pub mod HeapView
 pub mod Answers
+pub mod Ends
 pub mod Drafts
 pub mod Walking
 pub mod Writing
