@@ -1,6 +1,6 @@
 -- What is still to be let go grows less.
 use Rattle.std.proofs.Common.{◌≡◌, ◌≢◌, ℕ, ◌+◌, ◌-◌, ◌*◌, ◌<◌, false, List, [], ◌∷◌, ◌++◌, length, get_or, set, refl, ap, ◌∙◌, arith, length-append}
-use Rattle.std.proofs.Math.Seq.{set-append_seam}
+use Rattle.std.proofs.Math.Seq.{get_or-append_seam, set-append_seam}
 use Rattle.model_shapes.specs.Trees.{Trees, none, node, hole, beside}
 use Rattle.model_groves.specs.Sizes.{size}
 use Rattle.grove_data.specs.Trees.{tree_of, forest_of}
@@ -46,10 +46,6 @@ ending : (x : Tree) (xs : List Tree) → (trees : List Tree) × (last : Tree)
 ending x [] = ([], x, refl)
 ending x (y ∷ ys) = let w = ending y ys in (x ∷ w.0, w.1, ap (λ ts. x ∷ ts) w.2)
 
-get_last : (trees : List Tree) (last d : Tree) → get_or (trees ++ last ∷ []) (length trees) d ≡ last
-get_last [] last d = refl
-get_last (t ∷ trees) last d = get_last trees last d
-
 -- the last tree keeps another row, and its children are the row
 pub less_waits : (row : List Tree) (tree put : Tree) (others : List Tree) → row ≢ []
     → tree ≡ get_or row (length row - 1) tree → (out-Tree put).kids ≡ others
@@ -62,7 +58,7 @@ less_waits (x ∷ xs) tree put others some is kept =
     omega (arith, ap length w.2, length-append w.0 (w.1 ∷ [])) in
     let same : tree ≡ w.1 =
     is ∙ ap (λ k. get_or (x ∷ xs) k tree) len ∙ ap (λ ts. get_or ts (length w.0) tree) w.2
-    ∙ get_last w.0 w.1 tree in
+    ∙ get_or-append_seam w.0 w.1 [] tree in
     let after : set (x ∷ xs) (length (x ∷ xs) - 1) put ≡ w.0 ++ put ∷ [] =
     ap (λ k. set (x ∷ xs) k put) len ∙ ap (λ ts. set ts (length w.0) put) w.2
     ∙ set-append_seam w.0 w.1 [] put in

@@ -19,5 +19,6 @@ pub mod Turns
 pub mod Tours
 pub mod Rounds
 pub mod Texts
+pub mod Leaves
 pub mod Told
 pub mod Inserted

@@ -3,10 +3,13 @@ use Rattle.std.proofs.Common.{◌≡◌, ◌≢◌, ◌⊎◌, ℕ, suc, ◌+◌
 use Rattle.std.specs.Option.{IsSome, is_some, option_map}
 use Rattle.std.proofs.lemmas.Bool.{cases_eq}
 use Rattle.model_shapes.specs.Trees.{Trees, none, node, hole, beside}
+use Rattle.model_shapes.specs.Sorts.{grove}
+use Rattle.model_shapes.specs.Shapes.{SameAt}
+use Rattle.model_shapes.specs.RootHoles.{root_holes}
 use Rattle.model_shapes.proofs.Shapes.{root_holes-le}
 use Rattle.model_documents.specs.Roots.{sorted_roots, FromNumber}
 use Rattle.model_documents.specs.Roots as documents
-use Rattle.model_documents.proofs.SortedRoots.{sorted-kept}
+use Rattle.model_documents.proofs.SortedRoots.{sorted-kept, rising-equal}
 use Rattle.model_heap.specs.Lists.{count}
 use Rattle.model_heap.specs.Entries.{rows_of, roots, parent_of}
 use Rattle.model_heap.specs.Marks.{Mark, opens, closes, walked}
@@ -59,13 +62,27 @@ rising_all g (q ∷ qs) r =
     rising_root q.number g (arranged g (numbers qs))
     (from_all g q.number q qs (omega arith) r) (rising_all g qs (rising_rest q qs r))
 
-pub still_sorted : (s : Slab Record) (nodes lists : List Pair)
-    → Linked s nodes lists (grove_of s nodes)
-    → sorted_roots (grove_of s nodes) ≡ grove_of s nodes
-still_sorted s nodes lists l =
-    let g = grove_of s nodes in
-    sorted-kept g (omega (arith, root_holes-le g, l.links.whole))
-    (subst documents.Rising (sym (read_back s nodes lists g l)) (rising_all g nodes l.rising))
+module _ (s : Slab Record) (nodes lists : List Pair)
+    (l : Linked s nodes lists (grove_of s nodes)) where
+  no_hole : root_holes (grove_of s nodes) ≡ 0
+  no_hole = omega (arith, root_holes-le (grove_of s nodes), l.links.whole)
+
+  roots_rise : documents.Rising (grove_of s nodes)
+  roots_rise = subst documents.Rising (sym (read_back s nodes lists (grove_of s nodes) l))
+      (rising_all (grove_of s nodes) nodes l.rising)
+
+  pub still_sorted : sorted_roots (grove_of s nodes) ≡ grove_of s nodes
+  still_sorted = sorted-kept (grove_of s nodes) no_hole roots_rise
+
+  -- so it is the one grove that is the same and has its roots in that order
+  pub one_order : (s' : Slab Record) (nodes' lists' : List Pair)
+      → Linked s' nodes' lists' (grove_of s' nodes')
+      → SameAt grove (grove_of s nodes) (grove_of s' nodes')
+      → grove_of s nodes ≡ grove_of s' nodes'
+  one_order s' nodes' lists' l' same =
+      rising-equal (grove_of s nodes) (grove_of s' nodes') l.links.well_formed.nodes_once no_hole
+      roots_rise (subst documents.Rising (sym (read_back s' nodes' lists' (grove_of s' nodes') l'))
+      (rising_all (grove_of s' nodes') nodes' l'.rising)) same
 
 -- one root behind the others
 walked-beside : (a b : Trees) → walked (beside a b) ≡ walked a ++ walked b

@@ -1,11 +1,12 @@
 -- Needn't be believed: the contracts of private functions alone speak of it. What is written mark
 -- by mark, and groves that are made mark by mark.
-use Rattle.std.specs.Prelude.{ℕ, Bool, false, cond, List, [], ◌∷◌, ◌++◌, codes}
+use Rattle.std.specs.Prelude.{◌≡◌, ℕ, Bool, false, cond, List, [], ◌∷◌, ◌++◌, codes}
 use Rattle.std.specs.Fmt.{decimal}
 use Rattle.model_shapes.specs.Trees.{Trees, none, node, beside}
 use Rattle.model_documents.specs.Printed.{quoted}
 use Rattle.grove_data.specs.Trees.{forest_of}
-use Rattle.grove_data.specs.declared.trees.Tree.{Tree}
+use Rattle.grove_data.specs.declared.trees.Tree.{Tree, out-Tree}
+use Rattle.node_heap.specs.declared.records.Record.{Record}
 use Rattle.node_heap.specs.Walking.{Said}
 
 -- what stands before a node: whether it is the first root, stands below another, or behind one
@@ -52,6 +53,14 @@ next_of (row ∷ outer) = row
 abbrev pub outer_of : List Trees → List Trees
 outer_of [] = []
 outer_of (row ∷ outer) = outer
+
+-- the row has a tree more at its end, the node without children
+pub record EndsWithLeaf (r : Record) (old new : List Tree) : Type 0 where
+  pub leaf : Tree
+  pub at_end : new ≡ old ++ leaf ∷ []
+  pub name : (out-Tree leaf).name ≡ r.name
+  pub id : (out-Tree leaf).id ≡ r.number
+  pub list : (out-Tree leaf).list ≡ r.list
 
 -- the row after a mark, and those round it
 abbrev pub row_then : Said → Trees → List Trees → Trees

@@ -1,5 +1,6 @@
 // Groves and texts made of heaps, by loops over walks.
 ghost use Rattle.std.specs.Prelude.{◌≡◌, ◌++◌, IfOk, OnOk, codes};
+ghost use Rattle.std.specs.Prelude as plain;
 ghost use Rattle.std.specs.Fmt.{decimal};
 ghost use Rattle.model_shapes.specs.Sorts.{shape, grove};
 ghost use Rattle.model_shapes.specs.Trees.{none, node as node_with, beside};
@@ -8,20 +9,21 @@ ghost use Rattle.model_documents.specs.Roots.{sorted_roots};
 ghost use Rattle.model_documents.specs.Printed.{grove_text};
 ghost use Rattle.grove_data.specs.Trees.{forest_of};
 ghost use Rattle.node_heap.specs.Walking.{seen};
-ghost use Rattle.node_heap.specs.Writing.{row_then, outer_then, outer_of, next_of, stack, piece, opening_text, closing_text, bracket_text};
+ghost use Rattle.node_heap.specs.Writing.{row_then, outer_then, outer_of, next_of, stack, EndsWithLeaf, piece, opening_text, closing_text, bracket_text};
 ghost use Rattle.std.specs.Option.{is_some};
 
 use crate::heap::NodeHeap;
 use crate::records::Record;
 use crate::walking::Mark;
 use dom_terms::{Copied, List, OutOfMemory, Text};
-use grove_data::{Forest, Grove, Tree};
+use grove_data::{Forest, Grove, Tree, let_go};
 use logic_text::{push_str, write_literal};
 use std::alloc::Global;
 
 impl NodeHeap {
     /// The grove that the heap stands for, its roots by rising number. What a heap stands for is a
-    /// well-formed grove always.
+    /// well-formed grove always. The grove is as deep as the heap, so `let_go` is there for it: a
+    /// plain drop takes stack for each tree below another.
     pub fn to_grove(&self, alloc: Global) -> Result<Grove, OutOfMemory>
         ensures made { IfOk result (λ grove. forest_of grove ≡ sorted_roots self.now.grove) }
         ensures shaped { OnOk result (Shaped (shape grove) self.now.grove) }
@@ -30,18 +32,36 @@ impl NodeHeap {
         let mut row = List::new(alloc);
         let mut outer = Vec::new(alloc);
         for mark in &marks {
-            row = next_row(alloc, mark, row, &mut outer)?;
+            match next_row(alloc, mark, row, &mut outer) {
+                Ok(next) => row = next,
+                Err(refused) => {
+                    let_each_go(alloc, outer);
+                    return Err(refused);
+                }
+            }
         }
         Ok(row)
     }
 
-    /// A heap of the same grove. It is made of that grove, whose drop takes stack for each tree
-    /// below another. Room for more nodes isn't copied.
+    /// An equal heap, on memory of its own. Room for more nodes isn't copied.
     pub fn copy(&self, alloc: Global) -> Result<NodeHeap, OutOfMemory>
-        ensures { IfOk result (λ copied. SameAt grove copied.grove self.now.grove) }
+        ensures { IfOk result (λ copied. copied.grove ≡ self.now.grove) }
     {
         let grove = self.to_grove(alloc)?;
-        NodeHeap::from_grove(alloc, &grove)
+        let copied = NodeHeap::from_grove(alloc, &grove);
+        let_go(alloc, grove);
+        let copied = copied?;
+        copied.is_equal(self);
+        Ok(copied)
+    }
+
+    // Does nothing: it states that heaps of one grove are equal.
+    fn is_equal(&self, other: &NodeHeap)
+        requires { SameAt grove self.now.grove other.now.grove }
+        ensures { self.now.grove ≡ other.now.grove }
+    {
+        let _nodes = &self.nodes;
+        let _others = &other.nodes;
     }
 
     /// The text of that grove, as the program prints it. What a heap stands for is a well-formed
@@ -66,6 +86,7 @@ impl NodeHeap {
 
 // The row of siblings after a mark, and the rows round it. Where a node is opened its children are
 // a new row; where it is closed they are complete, and the node comes to the end of the row above.
+// Where memory is refused the row is let go.
 fn next_row(
     alloc: Global,
     mark: &Mark,
@@ -78,8 +99,13 @@ fn next_row(
         ≡ outer_then (seen mark.now) (forest_of row) (stack outer.old.items)) }
 {
     if mark.opens {
-        outer.push(row)?;
-        return Ok(List::new(alloc));
+        return match outer.push(row) {
+            Ok(()) => Ok(List::new(alloc)),
+            Err(refused) => {
+                let_go(alloc, refused.value);
+                Err(OutOfMemory)
+            }
+        };
     }
     let above = row_above(alloc, outer);
     closed(alloc, mark.node, row, above)
@@ -96,7 +122,8 @@ fn row_above(alloc: Global, outer: &mut Vec<Forest>) -> Forest
     }
 }
 
-// the row with the node, which has these children, at its end
+// The row with the node, which has these children, at its end. Where memory is refused both are let
+// go.
 fn closed(
     alloc: Global,
     node: &Record,
@@ -106,13 +133,48 @@ fn closed(
     ensures { IfOk result (λ after. forest_of after ≡ beside (forest_of row)
         (node_with node.now.name node.now.number (forest_of kids) node.now.list none)) }
 {
+    match push_leaf(alloc, node, &mut row) {
+        Ok(()) => {
+            put_below(&mut row, kids);
+            Ok(row)
+        }
+        Err(refused) => {
+            let_go(alloc, kids);
+            let_go(alloc, row);
+            Err(refused)
+        }
+    }
+}
+
+// puts the node without children at the end
+fn push_leaf(alloc: Global, node: &Record, row: &mut Forest) -> Result<(), OutOfMemory>
+    ensures { OnOk result (EndsWithLeaf node.now row.old row.new) }
+{
     row.push(Tree {
         name: node.name.copy(alloc)?,
         id: node.number,
-        kids,
+        kids: List::new(alloc),
         list: node.list,
-    })?;
-    Ok(row)
+    })
+}
+
+// gives the last tree these children
+fn put_below(row: &mut Forest, kids: Forest)
+    ensures { (node : Record) (trees : plain.List Tree) → EndsWithLeaf node trees row.old
+        → forest_of row.new ≡ beside (forest_of trees)
+        (node_with node.name node.number (forest_of kids) node.list none) }
+{
+    if let Some(last) = row.last_mut() {
+        last.kids = kids;
+    }
+}
+
+// lets each row go
+fn let_each_go(alloc: Global, rows: Vec<Forest>) {
+    let mut rows = rows;
+    while let Some(row) = rows.pop() {
+        let_go(alloc, row);
+    }
 }
 
 // puts what stands at a mark at the end

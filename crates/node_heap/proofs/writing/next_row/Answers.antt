@@ -2,9 +2,9 @@ use Rattle.std.proofs.Common.{[]}
 use Rattle.node_heap.proofs.Texts.{stack-last, on_ok_always}
 use Rattle.node_heap.proofs.writing.next_row.Goals as goal
 
-pub returns-then-mark-clause-outer : goal.returns-then-mark-clause-outer
-returns-then-mark-clause-outer c =
-    rw (c.in_ok-push.ensures.items, c.if-mark.true)
+pub returns-in-Ok-clause-outer : goal.returns-in-Ok-clause-outer
+returns-in-Ok-clause-outer c =
+    rw (c.in-Ok.ensures.items, c.if-mark.true)
     (stack-last c.args.outer.now.items c.args.row [])
 
 pub returns-clause-row : goal.returns-clause-row
