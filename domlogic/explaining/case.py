@@ -1,4 +1,4 @@
-"""A step that is explained: its judgements, and how parts of it are shown and marked in the file."""
+"""A step that is explained: its judgements, and how parts of it are shown and marked."""
 from typing import Iterator
 
 from domlogic.explaining.comparing import Miss, Path, State, called
@@ -10,7 +10,7 @@ from domlogic.reading.nameless import condition_formula, replaced
 from domlogic.reading.patterns import FORMULAS
 from domlogic.reading.sorts import scope_of, walk
 from domlogic.reading.theories import Procedure, Step
-from domlogic.search.book import formula_text, term_text
+from domlogic.search.printing import formula_text, term_text
 
 LETTERS = {"W": "Y"}
 TERM_PLACES = {"=": (1, 2), "<=": (1, 2), "node": (1, 2, 4), "len": (1,), "is it": (1,), "is": (1,),
@@ -34,11 +34,10 @@ class Case:
         self.judgement = self.judged(self.step)
         numbers = self.step.premises
         self.cited_steps = [procedure.steps[it - 1] if 1 <= it <= at else None for it in numbers]
-        self.cited = None if None in self.cited_steps else [self.judged(it)
-                                                            for it in self.cited_steps]
-        self.written = Written(self.scope,
-                               (self.judgement, tuple(self.step.arguments),
-                                tuple(self.cited or ())))
+        are_earlier = None not in self.cited_steps
+        self.cited = [self.judged(it) for it in self.cited_steps] if are_earlier else None
+        parts = (self.judgement, tuple(self.step.arguments), tuple(self.cited or ()))
+        self.written = Written(self.scope, parts)
 
     def judged(self, step: Step) -> Node:
         return unnamed_judgement(step.judgement, self.scope.logic)
@@ -57,7 +56,7 @@ class Case:
 
     def pattern_text(self, node: Node, state: State, is_term: bool = False,
                      place: tuple = (0, ())) -> str:
-        """A part at a place with what is read for its letters, and the letters for which nothing is."""
+        """A part at a place, with what is read for its letters where anything is."""
         if node[0] == "letter":
             node, is_term = state.guess.get(node[1], node), not is_formula(node[1])
         if isinstance(node, str) or id(node) in self.source.spans:
@@ -154,8 +153,8 @@ def wanted_text(case: Case, miss: Miss) -> str:
 def wanted_lines(case: Case, miss: Miss, wanted: str) -> Iterator[str]:
     """What is wanted at a place and what is written there."""
     yield from labelled("wanted", f"{code(shortened(wanted, 160))}{origin(miss)}")
-    yield from labelled("written",
-                        code(shortened(case.written_text(miss.judgement, miss.path), 160)))
+    written = case.written_text(miss.judgement, miss.path)
+    yield from labelled("written", code(shortened(written, 160)))
 
 
 def origin(miss: Miss) -> str:
@@ -165,7 +164,7 @@ def origin(miss: Miss) -> str:
     if name == "B^":
         return ", the formula of the condition" if not more else ", in the formula of the condition"
     if name and "with" in more:
-        return f", {name} with the term put in" if ".." not in more else f", in {name} with the term put in"
+        return f", {'in ' if '..' in more else ''}{name} with the term put in"
     if name:
         return f", in {name}" if more else f", which is {name}"
     letters = unread(miss.wanted, miss.state)

@@ -1,7 +1,7 @@
 """Where a step leaves its rule: the letters that were read, and the first part that is another one.
 
-The letters are guessed as in domlogic/reading/matching.py, each way that there is; besides, each place where a way
-ends is kept, and the way that came farthest is the one to tell.
+The letters are guessed as in domlogic/reading/matching.py, each way that there is; besides, each
+place where a way ends is kept, and the way that came farthest is the one to tell.
 """
 from typing import Iterator, NamedTuple
 
@@ -21,12 +21,15 @@ ATOMS = ("bound", "logic", "prog", "int", "str", "is it")
 NEW = "a new "
 # Why a way ends, where no part alone differs.
 KIND, SORT = "the kind of the judgement", "the sort of the judgement"
-BOUND_SORT, BOUND_FREE = "the sort of the bound variable", "the bound variable is free behind its quantifier"
+BOUND_SORT, BOUND_FREE = "the sort of a bound variable", "a bound variable is free elsewhere"
 TERM_SORT, LEFT = "the sorts of a term and a variable", "the variable is left"
 
 
 class State(NamedTuple):
-    """A way so far: what the letters are, where each was read, the last quantifier of bound ones, how far it came."""
+    """A way so far: what the letters are, where each was read, and how far it came.
+
+    Of a letter for a bound variable the last quantifier is kept, with its name and its place.
+    """
 
     guess: dict
     places: dict[str, tuple[int, Path]]
@@ -36,7 +39,7 @@ class State(NamedTuple):
 
 
 class Miss(NamedTuple):
-    """Where a way ends: in which judgement, 0 the conclusion; what is wanted there; and why, where that isn't all.
+    """Where a way ends: in which judgement, 0 the conclusion, and what is wanted there.
 
     The rank is that of the judgement, or a last one for what is looked at last.
     """
@@ -156,7 +159,7 @@ class Comparison:
             self.miss(path + inner, wanted, state, letter if not inner else f"{letter} ..")
 
     def binder(self, pattern: Node, found: Node, path: Path, state: State) -> Iterator[State]:
-        """The variable of a quantifier is one that isn't free behind it; its own name is tried first."""
+        """A quantifier's variable is one that isn't free behind it; its own name comes first."""
         (_, (_, name), inside), (_, sort, body) = pattern, found
         variables = [state.guess[name]] if name in state.guess else self.variables(sort)
         for variable in variables:
@@ -176,7 +179,7 @@ class Comparison:
         return [own, *(it for it in self.written.variables(sort) if it != own)]
 
     def put_in(self, pattern: Node, found: Node, path: Path, state: State) -> Iterator[State]:
-        """A formula in which a term is put for a variable; one that isn't read yet is looked at last."""
+        """A formula in which a term is put for a variable; one not read yet is looked at last."""
         _, (_, name), term, variable = pattern
         term, variable = put_in(term, state.guess), put_in(variable, state.guess)
         scope = self.written.scope
@@ -193,8 +196,7 @@ class Comparison:
     def ends(self, state: State) -> Iterator[State]:
         """The way, where what was looked at last is right too."""
         self.is_last, self.at = True, 0
-        holds = all(list(self.put_in(pattern, found, path, state)) for pattern, found,
-                    path in state.later)
+        holds = all(list(self.put_in(*it, state)) for it in state.later)
         self.is_last = False
         if holds:
             yield state
@@ -217,8 +219,8 @@ def narrowed(wanted: Node, found: Node) -> tuple[Path, Node]:
         return narrowed_below(wanted, found)
     pairs = [(at, a, b) for at, (a, b) in enumerate(zip(wanted, found)) if a != b]
     is_small = max(size_of(wanted), size_of(found)) <= SMALL
-    if (len(pairs) > 1 and is_small) or any(not isinstance(it, tuple) for _, a, b in pairs
-                                            for it in (a, b)):
+    are_parts = all(isinstance(it, tuple) for _, *both in pairs for it in both)
+    if (len(pairs) > 1 and is_small) or not are_parts:
         return (), wanted
     at, left, right = pairs[0]
     inner, left = narrowed(left, right)
@@ -235,9 +237,9 @@ def narrowed_below(wanted: Node, found: Node) -> tuple[Path, Node]:
 
 
 def called(node: Node, state: State, place: tuple[int, Path], logic: dict[str, str]) -> Node:
-    """A part at a place with what is read for its letters, and with the names that bound variables have there."""
-    known = {("letter", name): found for name, found in state.guess.items()
-             if isinstance(found, tuple)}
+    """A part with what is read for its letters, and the names of bound variables at a place."""
+    read = ((name, it) for name, it in state.guess.items() if isinstance(it, tuple))
+    known = {("letter", name): it for name, it in read}
     names = {}
     for letter, (name, judgement, path) in state.binders.items():
         is_inside = place[0] == judgement and place[1][: len(path)] == path

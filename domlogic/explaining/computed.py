@@ -4,17 +4,18 @@ from typing import Iterator
 from domlogic.explaining.case import TERM_PLACES, Case, at_path, is_term_at
 from domlogic.explaining.comparing import Comparison, Path, State, Way, narrowed
 from domlogic.explaining.named import Node, named, unnamed
-from domlogic.explaining.wording import code, counted, figure, labelled, shortened, sort_in_words, wrapped
+from domlogic.explaining.wording import (code, counted, figure, labelled, shortened,
+                                         sort_in_words, wrapped)
 from domlogic.reading.computing import COMPUTING, MOST, compares_ints, conjuncts, difference
 from domlogic.reading.nameless import replaced
 from domlogic.reading.theories import Procedure
-from domlogic.search.book import term_text
+from domlogic.search.printing import term_text
 
 
 def ways(case: Case) -> Iterator[Way]:
     """The readings of the conclusion, as in domlogic/reading/computing.py."""
-    for guess, premises, _ in COMPUTING[case.step.rule](case.step, case.judgement, case.written,
-                                                        case.theory):
+    found = COMPUTING[case.step.rule](case.step, case.judgement, case.written, case.theory)
+    for guess, premises, _ in found:
         yield Way(None, Comparison(case.written), State(guess, {}, {}), premises)
 
 
@@ -38,7 +39,7 @@ def block(case: Case) -> Iterator[str]:
 # ---------------------------------------------------------------------------------------- eq_subst
 
 def substitution(case: Case) -> Iterator[str]:
-    """A left side that is no equation with a formula, or a place where neither E nor F stands as it should."""
+    """A left side that is no equation with a formula, or a place with another term."""
     left, right = case.judgement[1:3]
     if left[0] != "and" or left[1][0] != "=":
         path = (1, 1) if left[0] == "and" else (1,)
@@ -63,8 +64,8 @@ def substitution(case: Case) -> Iterator[str]:
                            "is put for the left one.")
 
 
-def unreplaced(one: Node, other: Node, old: Node, new: Node, is_term: bool = False) -> tuple[Path,
-                                                                                             Node] | None:
+def unreplaced(one: Node, other: Node, old: Node, new: Node,
+               is_term: bool = False) -> tuple[Path, Node] | None:
     """The first place where another part stands than there or what may be put for it."""
     if one == other or (is_term and (one, other) == (old, new)):
         return None
@@ -100,14 +101,14 @@ def sum_form(case: Case) -> Iterator[str]:
     for path in paths:
         if not compares_ints(at_path(case.judgement, path), case.written):
             yield from case.marked(0, path)
-            yield "Each conjunct of the left side has to be 'E <= F' or 'E = F' of integers, and this one isn't."
+            yield from wrapped("Each conjunct of the left side has to be 'E <= F' or 'E = F' of "
+                               "integers, and this one isn't.")
             return
     if len(paths) != len(arguments):
         yield from case.marked(0, (1,))
-        yield from wrapped("After 'with' a number is wanted for each conjunct of the left side: "
-                           "it has "
-                           f"{counted(len(paths), 'conjunct')}, and there "
-                           f"{'is' if len(arguments) == 1 else 'are'} "
+        have = "is" if len(arguments) == 1 else "are"
+        yield from wrapped("After 'with' a number is wanted for each conjunct of the left side: it "
+                           f"has {counted(len(paths), 'conjunct')}, and there {have} "
                            f"{counted(len(arguments), 'number')}.")
         return
     for argument in arguments:
@@ -157,12 +158,13 @@ def wanted_sum(case: Case, facts: list[Node], factors: list[int], total: dict, r
             if (factor := own.get(part, 0) - total.get(part, 0))}
     told = f"Of the right side, {code(case.written_text(0, (2,)))}, it is {code(form_text(own))}"
     if right[0] == "<=":
-        return f"{told}, which less that sum is {code(form_text(left))}: that has to be a number, and at least 0."
+        return (f"{told}, which less that sum is {code(form_text(left))}: that has to be a number, "
+                "and at least 0.")
     if left:
         return f"{told}: for an equation the two have to be the same."
     at = next(at for at, fact in enumerate(facts) if fact[0] == "<=" and factors[at])
-    return f"{told}, the same; but an equation follows from equations alone, so the number {factors[at]} of conjunct " \
-           f"{at + 1}, a '<=', has to be 0."
+    return (f"{told}, the same; but an equation follows from equations alone, so the number "
+            f"{factors[at]} of conjunct {at + 1}, a '<=', has to be 0.")
 
 
 def form_text(form: dict) -> str:
@@ -173,8 +175,8 @@ def form_text(form: dict) -> str:
     for factor, text in parts:
         sign = " - " if factor < 0 else " + "
         number = str(abs(factor)) if not text or abs(factor) != 1 else ""
-        told += (sign if told
-                 else sign.strip().replace("+", "")) + " ".join(filter(None, (number, text)))
+        told += sign if told else sign.strip(" +")
+        told += " ".join(filter(None, (number, text)))
     return told or "0"
 
 
@@ -208,13 +210,14 @@ def specification(case: Case, callee: Procedure) -> Iterator[str]:
         if wanted == found:
             continue
         path, part = narrowed(wanted, found)
+        path = (at, *path)
+        shown = case.text(named(wanted, case.scope.logic))
+        inner = case.text(named(part, case.scope.logic), is_term_at(case.step.judgement, path))
         yield from wrapped(f"The {'pre' if at == 1 else 'post'} has to be the {name} of "
-                           f"{code(callee.name)} with the "
-                           "arguments and results put in: "
-                           f"{code(shortened(case.text(named(wanted, case.scope.logic)), 120))}.")
-        yield from case.marked(0, (at, *path))
-        is_term = is_term_at(case.step.judgement, (at, *path))
-        yield from labelled("wanted", code(shortened(case.text(named(part, case.scope.logic), is_term), 160)))
-        yield from labelled("written", code(shortened(case.written_text(0, (at, *path)), 160)))
+                           f"{code(callee.name)} with the arguments and results put in: "
+                           f"{code(shortened(shown, 120))}.")
+        yield from case.marked(0, path)
+        yield from labelled("wanted", code(shortened(inner, 160)))
+        yield from labelled("written", code(shortened(case.written_text(0, path), 160)))
         return
 

@@ -9,12 +9,14 @@ from domlogic.explaining.named import Node, named, unnamed_judgement
 from domlogic.explaining.source import Source
 from domlogic.explaining.wording import code, labelled, listed, shortened, sort_in_words, wrapped
 from domlogic.reading.sorts import scope_of
-from domlogic.reading.theories import Procedure, Step
-from domlogic.search.book import formula_text, term_text
+from domlogic.reading.theories import Procedure
+from domlogic.search.printing import formula_text, term_text
 
-# The parts of a procedure's own triple: where they are in a triple, and what the header calls them.
+# The parts of a triple: where they stand in it, and what they are called in it and in a header.
 PARTS = ((1, "pre", "requires"), (2, "command", "body"), (3, "post", "ensures"),
          (4, "sort", "sort"))
+SORT = 4
+MOST = 160
 
 
 def accepted(line: str) -> list[str]:
@@ -22,8 +24,8 @@ def accepted(line: str) -> list[str]:
     number = int(re.match(r"accepted: (\d+)", line)[1])
     whose = "Its procedure" if number == 1 else f"Each of its {number} procedures"
     return wrapped(f"{whose}, started on any well-formed grove and variables that meet its "
-                   "requires, in any context, "
-                   "never faults, and meets its ensures wherever it ends. That it ends isn't said.")
+                   "requires, in any context, never faults, and meets its ensures wherever it "
+                   "ends. That it ends isn't said.")
 
 
 def unread(file: str) -> list[str]:
@@ -59,90 +61,92 @@ def gap(source: Source, line: str) -> list[str]:
     number, name = re.match(r"step (\d+) of (\S+), line", line).groups()
     procedure = next(it for it in source.take_theory().procedures if it.name == name)
     step = procedure.steps[int(number) - 1]
-    at = source.span(step)[0] + 2
     kind = "triple" if step.judgement[0] == "triple" else "entailment"
-    return [*source.view(at),
+    return [*source.view(source.span(step)[0] + 2),
             *labelled("open", code(shortened(source.written(step.judgement), 200))),
             *wrapped(f"All before this step holds, and its {kind} has no reason yet: 'auto' leaves "
-                     "it open. "
-                     "'./domcheck prove FILE' looks for the steps that show it and prints the file "
-                     "with them; by "
-                     "hand, put 'by RULE(STEPS)' in place of 'auto'.")]
+                     "it open. './domcheck prove FILE' looks for the steps that show it and prints "
+                     "the file with them; by hand, put 'by RULE(STEPS)' in place of 'auto'.")]
 
-
-# ---------------------------------------------------------------------------------------- no proof
 
 def no_proof(source: Source, line: str) -> list[str]:
     """In what the last step differs from the procedure's own triple."""
     name = line.removesuffix(": no proof")
     theory = source.take_theory()
     procedure = next(it for it in theory.procedures if it.name == name)
-    logic = scope_of(theory, procedure).logic
-    own = ("triple", procedure.pre, procedure.body, procedure.post, procedure.sort)
-    if not procedure.steps:
-        begin = source.span(procedure)[1] - 2
-        return [*source.view(begin), *wrapped(f"The proof of {name} has no steps. It has to end in "
-                                              "the procedure's "
-                                              "own triple:"),
-                                              *labelled("wanted", triple_text(source, procedure))]
-    last = procedure.steps[-1]
-    told = [f"Each step holds, but the last, step {last.number}, isn't the triple of the header of "
-            f"{name}."]
-    told += elsewhere(procedure, own, logic)
-    if last.judgement[0] != "triple":
-        return [*told, *source.view(source.span(last.judgement)[0]),
-                *wrapped(
-                    "It is an entailment. The last step has to be the procedure's own triple:"),
-                *labelled("wanted", triple_text(source, procedure))]
-    return told + list(differences(source, procedure, last, own, logic))
+    return list(Ending(source, procedure, scope_of(theory, procedure).logic).told())
 
 
-def triple_text(source: Source, procedure: Procedure) -> str:
-    """The procedure's own triple."""
-    parts = [shortened(source.written(it), 80)
-             for it in (procedure.pre, procedure.body, procedure.post)]
-    return code("pre {} do {} post {}".format(*parts) + f" at {procedure.sort}")
+class Ending:
+    """A proof, its last step, and the triple of the header in which it has to end."""
 
+    def __init__(self, source: Source, procedure: Procedure, logic: dict[str, str]):
+        self.source, self.procedure, self.logic = source, procedure, logic
+        self.own = ("triple", procedure.pre, procedure.body, procedure.post, procedure.sort)
+        self.wanted = unnamed_judgement(self.own, logic)
+        self.last = procedure.steps[-1] if procedure.steps else None
 
-def elsewhere(procedure: Procedure, own: Node, logic: dict[str, str]) -> list[str]:
-    """An earlier step that is the procedure's own triple."""
-    wanted = unnamed_judgement(own, logic)
-    numbers = [it.number for it in procedure.steps[:-1]
-               if unnamed_judgement(it.judgement, logic) == wanted]
-    return [f"Step {numbers[-1]} is that triple: it has to be the last step."] if numbers else []
+    def told(self) -> Iterator[str]:
+        """What is wrong with the end of the proof."""
+        name, source = self.procedure.name, self.source
+        if self.last is None:
+            yield from source.view(source.span(self.procedure)[1] - 2)
+            yield from wrapped(f"The proof of {name} has no steps. It has to end in the "
+                               "procedure's own triple:")
+            yield from labelled("wanted", self.own_text())
+            return
+        yield from wrapped(f"Each step holds, but the last, step {self.last.number}, isn't the "
+                           f"triple of the header of {name}.")
+        yield from self.earlier()
+        if self.last.judgement[0] == "triple":
+            yield from self.differences()
+        else:
+            yield from source.view(source.span(self.last.judgement)[0])
+            yield "It is an entailment. The last step has to be the procedure's own triple:"
+            yield from labelled("wanted", self.own_text())
 
+    def own_text(self) -> str:
+        parts = [shortened(self.source.written(it), 80) for it in self.own[1:SORT]]
+        return code("pre {} do {} post {}".format(*parts) + f" at {self.procedure.sort}")
 
-def differences(source: Source, procedure: Procedure, last: Step, own: Node,
-                logic: dict[str, str]) -> Iterator[str]:
-    """The parts of the triple that differ, and the first place of the first of them."""
-    left, right = unnamed_judgement(own, logic), unnamed_judgement(last.judgement, logic)
-    parts = [it for it in PARTS if left[it[0]] != right[it[0]]]
-    yield f"What differs: {listed([header for _, _, header in parts])}."
-    for at, part, header in parts:
-        shown = procedure.sort if at == 4 else source.written(own[at])
-        theirs = last.judgement[4] if at == 4 else source.written(last.judgement[at])
-        yield from labelled(header, code(shortened(shown, 160)))
-        yield from labelled(part, f"{code(shortened(theirs, 160))} in step {last.number}")
-    at = parts[0][0]
-    if at == 4:
-        yield from source.view(source.span(last.judgement)[1] - 1)
-        yield f"The step is at {sort_in_words(last.judgement[4])}, the procedure at {sort_in_words(procedure.sort)}."
-    else:
-        yield from first_place(source, last, at, left[at], right[at], logic)
+    def earlier(self) -> Iterator[str]:
+        """An earlier step that is the procedure's own triple."""
+        for step in reversed(self.procedure.steps[:-1]):
+            if unnamed_judgement(step.judgement, self.logic) == self.wanted:
+                yield f"Step {step.number} is that triple: it has to be the last step."
+                return
 
+    def differences(self) -> Iterator[str]:
+        """The parts of the triple that differ, and where the first of them does."""
+        found, judgement = unnamed_judgement(self.last.judgement, self.logic), self.last.judgement
+        parts = [it for it in PARTS if self.wanted[it[0]] != found[it[0]]]
+        yield f"What differs: {listed([header for _, _, header in parts])}."
+        for at, part, header in parts:
+            ours, theirs = (it[at] if at == SORT else self.source.written(it[at])
+                            for it in (self.own, judgement))
+            yield from labelled(header, code(shortened(ours, MOST)))
+            yield from labelled(part, f"{code(shortened(theirs, MOST))} in step {self.last.number}")
+        if parts[0][0] == SORT:
+            yield from self.source.view(self.source.span(judgement)[1] - 1)
+            ours, theirs = map(sort_in_words, (self.procedure.sort, judgement[SORT]))
+            yield f"The step is at {theirs}, the procedure at {ours}."
+        else:
+            yield from self.first_place(parts[0][0], found)
 
-def first_place(source: Source, last: Step, at: int, wanted: Node, found: Node, logic: dict[str, str]) -> Iterator[str]:
-    """The first place in which a part of the last step differs."""
-    path, part = narrowed(wanted, found)
-    path = (at, *path)
-    node = last.judgement
-    nodes = [node := node[it] for it in path]
-    marked = next(it for it in reversed(nodes) if id(it) in source.spans)
-    yield from source.view_of(marked)
-    if len(path) > 1:
-        is_term = is_term_at(last.judgement, path)
-        text = source.written(part) if id(part) in source.spans else (term_text if is_term
-                                                                      else formula_text)(
-                                                                          named(part, logic))
-        yield from labelled("wanted", code(shortened(text, 160)))
-        yield from labelled("written", code(shortened(source.written(marked), 160)))
+    def first_place(self, at: int, found: Node) -> Iterator[str]:
+        """The first place in which a part of the last step differs."""
+        inner, part = narrowed(self.wanted[at], found[at])
+        path, node, spans = (at, *inner), self.last.judgement, self.source.spans
+        marked = [node := node[it] for it in path]
+        least = next(it for it in reversed(marked) if id(it) in spans)
+        yield from self.source.view_of(least)
+        if inner:
+            yield from labelled("wanted", code(shortened(self.text(part, path), MOST)))
+            yield from labelled("written", code(shortened(self.source.written(least), MOST)))
+
+    def text(self, part: Node, path: tuple[int, ...]) -> str:
+        """A part of the procedure's own triple, which is wanted at a place of the last step."""
+        if id(part) in self.source.spans:
+            return self.source.written(part)
+        shown = named(part, self.logic)
+        return term_text(shown) if is_term_at(self.last.judgement, path) else formula_text(shown)

@@ -8,7 +8,7 @@ from domlogic.explaining.source import Source, Span
 from domlogic.explaining.wording import code, wrapped
 from domlogic.reading.faults import OF_VERSION_2, RULES, SETTING
 from domlogic.reading.sorts import Scope, scope_of, walk
-from domlogic.reading.theories import Procedure, Step, Theory
+from domlogic.reading.theories import Procedure, Step
 
 # Where something is at fault, and the sentence about it.
 Placed = tuple[Span, str]
@@ -20,8 +20,8 @@ class Place:
     def __init__(self, source: Source, procedure: int, step: int):
         self.source, self.theory = source, source.theory
         self.number = procedure
-        self.procedure: Procedure | None = self.theory.procedures[
-            procedure - 1] if procedure else None
+        procedures = [None, *self.theory.procedures]
+        self.procedure: Procedure | None = procedures[procedure]
         self.step: Step | None = self.procedure.steps[step - 1] if step else None
         self.order = step
         self.scope: Scope | None = scope_of(self.theory, self.procedure) if procedure else None
@@ -62,8 +62,8 @@ def first_fault(source: Source, line: str) -> Placed:
 def version(place: Place) -> Iterator[Placed]:
     """The number of the first line."""
     number = place.theory.version
-    yield (1,
-           2), f"The number behind 'domlogic' is 1 or 2, the versions of the language; {number} is none."
+    yield (1, 2), ("The number behind 'domlogic' is 1 or 2, the versions of the language; "
+                   f"{number} is none.")
 
 
 def repeats(named: list[tuple[str, Span]]) -> Iterator[tuple[str, Span, Span]]:
@@ -87,18 +87,18 @@ def twice(place: Place) -> Iterator[Placed]:
     """A name that is declared a second time."""
     source, theory = place.source, place.theory
     if place.procedure is None:
-        names = [(pair[0], source.span(pair)) for pair in theory.logic]
-        what = "The logic variable {} is declared a second time; the first is at {}."
+        logic = [(pair[0], source.span(pair)) for pair in theory.logic]
+        tried = [(logic, "The logic variable {} is declared a second time; the first is at {}.")]
     else:
         begins = [source.span(it)[0] + 1 for it in theory.procedures[: place.number]]
-        names = [(it.name, (at, at + 1)) for it, at in zip(theory.procedures, begins)]
-        names = [it for it in names if it[0] == place.procedure.name]
-        what = "A procedure with the name {} is there already, at {}."
-        if len(names) < 2:
-            names = declared(place)
-            what = "{} is declared a second time among the parameters, results and locals; the first is at {}."
-    for name, span, first in repeats(names):
-        yield span, what.format(code(name), source.place_in_words(source.starts[first[0]]))
+        names = [(it.name, (at, at + 1)) for it, at in zip(theory.procedures, begins)
+                 if it.name == place.procedure.name]
+        tried = [(names, "A procedure with the name {} is there already, at {}."),
+                 (declared(place), "{} is declared a second time among the parameters, results "
+                                   "and locals; the first is at {}.")]
+    for names, what in tried:
+        for name, span, first in repeats(names):
+            yield span, what.format(code(name), source.place_in_words(source.starts[first[0]]))
 
 
 def unknown(place: Place) -> Iterator[Placed]:
@@ -111,12 +111,11 @@ def unknown(place: Place) -> Iterator[Placed]:
             "logic": "{} has no line 'logic SORT {};' at the head of the file."}
     for node in walk((*parts, *place.arguments())):
         if node and node[0] in known and node[1] not in known[node[0]]:
-            names = (code(node[1]), place.procedure.name) if node[0] == "prog" else (code(node[1]),
-                                                                                     node[1])
-            yield place.source.span(node), what[node[0]].format(*names)
+            other = place.procedure.name if node[0] == "prog" else node[1]
+            yield place.source.span(node), what[node[0]].format(code(node[1]), other)
         if node and node[0] == "call" and node[2] not in place.scope.procedures:
-            yield place.source.span(
-                node), f"The file has no procedure with the name {code(node[2])}."
+            told = f"The file has no procedure with the name {code(node[2])}."
+            yield place.source.span(node), told
 
 
 def sort(place: Place) -> Iterator[Placed]:
@@ -169,7 +168,7 @@ def results(place: Place) -> Iterator[Placed]:
 
 
 def scope(place: Place) -> Iterator[Placed]:
-    """A variable of requires that is no parameter, or one of ensures that is neither that nor a result."""
+    """A variable of requires that is no parameter, or one of ensures that is a local."""
     params = place.scope.params
     both = params | {name for name, _ in place.procedure.results}
     for formula, seen, what in ((place.procedure.pre, params, "requires speaks of parameters"),
@@ -185,8 +184,8 @@ def rule(place: Place) -> Iterator[Placed]:
     """A rule that the logic, or this version of it, doesn't have."""
     name, at = place.step.rule, place.source.span(place.step)[0] + 3
     if name in OF_VERSION_2:
-        yield (at, at
-               + 1), f"{code(name)} is a rule of files that begin with 'domlogic 2'; this one begins with 1."
+        yield (at, at + 1), (f"{code(name)} is a rule of files that begin with 'domlogic 2'; this "
+                             "one begins with 1.")
         return
     near = difflib.get_close_matches(name, sorted(RULES), 3)
     meant = f" Rules with a name like it: {', '.join(map(code, near))}." if near else ""

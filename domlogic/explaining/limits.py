@@ -59,7 +59,7 @@ def variables(source: Source) -> list[str]:
 
 
 def steps(source: Source) -> list[str]:
-    """How many steps all proofs have: each begins with a word that stands nowhere else in a well-formed file."""
+    """How many steps all proofs have: each begins with a word that stands nowhere else."""
     counts = Counter(token.text for token in tokens_of(source.content) if token.kind == "word")
     return wrapped(f"The file has {figure(counts['step'])} steps in "
                    f"{counted(counts['proof'], 'proof')}, and a file has "

@@ -1,4 +1,4 @@
-"""What would make a step an instance, where that is a small change: another rule, or other steps that are cited."""
+"""What would make a step an instance, where that is small: another rule, or other citations."""
 import itertools
 from typing import Iterator
 

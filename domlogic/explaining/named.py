@@ -5,7 +5,7 @@ Node = tuple
 
 
 class Binder(str):
-    """The sort of a quantifier's variable, equal to the sort alone, with the name that is written."""
+    """The sort of a quantifier's variable, equal to the sort alone, with the written name."""
 
     name: str
 
@@ -41,7 +41,7 @@ def named(node: Node, logic: dict[str, str]) -> Node:
 
 
 def free_name(quantified: Node, logic: dict[str, str]) -> str:
-    """A name for a quantifier's variable: its own, or another of its sort, that isn't free behind it."""
+    """A name for a quantifier's variable that isn't free behind it, its own where that can be."""
     _, binder, inside = quantified
     own = getattr(binder, "name", "$x")
     others = (name for name, sort in logic.items() if sort == binder and " " not in name)

@@ -1,4 +1,4 @@
-"""The rules as the manual writes them: for each reading of a rule its line, and its conditions in words."""
+"""The rules as the manual writes them: the line of each reading, its conditions in words."""
 import itertools
 import re
 from collections import defaultdict
@@ -22,15 +22,14 @@ COMPUTED = {
             "ensures of f "
             "with the arguments and the results put in",
 }
-CONDITIONS = {"literal": "E and F are two literals that differ", "texts": "E and F are texts of "
-                                                                          "the same pieces",
-              "pure": "Q is pure"}
+CONDITIONS = {"literal": "E and F are two literals that differ",
+              "texts": "E and F are texts of the same pieces", "pure": "Q is pure"}
 # The manual has another letter for it.
 LETTERS = {"W": "Y"}
 
 
 class Row(NamedTuple):
-    """A reading of a rule, with its line: as it is written for this reading's sorts, and with letters for them."""
+    """A reading of a rule, with its line: for this reading's sorts, and with letters for them."""
 
     text: str
     general: str
@@ -112,8 +111,9 @@ def general_lines() -> dict[str, str]:
         body, _, conditions = form.partition("|")
         named = [it.split() for it in conditions.split(";") if it.strip()]
         left, both, right = body.partition(" both ways ")
-        bodies = {name: f"{left} entails {right}",
-                  f"{name}_back": f"{right} entails {left}"} if both else {name: body}
+        bodies = {name: body}
+        if both:
+            bodies = {name: f"{left} entails {right}", f"{name}_back": f"{right} entails {left}"}
         for each, text in bodies.items():
             found.setdefault(each, line_text(arguments, text, named))
     return found

@@ -9,7 +9,7 @@ from domlogic.explaining.rows import Row
 from domlogic.explaining.wording import code, labelled, listed, shortened, wrapped
 from domlogic.reading.computing import LITERALS, is_met, pieces
 from domlogic.reading.nameless import is_pure, modified, program_variables, stands_in
-from domlogic.search.book import term_text
+from domlogic.search.printing import term_text
 
 ALL_FITS = "All fits, the premises too, but a condition of the rule isn't met."
 
@@ -29,7 +29,7 @@ def explained(case: Case, side: str, ways: Iterator[tuple[Row | None, State]]) -
 
 
 def violated(ways: list[tuple[Row, State]]) -> tuple[Row, State, list[str]]:
-    """The first condition that no way meets together with those before it, and a way that meets those."""
+    """The first condition that no way meets with those before it, and a way that meets those."""
     asked = [it for it in ways[0][0].reading.conditions if it[0] != "string"]
     for condition in asked:
         meeting = [it for it in ways if is_met(condition, it[1].guess)]
@@ -66,10 +66,11 @@ def variable_trouble(case: Case, state: State, letters: list[str]) -> Iterator[s
     letter = next(it for it in others if stands_in(variable, state.guess[it]))
     shown = LETTERS.get(letter, letter)
     yield from marked(case, state, letter, variable)
-    told = {"free": "is the local, and it stands in", "assigned": "is what the command sets, and "
-                                                                  "it stands in"}
-    side = "free" if case.step.rule == "local" else "assigned"
-    what = "is $x, and it stands free in" if name[0] == "$" else told[side]
+    what = "is what the command sets, and it stands in"
+    if case.step.rule == "local":
+        what = "is the local, and it stands in"
+    elif name[0] == "$":
+        what = "is $x, and it stands free in"
     yield from wrapped(f"{code(variable[1])} {what} {shown}.")
 
 
@@ -87,7 +88,8 @@ def literal_trouble(case: Case, state: State, letters: list[str]) -> Iterator[st
     for letter in letters:
         if state.guess[letter][0] not in LITERALS:
             yield from marked(case, state, letter, state.guess[letter])
-            yield f"{letter} is {code(case.pattern_text(('letter', letter), state))}, and that is no literal."
+            shown = code(case.letter_text(letter, state))
+            yield f"{letter} is {shown}, and that is no literal."
             return
     yield from marked(case, state, letters[1], state.guess[letters[1]])
     yield f"Both are the literal {code(case.pattern_text(('letter', letters[1]), state))}."
@@ -121,10 +123,9 @@ def pure_trouble(case: Case, state: State, letters: list[str]) -> Iterator[str]:
     judgement, path = state.places[letters[0]]
     path += impure(state.guess[letters[0]])
     yield from case.marked(judgement, path)
-    yield from wrapped(f"{code(shortened(case.written_text(judgement, path)))} speaks of the data, "
-                       f"so {letters[0]} "
-                       "isn't pure: that is made of 'true', 'false', comparisons, connectives, "
-                       "quantifiers and 'is'.")
+    part = code(shortened(case.written_text(judgement, path)))
+    yield from wrapped(f"{part} speaks of the data, so {letters[0]} isn't pure: that is made of "
+                       "'true', 'false', comparisons, connectives, quantifiers and 'is'.")
 
 
 TOLD: dict[str, Callable[[Case, State, list[str]], Iterator[str]]] = {

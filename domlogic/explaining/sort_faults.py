@@ -1,5 +1,5 @@
 """Which part of a formula, a condition or a command has the wrong sort, and which one is wanted."""
-from typing import Iterator, NamedTuple
+from typing import NamedTuple
 
 from domlogic.explaining.wording import code, counted, listed, sort_in_words
 from domlogic.reading.limits import SHAPE_SORTS, VALUE_SORTS
@@ -123,22 +123,17 @@ def condition_fault(condition: Node, scope: Scope) -> Fault | None:
     return next((it for it in (condition_fault(part, scope) for part in parts) if it), None)
 
 
-def each_with_sort(given: tuple, wanted: list[str], scope: Scope) -> Iterator[Fault]:
-    """The faults of terms that stand for parameters or results."""
-    yield from (it for it in map(lambda term, sort: term_fault(term, sort, scope), given, wanted)
-                if it)
-
-
 def call_fault(call: Node, scope: Scope) -> Fault | None:
     """Why a call doesn't fit the header of its procedure."""
     _, results, name, arguments = call
     callee = scope.procedures[name]
-    for given, declared, noun in ((results, callee.results, "result"),
-                                  (arguments, callee.params, "argument")):
+    for given, declared, nouns in ((results, callee.results, ("result", "result")),
+                                   (arguments, callee.params, ("parameter", "argument"))):
         if len(given) != len(declared):
-            return Fault(call, f"{code(name)} has {counted(len(declared), noun)}, and the call has "
-                               f"{len(given) or 'none'}.")
-        fault = next(each_with_sort(given, [sort for _, sort in declared], scope), None)
+            return Fault(call, f"{code(name)} has {counted(len(declared), nouns[0])}, and the call "
+                               f"has {counted(len(given), nouns[1])}.")
+        pairs = [it for term, (_, sort) in zip(given, declared) for it in (term, sort)]
+        fault = terms_fault(scope, *pairs)
         if fault:
             return fault
     return None
@@ -182,8 +177,8 @@ def command_fault(command: Node, scope: Scope) -> Fault | None:
     """The first part of a command that has the wrong sort."""
     head, *parts = command
     if head in ("call", ":=", "local"):
-        return {"call": call_fault, ":=": assignment_fault, "local": local_fault}[head](command,
-                                                                                        scope)
+        of_form = {"call": call_fault, ":=": assignment_fault, "local": local_fault}
+        return of_form[head](command, scope)
     if head in OPERANDS:
         return operands_fault(command, scope)
     if head in ("if", "while"):

@@ -1,6 +1,6 @@
 """A file as its author sees it: lines and columns, and the tokens of each part."""
 from domlogic.explaining.wording import WIDTH
-from domlogic.reading.theories import Procedure, Step, Theory, TheoryReader
+from domlogic.reading.theories import Theory, TheoryReader
 from domlogic.reading.tokens import Token, layout_end, text_of, tokens_of
 
 # A run of tokens: the place of the first, and of the one behind the last.
@@ -69,7 +69,7 @@ class PlacedReader(TheoryReader):
 
 
 class Source:
-    """A file's text with its tokens; with the theory and the places of its parts where it is read."""
+    """A file's text with its tokens, and where it is read its theory with the parts' places."""
 
     def __init__(self, content: bytes):
         self.content = content
@@ -137,7 +137,7 @@ class Source:
 
 
 def windowed(line: str, at: int, count: int) -> tuple[str, int]:
-    """The part of a long line round a place, with spaces for what isn't printed, and where the place is in it."""
+    """The part of a long line round a place, as it can be printed, and where the place is in it."""
     begin = 0
     if len(line) > WIDTH:
         begin = max(0, min(at - WIDTH // 3, len(line) - WIDTH))

@@ -4,17 +4,18 @@ from typing import Iterator
 
 from domlogic.explaining import computed, mending, rows, sides
 from domlogic.explaining.case import Case, wanted_lines, wanted_text
-from domlogic.explaining.comparing import (BOUND_FREE, BOUND_SORT, KIND, LEFT, SORT, TERM_SORT,
+from domlogic.explaining.comparing import (BOUND_FREE, BOUND_SORT, KIND, SORT, TERM_SORT,
                                            Comparison, Miss,
                                            State, Way)
 from domlogic.explaining.rows import Row
 from domlogic.explaining.source import Source
-from domlogic.explaining.wording import code, counted, labelled, shortened, sort_in_words, wrapped
-from domlogic.reading.matching import put_in, settled
+from domlogic.explaining.wording import (code, counted, labelled, listed, shortened,
+                                         sort_in_words, wrapped)
+from domlogic.reading.matching import put_in, settled, sorts_of_letters
 from domlogic.reading.sorts import term_sort
 
 STEP = re.compile(r"step (\d+) of (\S+), line \d+: (\w+): (\w+) ?(\w*)")
-NO_FORM = "The judgement isn't of the rule's form, whatever steps are cited."
+NO_FORM = "The step isn't of the rule's form, whatever it cites."
 
 
 def explained(source: Source, line: str) -> list[str]:
@@ -41,7 +42,7 @@ def letter_lines(case: Case, state: State) -> list[str]:
     return labelled("read", told) if told else []
 
 
-# ------------------------------------------------------------------------------------- the conclusion
+# ---------------------------------------------------------------------------- the conclusion
 
 def shape(case: Case) -> Iterator[str]:
     """Why no choice of the letters makes the judgement and the arguments what is written."""
@@ -65,29 +66,28 @@ def argument_trouble(case: Case) -> list[str]:
     """What is said of arguments that the rule doesn't take."""
     wanted, given = rows.ROWS[case.step.rule][0].reading.arguments, case.step.arguments
     if len(wanted) != len(given):
-        told = f"{code(case.step.rule)} takes {counted(len(wanted), 'argument')} after 'with', and the step has " \
-               f"{len(given) or 'none'}."
+        told = f"{code(case.step.rule)} takes {counted(len(wanted), 'argument')} after 'with', " \
+               f"and the step has {len(given) or 'none'}."
         return [*rule_lines(case), *case.marked_rule(), *wrapped(told)]
     for (_, name), found in zip(wanted, given):
         if name[0] == "$" and found[0] != "logic":
-            told = f"The argument for {name} has to be a logic variable, and it is {code(case.text(found, True))}."
+            told = f"The argument for {name} has to be a logic variable."
             return [*rule_lines(case), *case.source.view_of(found), *wrapped(told)]
     return []
 
 
 def first_state(case: Case, row: Row) -> State:
     """What the arguments say of the letters."""
-    return State({name: it for (_, name), it in zip(row.reading.arguments, case.step.arguments)},
-                 {}, {})
+    pairs = zip(row.reading.arguments, case.step.arguments)
+    return State({name: it for (_, name), it in pairs}, {}, {})
 
 
 def conclusions(case: Case) -> Iterator[tuple[Row, Comparison, list[State]]]:
     """The rows of the rule, each with the ways to read the conclusion."""
-    for row in (rows.OF_TRIPLES if case.judgement[0] == "triple"
-                else rows.OF_ENTAILMENTS)[case.step.rule]:
-        comparison = Comparison(case.written)
-        found = comparison.judgement(row.reading.conclusion, case.judgement, first_state(case, row),
-                                     0)
+    table = rows.OF_TRIPLES if case.judgement[0] == "triple" else rows.OF_ENTAILMENTS
+    for row in table[case.step.rule]:
+        comparison, state = Comparison(case.written), first_state(case, row)
+        found = comparison.judgement(row.reading.conclusion, case.judgement, state, 0)
         yield row, comparison, list(found)
 
 
@@ -119,21 +119,26 @@ def farthest_rows(tried: list[tuple[Row, Comparison, list[State]]]) -> list[tupl
 def sort_trouble(case: Case, row: Row, state: State) -> list[str]:
     """Why a judgement of the rule's form isn't one at this sort."""
     sort, wanted = case.judgement[-1], row.reading.conclusion[-1]
-    texts = [name for kind, *names in row.reading.conditions if kind == "string" for name in names]
-    for name in texts:
+    for name in texts_of(row):
         its = term_sort(state.guess[name], case.scope)
         if its != "str":
-            return wrapped(f"{name} has to be a text, and "
-                           f"{code(case.pattern_text(('letter', name), state))} has sort "
-                           f"{sort_in_words(its)}.")
-    told = "A letter stands at two sorts here."
+            return [*case.marked(*state.places[name]),
+                    *wrapped(f"{name} has to be a text, and it has sort {sort_in_words(its)}.")]
     if wanted is not None:
         names = "t, f or g" if wanted == "data" else sort_in_words(wanted)
-        told = f"The rule is for judgements at {names}, and this one is at {sort_in_words(sort)}."
-    else:
-        told = f"Its letters have their sorts in common only at another sort than {sort_in_words(sort)}: " \
-               "a letter is one formula at one sort."
-    return [*case.marked_sort(0), *wrapped(told)]
+        told = f"The rule is for judgements at {names}; this one is at {sort_in_words(sort)}."
+        return [*case.marked_sort(0), *wrapped(told)]
+    conclusion = (*row.reading.conclusion[:-1], sort)
+    found = sorts_of_letters([conclusion], state.guess, case.written)
+    two = next(it for it in found.items() if len(it[1]) > 1 and it[0] not in row.reading.anywhere)
+    sorts = listed([sort_in_words(it) for it in sorted(two[1])])
+    return [*case.marked_sort(0),
+            *wrapped(f"{two[0]} stands at sorts {sorts} here; it has to be at one.")]
+
+
+def texts_of(row: Row) -> list[str]:
+    """The letters that have to be texts."""
+    return [name for kind, *names in row.reading.conditions if kind == "string" for name in names]
 
 
 def miss_lines(case: Case, miss: Miss, tied: list[tuple[Row, Miss]] = ()) -> list[str]:
@@ -156,11 +161,12 @@ def reason(case: Case, miss: Miss) -> str:
     shown, name = (case.pattern_text(it, miss.state, True) for it in (term, variable))
     if miss.why == TERM_SORT:
         sorts = [sort_in_words(term_sort(it, case.scope)) for it in (term, variable)]
-        return f"{code(shown)} has sort {sorts[0]} and {code(name)} sort {sorts[1]}, so it can't be put for it."
+        return f"{code(shown)} has sort {sorts[0]} and {code(name)} sort {sorts[1]}: " \
+           "it can't be put for it."
     return f"{code(name)} stands here, where the rule has {code(shown)} put for it at each place."
 
 
-# --------------------------------------------------------------------------------------- the premises
+# ------------------------------------------------------------------------------ the premises
 
 def readings(case: Case) -> Iterator[Way]:
     """The readings of a step's conclusion with the premises that each asks for."""
@@ -170,10 +176,8 @@ def readings(case: Case) -> Iterator[Way]:
     for row, comparison, states in conclusions(case):
         for state in states:
             wanted = settled(row.reading, case.judgement[-1], state.guess, case.written)
-            texts = [name for kind, *names in row.reading.conditions if kind == "string"
-                     for name in names]
-            if wanted is not None and all(term_sort(state.guess[it], case.scope) == "str"
-                                          for it in texts):
+            sorts = {term_sort(state.guess[it], case.scope) for it in texts_of(row)}
+            if wanted is not None and sorts <= {"str"}:
                 yield Way(row, comparison, state, wanted)
 
 
@@ -193,7 +197,8 @@ def premises(case: Case) -> Iterator[str]:
         each = ", one for each command of the block" if case.step.rule == "seq" else ""
         yield from rule_lines(case, ways[0].row.general if ways[0].row else "")
         yield from case.marked_rule()
-        told = f"The rule has {counted(count, 'premise')}{each}, and the step cites {counted(cited, 'step')}."
+        told = f"The rule has {counted(count, 'premise')}{each}, and the step cites " \
+               f"{counted(cited, 'step')}."
         yield from wrapped(told)
     elif case.cited is None:
         yield from rule_lines(case, ways[0].row.general if ways[0].row else "")
@@ -206,11 +211,10 @@ def citation_trouble(case: Case) -> Iterator[str]:
     """A number that is cited, and isn't that of an earlier step."""
     count = case.cited_steps.index(None) + 1
     yield from case.marked_citation(count)
-    earlier = {0: "it is the first and has none to cite", 1: "the one before it is step 1"}.get(
-        case.at, f"those before it are steps 1 to {case.at}")
-    yield from wrapped(f"Step {case.step.premises[count - 1]} isn't an earlier step of this proof "
-                       "than step "
-                       f"{case.step.number}: {earlier}.")
+    earlier = {0: "there is none before the first", 1: "before it there is step 1 alone"}.get(
+        case.at, f"before it there are steps 1 to {case.at}")
+    yield from wrapped(f"Step {case.step.number} cites step {case.step.premises[count - 1]}, and "
+                       f"what is cited has to be an earlier step of this proof: {earlier}.")
     yield from mending.by_other_citations(case, count)
 
 

@@ -1,6 +1,6 @@
-"""A token that can't be read: where it is, what could stand there, and what is meant by the usual ones."""
+"""A token that can't be read: where it is, what could stand there, what is usually meant."""
 from domlogic.explaining.source import Source
-from domlogic.explaining.wording import code, counted, figure, wrapped
+from domlogic.explaining.wording import code, counted, figure, shortened, wrapped
 from domlogic.reading.limits import LAST_I64, SHAPE_SORTS, VALUE_SORTS
 from domlogic.reading.reader import NoReading
 from domlogic.reading.theories import CONNECTIVES, TheoryReader
@@ -55,7 +55,10 @@ def explained(source: Source, number: int) -> list[str]:
 
 
 class WatchedReader(TheoryReader):
-    """The reader of files, which keeps where the last procedure and its steps begin, and what is asked of a token."""
+    """The reader of files, which keeps where the last procedure and its steps begin.
+
+    Of the token at one place it keeps what is asked of it.
+    """
 
     def __init__(self, tokens: list[Token], watched: int):
         super().__init__(tokens)
@@ -94,7 +97,7 @@ def watched(tokens: list[Token]) -> tuple[WatchedReader, bool]:
 
 
 def shorter(tokens: list[Token], reader: WatchedReader, is_file: bool) -> list[Token]:
-    """Tokens after which the same can stand: without the procedures and the steps that are whole."""
+    """Tokens after which the same can stand: without whole procedures and whole steps."""
     if is_file:
         return [*tokens[:2], *SHORTEST]
     if not reader.procedures:
@@ -119,7 +122,7 @@ def moves_on(tokens: list[Token]) -> bool:
 def possible(before: list[Token]) -> set[str]:
     """What can stand behind these tokens, which begin some file.
 
-    No token is taken that isn't asked for, so what the reader asks for there is tried, and nothing else.
+    No token is taken that isn't asked for, so what the reader asks for there is tried, and no more.
     """
     reader, is_file = watched(before)
     before = shorter(before, reader, is_file)
@@ -135,13 +138,12 @@ def possible(before: list[Token]) -> set[str]:
     return found | ({END} if is_file else set())
 
 
-def is_offered(token: Token, offered: set[str]) -> bool:
-    """Says whether a token is one of what is offered."""
+def is_offered(token: Token, offered: set[str], reserved: set[str]) -> bool:
+    """Says whether a token is one of what is offered, in a file with these reserved words."""
     if token.kind in ("symbol", "word") and token.text in offered:
         return True
     if token.kind == "word":
-        return ANY_WORD in offered or (ANY_NAME in offered
-                                       and token.text not in RESERVED | {"insertBefore"})
+        return ANY_WORD in offered or (ANY_NAME in offered and token.text not in reserved)
     if token.kind == "number":
         value = int(token.text)
         return (NUMBER in offered or (SMALL in offered and value < 2**32)
@@ -172,7 +174,7 @@ def refusal(source: Source, number: int) -> str:
     """A sentence on the token itself."""
     token = source.tokens[number - 1]
     if token.kind != "bad":
-        return f"{code(spelled(token))} can't stand here."
+        return f"{code(shortened(spelled(token), 40))} can't stand here."
     start = source.starts[number - 1]
     return f"No token begins here: {no_token(source, start)}."
 
@@ -207,11 +209,12 @@ def unfinished(source: Source, start: int) -> str:
 
 def no_number(run: str) -> str:
     """Why a run of digits and characters of words is no number."""
+    shown = code(shortened(run, 40))
     if not set(run) <= DIGITS:
-        return f"{code(run)} is neither a number nor a word"
+        return f"{shown} is neither a number nor a word"
     if run[0] == "0":
-        return f"{code(run)} has a leading zero"
-    return f"{code(run)} is greater than {figure(LAST_I64)}, the greatest number"
+        return f"{shown} has a leading zero"
+    return f"{shown} is greater than {figure(LAST_I64)}, the greatest number"
 
 
 def advice(source: Source, number: int, offered: set[str]) -> list[str]:
@@ -227,28 +230,48 @@ def advice(source: Source, number: int, offered: set[str]) -> list[str]:
 def usual(token: Token, before: str, offered: set[str]) -> list[tuple[bool, str]]:
     """The usual causes: whether it is one, and what is said of it."""
     text = token.text if token.kind in ("symbol", "word", "bad") else ""
-    reserved = token.kind == "word" and text in RESERVED
-    wants_name = ANY_NAME in offered and "(" not in offered
     return [
         (token.kind == "number" and SMALL in offered, "The number is too great for this place."),
-        (token.kind == "number" and NOT_ZERO in offered, "'- 0' isn't written: it is '0'."),
+        (token.kind == "number" and NOT_ZERO in offered, "It is written '0', and not '- 0'."),
         (before == "insertBefore" and text == "(" and ":=" in offered,
-         "'insertBefore' is a command in files that begin with 'domlogic 2', and a name in others."),
-        (text == "#" and "#" not in offered, "A comment begins with '//'; '#' stands in nodes, "
-                                             "'S#I[P]%L'."),
-        (text == "=" and ":=" in offered, "An assignment is written 'x := E'."),
+         "'insertBefore' is a command where the file begins with 'domlogic 2', and else a name."),
+        (token.kind == "logic" and ANY_NAME in offered and LOGIC not in offered,
+         "Logic variables stand in formulas and behind 'with', and in no command."),
+        *usual_in_formulas(text, before, offered),
+        *usual_in_commands(text, before, offered),
+        (text == ":" and "(" in offered,
+         "Behind a rule the steps that it cites stand in brackets, '()' for none."),
+        (text in RESERVED and (offered <= {ANY_NAME, ")"} or text in ("item", "len", "is")),
+         f"{code(text)} is a reserved word, and so it is no name."),
+    ]
+
+
+def usual_in_formulas(text: str, before: str, offered: set[str]) -> list[tuple[bool, str]]:
+    """The same where a formula or a judgement is written."""
+    return [
+        (text == "#" and "#" not in offered,
+         "A comment begins with '//'; '#' stands in nodes, 'S#I[P]%L'."),
         (text == "=" and before == "=", "An equation has one '='."),
         (text == "<" and "<=" in offered,
          "There is no '<': of integers 'x < y' is '{x + 1} <= y'."),
-        (text in ("+", "-", "++"), "A sum has braces: '{a + 1}', '{s ++ \"b\"}'; other connectives "
-                                   "are of formulas."),
+        (text in ("+", "-", "++"), "A sum of terms stands in braces: '{a + 1}'."),
         (text == ")" and "and" in offered,
-         "Round brackets hold two formulas with a connective, '(P and Q)'; a comparison has none."),
-        (text in CONNECTIVES, "A connective joins two formulas in brackets of their own, '(P and "
-                              "Q)'."),
+         "Round brackets hold two formulas with a connective, '(P and Q)'."),
+        (text in CONNECTIVES,
+         "A connective joins two formulas in brackets of their own, '(P and Q)'."),
+        (text in ("step", "end") and offered == {";"}, "A step ends with ';'."),
+        (text == ";" and offered == {"at"}, "A judgement ends with its sort, as in 'at g'."),
+    ]
+
+
+def usual_in_commands(text: str, before: str, offered: set[str]) -> list[tuple[bool, str]]:
+    """The same where a command is written."""
+    return [
+        (text == "=" and ":=" in offered, "An assignment is written 'x := E'."),
         (text == "}" and before == ";", "Behind the last command of a block there is no ';'."),
         (text == "}" and before == "{", "A block has at least one command: '{ skip }'."),
-        (token.kind == "logic" and ANY_NAME in offered and LOGIC not in offered,
-         "Logic variables stand in formulas and behind 'with', and in no command."),
-        (reserved and wants_name, f"{code(text)} is a reserved word, and so it is no name."),
+        (offered == {"{"}, "The parts of 'if', 'while' and 'local' are blocks, in braces."),
+        (offered == {"else"}, "Each 'if' has an 'else', if need be 'else { skip }'."),
+        (text == ";" and offered in ({"post"}, {"proof"}),
+         "Several commands stand in braces: '{ C1 ; C2 }'."),
     ]

@@ -9,8 +9,8 @@ if TYPE_CHECKING:
 
 
 class Somewhere(NamedTuple):
-    """A part of the left side, its sort, and what it is matched with to find P in it: P itself, or P
-    in a row or sum, and the path of P there."""
+    """A part of the left side, its sort, and what it is matched with to find P in it: P itself, or
+    P in a row or sum, and the path of P there."""
 
     path: Path
     part: Formula
@@ -32,7 +32,7 @@ def places(matcher: "Matcher", left: Formula, sort: str, h: str,
             continue
         yield Somewhere(path, part, h, wanted, ())
         is_whole = not path or part_at(left, path[:-1])[0] not in ("*", "+")
-        if is_whole and h in beside and part[0] in ("*", "+"):
+        if is_whole and h in beside:
             yield Somewhere(path, part, h, *beside[h])
 
 

@@ -2,9 +2,11 @@
 import itertools
 from typing import Iterator
 
-from domlogic.search.book import Book, Fails, free
-from domlogic.search.heaps import Case, Command, Formula, Variable
+from domlogic.search.book import Book
+from domlogic.search.formulas import Formula, free
 from domlogic.search.frames import Frames, Place
+from domlogic.search.heaps import Case, Command, Variable
+from domlogic.search.refusals import Fails, Refusal
 
 Judgement = tuple
 
@@ -14,7 +16,7 @@ class NoPart(Fails):
     stand where it wants a variable."""
 
     def __init__(self, case: Case, wanted: Formula, needs: list):
-        super().__init__((case.formula, wanted))
+        super().__init__(Refusal(case.formula, wanted))
         self.needs = needs
 
 
@@ -48,7 +50,7 @@ def applied(frames: Frames, case: Case, triple: int, names: list[Variable]) -> i
             number = instantiated(book, triple, renamed, found)
             meant = book.judged(inner)[2]
             if not book.same(meant, book.judged(number)[1]):
-                raise Fails((known.whole, book.judged(number)[1]))
+                raise Fails(Refusal(known.whole, book.judged(number)[1]))
             return frames.at(case, place, inner, number)
         needs += matching.needs
     raise NoPart(case, pre, needs)

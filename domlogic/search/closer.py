@@ -1,11 +1,13 @@
 """A closer look at a case in which a command finds no axiom: what is known may say more."""
 from typing import Iterator
 
-from domlogic.search.book import TRUE, Fails, get_at
-from domlogic.search.heaps import Case, Command, Formula
 from domlogic.search.entailments import Facts
+from domlogic.search.formulas import TRUE, Formula, part_at
 from domlogic.search.frames import Frames
+from domlogic.search.heaps import Case, Command
+from domlogic.search.naming import named
 from domlogic.search.places import CHILDREN, LIST, NUMBER, node_of
+from domlogic.search.refusals import Fails
 
 # A step, and the formula that the case entails by it.
 Look = tuple[int, Formula]
@@ -75,7 +77,8 @@ def lengths(frames: Frames, case: Case, wanted: Formula) -> Iterator[Look]:
 
 
 def named_rests(frames: Frames, case: Case, wanted: Formula) -> Iterator[Look]:
-    """The children before all trees that a call names, or behind them, get a name, also where there are none."""
+    """The children before all trees that a call names, or behind them, get a name, also where there
+    are none."""
     known = frames.known(case)
     for node in wanted_nodes(wanted):
         atoms = frames.shapes.atoms("*", frames.shapes.canon(node[CHILDREN], "f").right)
@@ -101,15 +104,15 @@ def child_place(frames: Frames, known: Facts, parent: Formula, term: Formula) ->
 
 
 def named_row(frames: Frames, case: Case, path: tuple, at: int, side: int) -> Iterator[Look]:
-    """Of the row at the path the atoms up to a place (side 1), or from there on (side 2), get a name."""
-    shapes, book, row = frames.shapes, frames.book, get_at(case.shape, path)
+    """Of the row at the path the atoms up to a place (side 1) or behind it (side 2) get a name."""
+    shapes, book, row = frames.shapes, frames.book, part_at(case.shape, path)
     atoms = shapes.atoms("*", row)
     parts = atoms[:at], atoms[at:]
     if len(parts[side - 1]) == 1 and parts[side - 1][0][0] == "is it":
         return
     wide = ("*", *(shapes.row_of_parts("*", it) for it in parts))
-    named = frames.matching.named(wide[side], "f", book.fresh("f"))
-    number = book.cut(frames.turned(row, wide, "f"), book.lift(wide, "f", (side,), named))
+    name = named(book, wide[side], "f", book.fresh("f"))
+    number = book.cut(frames.turned(row, wide, "f"), book.lift(wide, "f", (side,), name))
     yield shapes.rewrite(case.shape, list(case.pure), case.sort, path, number)
 
 

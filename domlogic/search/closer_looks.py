@@ -3,13 +3,18 @@
 A look is a function that gives a step from what is known to another formula, and that formula.
 """
 import itertools
-from typing import Callable, Iterator, NamedTuple
+from typing import TYPE_CHECKING, Callable, Iterator, NamedTuple
 
 from domlogic.search.facts import Facts
 from domlogic.search.formulas import (NONE, TRUE, Formula, Path, Term, conjunction, conjuncts,
                                       has_head, part_at, sort_at, with_facts, with_part_at)
 from domlogic.search.matching import Progress
+from domlogic.search.naming import named
 from domlogic.search.refusals import Fails
+from domlogic.search.unknown_shapes import UnknownShapes
+
+if TYPE_CHECKING:
+    from domlogic.search.entailments import Matching
 
 
 class Look(NamedTuple):
@@ -22,7 +27,7 @@ class Look(NamedTuple):
 class CloserLooks:
     """The looks at one case, for one right side."""
 
-    def __init__(self, matching, known: Facts, right: Formula, progress: Progress):
+    def __init__(self, matching: "Matching", known: Facts, right: Formula, progress: Progress):
         self.matching, self.known, self.right, self.progress = matching, known, right, progress
         self.book, self.shapes = matching.book, matching.shapes
         self.places = list(self.shapes.paths(known.shape, known.sort))
@@ -48,6 +53,10 @@ class CloserLooks:
         for path, part, sort in self.places:
             if part[0] != "is it" and (self.known.rep(part), sort) in self.progress.needs:
                 yield lambda path=path: self.named_at(path)
+        for path, part, sort in self.places:
+            if sort == "t" and part[0] in ("true", "is it") and part in self.progress.trees:
+                yield lambda path=path, part=part: self.rewritten(
+                    path, UnknownShapes(self.matching).node(part))
         yield from self.other_lengths()
         for step in self.book.earlier:
             if step.judgement[0] == "entails" and step.judgement[3] in ("t", "f", "g"):
@@ -80,18 +89,8 @@ class CloserLooks:
     def named_at(self, path: Path) -> tuple[int, Formula]:
         """The part at the path gets a name: Z[P] entails exists $x . (Z[$x] and ($x is P))."""
         sort = sort_at(self.known.shape, self.known.sort, path)
-        number = self.named(part_at(self.known.shape, path), sort, self.book.fresh(sort))
+        number = named(self.book, part_at(self.known.shape, path), sort, self.book.fresh(sort))
         return self.rewritten(path, number)
-
-    def named(self, part: Formula, sort: str, new: Term) -> int:
-        """P entails exists $x . ($x and ($x is P))."""
-        book, it, fact = self.book, ("is it", new), ("is", new, part)
-        pair, body = ("and", it, part), ("and", it, fact)
-        some, target = ("exists", new, pair), ("exists", new, body)
-        both = book.both(book.side(pair, 1, sort), book.ent("is_in", (), pair, fact, sort))
-        inner = book.cut(both, book.ent("exists_in", (), body, target, sort, (new,)))
-        return book.cut(book.ent("some", (), part, some, sort),
-                        book.ent("exists_out", (inner,), some, target, sort))
 
     # ------------------------------------------------------------------------ facts and conjuncts
     def sides(self) -> Iterator[Callable[[], tuple[int, Formula]]]:
@@ -165,8 +164,8 @@ class CloserLooks:
         if fact is None:
             raise Fails("the length follows of the row as it was alone")
         second = self.shapes.gather(now, more, known.sort, [(equation, fact)])
-        length = self.length_by_fact(stretch, equation)
-        third, target = self.shapes.rewrite(shape, pure, known.sort, (*path, 2, 1), length, equation)
+        length, place = self.length_by_fact(stretch, equation), (*path, 2, 1)
+        third, target = self.shapes.rewrite(shape, pure, known.sort, place, length, equation)
         return self.book.cut(start, second, third), target
 
     def length_by_fact(self, forest: Formula, equation: Formula) -> int:

@@ -2,12 +2,14 @@
 from functools import partial
 from typing import Callable
 
-from domlogic.search.book import NONE, Fails, free, put, term_text
-from domlogic.search.heaps import Case, Command, Formula
 from domlogic.search.entailments import Facts
+from domlogic.search.formulas import NONE, Formula, free, with_part
 from domlogic.search.frames import Frames, Place
+from domlogic.search.heaps import Case, Command
 from domlogic.search.places import (CHILDREN, LIST, NAME, NUMBER, Node, child_above, child_of,
                                     moved, node_of, numbered_child, root_above, split_around)
+from domlogic.search.printing import term_text
+from domlogic.search.refusals import Fails, Refusal
 
 NULL = ("null",)
 
@@ -63,7 +65,7 @@ def read_parent(frames: Frames, case: Case, command: Command) -> int:
         return read_in_place(frames, case, command, "parent_none", place, place.part, fact, NULL)
     found = child_above(frames.shapes, case.shape, path)
     if found is None:
-        raise Fails((case.formula, "what is above the node " + term_text(term)))
+        raise Fails(Refusal(case.formula, "what is above the node " + term_text(term)))
     form = split_around(frames.shapes, found)
     place = Place(case.shape, found.path, "t")
     return read_in_place(frames, case, command, "parent", place, form, fact, found.parent[NUMBER])
@@ -96,7 +98,7 @@ def item_found(frames: Frames, case: Case, command: Command, place: Node, at: in
     number, length = frames.matching.length(before)
     plain = split_around(shapes, child)
     counted = ("and", before, ("len", length))
-    form = put(plain, CHILDREN, ("*", ("*", counted, child.tree), plain[CHILDREN][2]))
+    form = with_part(plain, CHILDREN, ("*", ("*", counted, child.tree), plain[CHILDREN][2]))
     inside = (CHILDREN, 1, 1)
     more = book.cut(frames.turned(node, plain, "t"), book.lift(plain, "t", inside, number))
     shorter = book.ent("and_left", (), counted, before, "f")
@@ -113,9 +115,9 @@ def item_missing(frames: Frames, case: Case, command: Command, place: Node) -> i
         number, length = frames.matching.length(node[CHILDREN])
     except Fails:
         wanted = f"the child at place {term_text(index)}, or how many children there are"
-        raise Fails((case.formula, wanted)) from None
+        raise Fails(Refusal(case.formula, wanted)) from None
     counted = ("and", node[CHILDREN], ("len", length))
-    form = put(node, CHILDREN, counted)
+    form = with_part(node, CHILDREN, counted)
     more = book.lift(node, "t", (CHILDREN,), number)
     shorter = book.ent("and_left", (), counted, node[CHILDREN], "f")
     less = book.lift(form, "t", (CHILDREN,), shorter)
@@ -146,7 +148,7 @@ def item_framed(frames: Frames, case: Case, command: Command, place: Node, axiom
 def create(frames: Frames, case: Case, command: Command) -> int:
     """createNode: a new root beside all."""
     if case.sort != "g":
-        raise Fails((case.formula, "a grove: createNode asks for the sort g"))
+        raise Fails(Refusal(case.formula, "a grove: createNode asks for the sort g"))
     book, (_, variable, term) = frames.book, command
     meant, place = old_value(frames, case, term, variable), frames.beside_nothing(case)
     listing, fact = book.fresh("list"), ("=", term, meant)
@@ -187,7 +189,7 @@ def put_in(frames: Frames, case: Case, command: Command, axiom: str) -> int:
         form, after, facts = before_child(frames, there, parent, piece.node, reference[0])
     else:
         children = ("*", form[CHILDREN], ("one tree", piece.node))
-        after, facts = put(form, CHILDREN, children), [("=", it, NULL) for it in reference]
+        after, facts = with_part(form, CHILDREN, children), [("=", it, NULL) for it in reference]
     outer, _, again = shapes.spot(rest.right, case.sort, parent.path)
     turned = frames.turned(parent.formula, form, "t")
     if turned is not None:
@@ -212,18 +214,18 @@ def before_child(frames: Frames, known: Facts, parent: Node, node: Formula, refe
     form = split_around(frames.shapes, child)
     (_, (_, first, _), rest) = form[CHILDREN]
     children = ("*", ("*", ("*", first, ("one tree", node)), child.tree), rest)
-    return form, put(form, CHILDREN, children), [("=", reference, child.tree[1][NUMBER])]
+    return form, with_part(form, CHILDREN, children), [("=", reference, child.tree[1][NUMBER])]
 
 
 def remove(frames: Frames, case: Case, command: Command) -> int:
     """removeChild: the node becomes a root beside all."""
     if case.sort != "g":
-        raise Fails((case.formula, "a grove: removeChild asks for the sort g"))
+        raise Fails(Refusal(case.formula, "a grove: removeChild asks for the sort g"))
     book, shapes, (_, target, term) = frames.book, frames.shapes, command
     piece = moved(shapes, frames.known(case), term)
     found = child_above(shapes, case.shape, piece.path + (1,))
     if found is None:
-        raise Fails((case.formula, "a parent above the node " + term_text(term)))
+        raise Fails(Refusal(case.formula, "a parent above the node " + term_text(term)))
     form = split_around(shapes, found)
     context, _, cut_out = shapes.spot(case.shape, case.sort, found.path)
     focus = ("@t", context, form)
@@ -232,7 +234,7 @@ def remove(frames: Frames, case: Case, command: Command) -> int:
     number = book.cut(cut_out, turned)
     facts = [("=", target, form[NUMBER]), ("=", term, piece.node[NUMBER])]
     rows = (shapes.row_of_parts("*", it) for it in (found.before, found.after))
-    left = put(form, CHILDREN, ("*", *rows))
+    left = with_part(form, CHILDREN, ("*", *rows))
     after = ("+", ("@t", context, left), ("one root", piece.node))
     return frames.of_whole(case, command, "remove", number, facts, after)
 

@@ -1,11 +1,13 @@
-"""Known contexts under a name: a call that wants a node anywhere, ($k @t node), meets it in a context that is no
-variable. So that context gets a name before the call, and is put for it behind."""
+"""Known contexts under a name: a call that wants a node anywhere, ($k @t node), meets it in a
+context that is no variable. So that gets a name before the call, and is put for it behind."""
 from typing import Iterator, NamedTuple
 
-from domlogic.search.book import Fails, disj, get_at, put_at
-from domlogic.search.frames import Frames, Path
-from domlogic.search.heaps import Case, Formula, Opened, Variable
+from domlogic.search.formulas import Formula, Path, disjunction, part_at, with_part_at
+from domlogic.search.frames import Frames
+from domlogic.search.heaps import Case, Opened, Variable
+from domlogic.search.naming import named as name_for
 from domlogic.search.places import NUMBER, node_of
+from domlogic.search.refusals import Fails
 
 
 class Named(NamedTuple):
@@ -28,7 +30,7 @@ def wanted_anywhere(formula: Formula) -> Iterator[Formula]:
 def root_around(shape: Formula, path: Path) -> Path:
     """The place of the part of a sum of roots in which the path leads."""
     depth = 0
-    while depth < len(path) and get_at(shape, path[:depth])[0] == "+":
+    while depth < len(path) and part_at(shape, path[:depth])[0] == "+":
         depth += 1
     return path[:depth]
 
@@ -44,7 +46,7 @@ def named_contexts(frames: Frames, case: Case, wanted: Formula) -> Iterator[Name
         except Fails:
             continue
         root = root_around(case.shape, path)
-        part = get_at(case.shape, root)
+        part = part_at(case.shape, root)
         if not (part[0] == "@t" and part[1][0] == "is it" and len(path) == len(root) + 1):
             yield named(frames, case, root, path[len(root):])
 
@@ -52,16 +54,18 @@ def named_contexts(frames: Frames, case: Case, wanted: Formula) -> Iterator[Name
 def named(frames: Frames, case: Case, root: Path, path: Path) -> Named:
     """The context of what stands at the path, in the part at `root`, gets a name."""
     book, shapes = frames.book, frames.shapes
-    part = get_at(case.shape, root)
-    inside = get_at(part, path)
+    part = part_at(case.shape, root)
+    inside = part_at(part, path)
     context, _, cut_out = shapes.spot(part, "g", path)
     new = book.fresh("tg")
-    called = frames.matching.named(context, "tg", new)  # exists new . (new and (new is context))
+    called = name_for(book, context, "tg", new)
     _, _, some, _ = book.judged(called)
     fact, body = ("is", new, context), some[2]
-    both = book.ent("mono_app", (called, book.id(inside, "t")), ("@t", context, inside), ("@t", some, inside), "g")
+    in_some = ("@t", some, inside)
+    premises = called, book.id(inside, "t")
+    both = book.ent("mono_app", premises, ("@t", context, inside), in_some, "g")
     under = ("exists", new, ("@t", body, inside))
-    outside = book.ent("app_exists_ctx", (), ("@t", some, inside), under, "g")
+    outside = book.ent("app_exists_ctx", (), in_some, under, "g")
     plain = ("and", ("@t", ("is it", new), inside), fact)
     out = book.ent("pure_out", (), ("@t", body, inside), plain, "g")
     target = ("exists", new, plain)
@@ -83,7 +87,7 @@ def unnamed(frames: Frames, number: int, name: Variable) -> int:
         return frames.triples.weaker(number, cased.step)
     changed = [without_name(frames, it.case, name) for it in cased.cases]
     cases = [Opened(it.variables, case) for it, (case, _) in zip(cased.cases, changed)]
-    whole = disj([it.formula for it in cases])
+    whole = disjunction([it.formula for it in cases])
     ends = [book.cut(step, heaps.into(it, whole, at, len(cases)))
             for at, (it, (_, step)) in enumerate(zip(cases, changed))]
     number = frames.triples.weaker(number, book.cut(cased.step, heaps.joined(cased.cases, ends)))
@@ -98,7 +102,7 @@ def without_name(frames: Frames, case: Case, name: Variable) -> tuple[Case, int]
                  if part[0] == "@t" and part[1] == it), None)
     if fact is None or path is None:
         return case, book.id(case.formula, case.sort)
-    _, _, inside = part = get_at(case.shape, path)
+    _, _, inside = part = part_at(case.shape, path)
     taken = ("@t", ("and", it, fact), inside)
     after = ("@t", fact[2], inside)
     back = book.ent("is_out", (), ("and", it, fact), fact[2], "tg")
@@ -106,5 +110,5 @@ def without_name(frames: Frames, case: Case, name: Variable) -> tuple[Case, int]
                       book.ent("mono_app", (back, book.id(inside, "t")), taken, after, "g"))
     step, formula = shapes.rewrite(case.shape, list(case.pure), case.sort, path, number, fact)
     kept = tuple(one for one in case.pure if one != fact)
-    other = Case(put_at(case.shape, path, after), kept, case.sort)
+    other = Case(with_part_at(case.shape, path, after), kept, case.sort)
     return other, book.cut(step, shapes.gather(formula, other.formula, case.sort))

@@ -85,7 +85,9 @@ class Cutting(NormalForm):
         """The same for two sums, given by their parts."""
         order, left = [], list(range(len(have)))
         for it in want:
-            at = next(at for at in left if self.same_order(have[at], it))
+            at = next((at for at in left if self.same_order(have[at], it)), None)
+            if at is None:
+                raise Fails("two sums differ in more than their order")
             left.remove(at)
             order.append(at)
         conv = self.reordered(have, order)

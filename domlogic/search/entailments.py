@@ -3,13 +3,13 @@ from domlogic.reading.nameless import is_pure
 from domlogic.search.book import Book
 from domlogic.search.closer_looks import CloserLooks
 from domlogic.search.facts import Facts
-from domlogic.search.forest_cases import ForestCases
 from domlogic.search.formulas import (FALSE, Formula, Path, Term, conjuncts, variables_named)
 from domlogic.search.lengths import Lengths
 from domlogic.search.matching import Matcher, Progress
 from domlogic.search.refusals import Fails, Refusal
 from domlogic.search.right_sides import Found, RightSides
 from domlogic.search.shapes import Shapes
+from domlogic.search.unknown_shapes import UnknownShapes
 from domlogic.search.witnesses import Attempt
 
 LOOKS = 3  # closer looks, one after the other
@@ -87,13 +87,14 @@ class Matching:
         number = known.contradiction()
         if number is not None:
             return book.cut(number, book.ent("false_out", (), FALSE, right, sort))
-        progress = Progress()
-        number = self.matched(known, right, progress)[1]
+        progress, why = Progress(), ""
+        try:
+            number = self.matched(known, right, progress)[1]
+        except Fails as fails:
+            number, why = None, str(fails.args[0])
         if number is not None:
             return number
-        missing = progress.farthest
-        asked = missing.asked and variables_named(missing.asked, self.right_sides.origin)
-        best = Refusal(known.whole, right, missing._replace(asked=asked))
+        best = self.refusal(known, right, progress, why)
         for look in CloserLooks(self, known, right, progress).looks() if looks else ():
             before = self.splits
             try:
@@ -105,6 +106,14 @@ class Matching:
             finally:
                 self.splits = before
         raise Fails(best)
+
+    def refusal(self, known: Facts, right: Formula, progress: Progress, why: str) -> Refusal:
+        """What is told where a case doesn't entail the right side."""
+        missing = progress.farthest
+        if missing.kind is None:  # nothing was tried: there is no way to prove the right side
+            missing = missing._replace(kind="part", there=known.shape, asked=right)
+        asked = variables_named(missing.asked, self.right_sides.origin)
+        return Refusal(known.whole, right, missing._replace(asked=asked), why)
 
     @staticmethod
     def farther(best: Refusal, fails: Fails) -> Refusal:
@@ -147,7 +156,7 @@ class Matching:
 
     def cases(self, part: Formula) -> int:
         """The step that a forest, of which little is known, is empty or has a first node."""
-        return ForestCases(self).cases(part)
+        return UnknownShapes(self).cases(part)
 
     def name(self, known: Facts, path: Path) -> tuple[int, Formula]:
         """The part at the path gets a name: the step, and what it entails."""

@@ -4,16 +4,21 @@ import time
 from typing import Callable
 
 from domlogic.reading.nameless import condition_formula
-from domlogic.search.book import DEFAULTS, Book, Fails, disj
-from domlogic.search.heaps import Command, Formula
+from domlogic.search.book import Book
 from domlogic.search.entailments import Matching
+from domlogic.search.formulas import DEFAULTS, Formula, disjunction
+from domlogic.search.heaps import Command
 from domlogic.search.invariants import WAYS, Invariants
 from domlogic.search.messages import heading
 from domlogic.search.outline import Outline
+from domlogic.search.refusals import Fails, Refusal
 from domlogic.search.stepping import Stepping
 
 # Told the command at which the search is.
 Watch = Callable[[Command], None]
+BY_STEP = " by an earlier step"
+GUESSED = ", with a guessed invariant"
+NOT_FOUND = ", of which no invariant was found"
 SECONDS = 10.0  # of the processor's time, in which invariants are guessed
 
 
@@ -27,6 +32,7 @@ class Execution:
         self.triples = self.stepping.triples
         self.place, self.outline = "", Outline()
         self.first_way, self.guessing, self.has_guessed = 0, 0, False
+        self.not_kept: tuple[Fails, str, list] | None = None
         self.deadline = time.process_time() + SECONDS
         self.forms = {"skip": self.skip, "block": self.block, "local": self.local,
                       "if": self.choice, "while": self.loop}
@@ -34,23 +40,24 @@ class Execution:
     def prove(self, pre: Formula, command: Command, post: Formula, sort: str) -> int:
         """The step of the triple. Where an invariant was guessed and isn't enough for the rest,
         others are tried; what is told is of the first."""
-        place, lines = "", []
+        failures = []
         for self.first_way in range(len(WAYS)):
             try:
                 return self.once(pre, command, post, sort)
             except Fails as why:
-                if self.first_way == 0:
-                    fails, place, lines = why, self.place, self.outline.lines
+                failures.append((why, self.place, self.outline.lines))
                 if not self.has_guessed or self.is_late():
                     break
             self.outline, self.has_guessed = Outline(), False
-        self.place, self.outline.lines = place, lines
+        # A loop that has a step of its own has its invariant from the author.
+        told = self.not_kept if command[0] == "while" and self.not_kept else failures[0]
+        fails, self.place, self.outline.lines = told
         raise fails
 
     def once(self, pre: Formula, command: Command, post: Formula, sort: str) -> int:
         """The step of the triple, with no other way of guessing."""
         number = self.run(pre, command, sort)
-        self.place = "at the end, behind " + heading(last_of(command))
+        self.place = "at the end, behind " + heading(last_of(command)) + GUESSED * self.has_guessed
         return self.triples.weaker_to(number, post)
 
     def run(self, pre: Formula, command: Command, sort: str) -> int:
@@ -59,20 +66,21 @@ class Execution:
             self.place = "at " + heading(command)
             self.watch(command)
         if self.guessing and self.is_late():
-            raise Fails((pre, "a guess in time"))
+            raise Fails(Refusal(pre, "a guess in time"))
         if command[0] not in self.forms:
             return self.told(heading(command), pre, command, sort)
         if not self.stepping.known_triples(command):
             return self.forms[command[0]](pre, command, sort)
         place, count = self.place, len(self.outline.lines)
         try:
-            return self.told(heading(command) + " by an earlier step", pre, command, sort)
+            return self.told(heading(command) + BY_STEP, pre, command, sort)
         except Fails as why:
             try:
                 self.outline.back_to(count)
                 return self.forms[command[0]](pre, command, sort)
             except Fails:  # the author's own step is what should have served
-                self.outline.back_to(count + 1)
+                self.outline.back_to(count)
+                self.outline.tell(heading(command) + BY_STEP)
                 self.place = place
                 raise why from None
 
@@ -124,7 +132,7 @@ class Execution:
         self.outline.tell("} else {")
         two = self.inner(("and", pre, ("not", test)), command[3], sort)
         posts = self.triples.possible_posts([one, two])
-        post = disj(posts)
+        post = disjunction(posts)
         one, two = (self.triples.one_of(it, posts, post) for it in (one, two))
         return self.ended(self.book.tri("if", (one, two), pre, command, post, sort))
 
@@ -137,12 +145,11 @@ class Execution:
         try:
             number, start = self.triples.weaker_to(once, pre), self.book.id(pre, sort)
         except Fails as why:
-            lines = self.outline.lines[count:]
+            lines = list(self.outline.lines)
+            self.not_kept = self.not_kept or (why, place, lines)
             found = self.guessed(pre, command, sort, once, count)
             if found is None:
-                self.outline.back_to(count)
-                self.outline.lines += lines
-                self.place = place
+                self.place, self.outline.lines = place + NOT_FOUND, lines
                 raise why from None
             start, number = found
         invariant = self.triples.post(number)
@@ -152,11 +159,13 @@ class Execution:
 
     def guessed(self, pre: Formula, command: Command, sort: str, once: int,
                 count: int) -> tuple[int, int] | None:
-        """(the step that pre entails an invariant of the loop, the triple of its block), or None."""
+        """(the step that pre entails an invariant of the loop, the triple of its block)."""
         guesses = Invariants(self.triples, command, pre, sort)
 
         def run_block(before: Formula) -> int:
             self.outline.back_to(count)
+            self.outline.tell("guessed invariant:")
+            self.outline.known(before[1])
             self.outline.tell(heading(command) + " {")
             return self.inner(before, command[2], sort)
 

@@ -1,12 +1,13 @@
 """What a symbolic heap says: pure goals that follow from it, and whether it contradicts itself."""
-from typing import Callable, Sequence
+from typing import TYPE_CHECKING, Sequence
 
 from domlogic.reading.computing import pieces
 from domlogic.search.apart import LISTING, NOTHING, NUMBER, Nodes
 from domlogic.search.formulas import FALSE, LITERALS, TRUE, Formula, conjunction, conjuncts
 from domlogic.search.linear import summed
 
-Entailed = Callable[[Formula, Formula, str], int | None]  # the step that one entails the other
+if TYPE_CHECKING:
+    from domlogic.search.entailments import Matching
 
 
 class Facts(Nodes):
@@ -15,7 +16,7 @@ class Facts(Nodes):
     A method gives the step that the heap entails what is asked, or None where that isn't found.
     """
 
-    def __init__(self, matching, shape: Formula, pure: Sequence[Formula], sort: str):
+    def __init__(self, matching: "Matching", shape: Formula, pure: Sequence[Formula], sort: str):
         """`matching` has the shapes, and tries entailments of what an `is` says."""
         super().__init__(matching.shapes, shape, pure, sort)
         self.matching = matching

@@ -6,10 +6,11 @@ from typing import Iterable, NamedTuple
 
 from domlogic.reading.nameless import nameless_judgement
 from domlogic.reading.theories import Procedure, Step, Theory
-from domlogic.search.book import Book, Fails
+from domlogic.search.book import Book
 from domlogic.search.entailments import Matching
 from domlogic.search.execution import Execution, Watch
 from domlogic.search.messages import Failure, ShownNames, failure_of, in_normal_form, lines_of
+from domlogic.search.refusals import Fails
 
 
 class Filled(NamedTuple):

@@ -1,12 +1,13 @@
 """Frames: a triple of a part is made one of the whole case, the rest of which stays as it is."""
 from typing import Callable, Iterable, NamedTuple
 
-from domlogic.search.book import Book, Fails, conj, free, get_at, modified
-from domlogic.search.heaps import Case, Command, Formula
+from domlogic.reading.nameless import modified
+from domlogic.search.book import Book
 from domlogic.search.entailments import Facts, Matching
+from domlogic.search.formulas import Formula, Path, conjunction, free, part_at
+from domlogic.search.heaps import Case, Command
+from domlogic.search.refusals import Fails, Refusal
 from domlogic.search.triples import Triples
-
-Path = tuple[int, ...]
 
 
 class Place(NamedTuple):
@@ -20,7 +21,7 @@ class Place(NamedTuple):
 
     @property
     def part(self) -> Formula:
-        return get_at(self.shape, self.path)
+        return part_at(self.shape, self.path)
 
 
 class Frames:
@@ -35,10 +36,10 @@ class Frames:
         """The triple of the case from one of the part at the place. `inner` is the step that the
         part with the facts of the case entails the triple's pre. Facts that the command leaves
         alone stay."""
-        book, every, here = self.book, conj(case.pure), case.formula
+        book, every, here = self.book, conjunction(case.pure), case.formula
         _, pre, command, post, h = book.judged(triple)
         left_alone = [it for it in case.pure if not free(it) & modified(command)]
-        has_kept, kept = bool(left_alone), conj(left_alone)
+        has_kept, kept = bool(left_alone), conjunction(left_alone)
         context, _, cut_out = self.shapes.spot(place.shape, case.sort, place.path)
         app, outer = "@" + h, ("and", context, kept) if has_kept else context
         start = place.start and place.start()
@@ -73,7 +74,7 @@ class Frames:
         for fact in facts:
             proved = known.prove(fact)
             if proved is None:
-                raise Fails((known.whole, fact))
+                raise Fails(Refusal(known.whole, fact))
             now = ("and", self.book.judged(number)[2], fact)
             number = self.book.ent("and_in", (number, proved), known.whole, now, known.sort)
         return number

@@ -1,12 +1,13 @@
 """Assertions as symbolic heaps, a case each, with the steps that lead to the cases and back."""
-from typing import NamedTuple, Sequence
+from typing import Any, NamedTuple, Sequence
 
-from domlogic.search.book import FALSE, Book, disj, free, mk
+from domlogic.search.book import Book
 from domlogic.search.entailments import Facts, Matching
+from domlogic.search.formulas import (FALSE, Formula, Term, disjunction, free, quantified,
+                                      with_facts)
 
-Formula = tuple
-Variable = tuple
-Command = tuple
+Variable = Term
+Command = tuple[Any, ...]
 
 
 class Case(NamedTuple):
@@ -18,7 +19,7 @@ class Case(NamedTuple):
 
     @property
     def formula(self) -> Formula:
-        return mk(self.shape, self.pure)
+        return with_facts(self.shape, self.pure)
 
 
 class Opened(NamedTuple):
@@ -40,13 +41,6 @@ class Cased(NamedTuple):
     step: int
 
 
-def quantified(variables: Sequence[Variable], formula: Formula) -> Formula:
-    """The formula for some values of the variables."""
-    for variable in reversed(variables):
-        formula = ("exists", variable, formula)
-    return formula
-
-
 def says_nothing(fact: Formula, others: Formula, variables: Sequence[Variable]) -> bool:
     """Whether a fact is about quantified variables alone that the others don't have; or says only
     what one of these is."""
@@ -63,7 +57,7 @@ def tidied(opened: Opened) -> Opened:
     while at < len(pure):
         rest = pure[:at] + pure[at + 1:]
         at = at + 1
-        if says_nothing(pure[at - 1], mk(shape, rest), opened.variables):
+        if says_nothing(pure[at - 1], with_facts(shape, rest), opened.variables):
             pure, at = rest, 0
     case = Case(shape, tuple(pure), opened.case.sort)
     there = free(case.formula)
@@ -89,7 +83,7 @@ class Heaps:
         for it in plain.values():
             kept.setdefault(book.nameless(it.formula), it)
         order = list(kept.values())
-        whole = disj([it.formula for it in order])
+        whole = disjunction([it.formula for it in order])
         if book.same(formula, whole):
             return Cased(order, whole, book.ent("id", (), formula, whole, sort))
 

@@ -2,16 +2,17 @@
 stays.
 
 The cases before the block and those behind it are taken together where the variables that the loop
-sets say the same of them: null or a node, yes or no. What comes of it is a guess. It holds where the
-block leads from it and the condition back to it.
+sets say the same of them: null or a node, yes or no. What comes of it is a guess, which holds
+where the block leads from it and the condition back to it.
 """
 from typing import Callable, Iterator, NamedTuple
 
-from domlogic.reading.nameless import condition_formula
+from domlogic.reading.nameless import condition_formula, modified
 from domlogic.reading.sorts import walk
-from domlogic.search.book import Fails, disj, free, modified
-from domlogic.search.heaps import Command, Formula, Opened, Variable
+from domlogic.search.formulas import Formula, disjunction, free
+from domlogic.search.heaps import Command, Opened, Variable
 from domlogic.search.joins import Join
+from domlogic.search.refusals import Fails
 from domlogic.search.triples import Triples
 
 ROUNDS = 4  # joins of one way
@@ -81,7 +82,7 @@ class Invariants:
         merged = self.merged if way.is_joined else list
         cases = merged([*cases, *self.behind(once)])
         for _ in range(ROUNDS):
-            invariant = disj([it.formula for it in (*kept, *cases)])
+            invariant = disjunction([it.formula for it in (*kept, *cases)])
             try:
                 start = self.triples.matching.prove(self.pre, invariant, self.sort)
                 number = run_block(("and", invariant, self.test))

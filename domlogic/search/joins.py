@@ -7,9 +7,10 @@ A join is a guess: whether the heaps entail it is for matching to prove.
 """
 from typing import Iterator
 
-from domlogic.search.book import LITERALS, NONE, TRUE, Fails, conj, conjuncts, free, put
-from domlogic.search.heaps import Case, Formula, Heaps, Opened, Variable, tidied
+from domlogic.search.formulas import TRUE, Formula, conjunction, conjuncts, free, with_part
+from domlogic.search.heaps import Case, Heaps, Opened, Variable, tidied
 from domlogic.search.places import CHILDREN, LIST, NAME, NUMBER
+from domlogic.search.refusals import Fails
 
 BRACKETS = ("one tree", "one root")
 
@@ -87,14 +88,14 @@ class Join:
         return self.met[one, other]
 
     def common(self, one: Formula, other: Formula) -> Formula | None:
-        """A term of the program that has the first value in the first case, the second in the other."""
+        """A term of the program that is the one in the first case and the other in the second."""
         for term in self.program_terms(self.book.term_sort(one)):
             if self.proved(0, ("=", term, one)) and self.proved(1, ("=", term, other)):
                 return term
         return None
 
     def program_terms(self, sort: str) -> Iterator[Formula]:
-        """Gives the program variables of a sort; of numbers their neighbours and differences too."""
+        """Gives the variables of a sort; of numbers also their neighbours and differences."""
         names = [("prog", name) for name, its in self.book.scope.program.items() if its == sort]
         yield from names
         if sort == "int":
@@ -126,7 +127,8 @@ class Join:
             return one
         head = one[0]
         if "and" in (head, other[0]):
-            return conj([it for it in conjuncts(one) if it in conjuncts(other) and self.is_open(it)])
+            shared = [it for it in conjuncts(one) if it in conjuncts(other)]
+            return conjunction([it for it in shared if self.is_open(it)])
         if head != other[0]:
             return TRUE
         if head in BRACKETS:
@@ -135,11 +137,11 @@ class Join:
             name, number, listing = (self.term(one[it], other[it]) for it in (NAME, NUMBER, LIST))
             return (head, name, number, self.part(one[CHILDREN], other[CHILDREN], "f"), listing)
         if head[0] == "@" and one[1] == other[1]:
-            return put(one, 2, self.part(one[2], other[2], head[1]))
+            return with_part(one, 2, self.part(one[2], other[2], head[1]))
         return TRUE
 
     def is_anchor(self, one: Formula, other: Formula) -> bool:
-        """Whether the two are one part: a node of one number, a spot in one context, or the same."""
+        """Whether the two are one part: a node of one number, a spot in one context, the same."""
         if self.is_same(one, other):
             return True
         if one[0] != other[0]:
@@ -215,5 +217,5 @@ class Join:
 
     def hold_in_both(self, fact: Formula, new: dict[Variable, tuple]) -> bool:
         """Whether the fact holds in each case, for what the new variables are there."""
-        return all(self.proved(at, self.book.subst(fact, {it: pair[at] for it, pair in new.items()}))
-                   for at in (0, 1))
+        terms = [{it: pair[at] for it, pair in new.items()} for at in (0, 1)]
+        return all(self.proved(at, self.book.subst(fact, terms[at])) for at in (0, 1))

@@ -2,7 +2,7 @@
 import itertools
 from typing import TYPE_CHECKING, Callable, Iterator
 
-from domlogic.search.formulas import PLACES, Formula, with_part_at
+from domlogic.search.formulas import EMPTY, NONE, TRUE, Formula, with_part_at
 from domlogic.search.normal_form import SORT_OF
 from domlogic.search.refusals import Fails
 from domlogic.search.right_sides import Found
@@ -29,13 +29,15 @@ def stretches(matcher: "Matcher", have: list[Formula], want: list[Formula],
     if not want:
         if not have:
             yield found, []
+        else:
+            matcher.progress.part_missed(matcher.shapes.row_of_parts("*", have), NONE)
         return
     first, *rest = want
     counts = [1] if have else []
     if matcher.absorbs(first, found):
         counts = range(len(have), -1, -1) if rest else [len(have)]
     elif not have:
-        matcher.progress.part_missed(("0f",), matcher.meant(first, found))
+        matcher.progress.part_missed(NONE, matcher.meant(first, found))
     for count in counts:
         group = matcher.shapes.row_of_parts("*", have[:count])
         for one, emit in matcher.matches(group, first, "f", found):
@@ -93,19 +95,30 @@ class Sum:
         single = [at for at in range(len(self.want)) if at not in several]
         over = list(range(len(self.have)))
         if len(single) > len(over) or (len(single) < len(over) and not several):
-            self.missed(over, single[-1:], found)
+            self.counted(over, single, found)
             return
-        several.sort(key=lambda at: self.want[at] == ("true",))  # `true` takes what is left
+        several.sort(key=lambda at: self.want[at] == TRUE)  # `true` takes what is left
         for one, taken in self.taken_singly(over, single, found):
-            left_over = [it for it in over if it not in [places[0] for places, *_ in taken.values()]]
+            gone = [places[0] for places, *_ in taken.values()]
+            left_over = [it for it in over if it not in gone]
             for last, more in self.taken_together(left_over, several, one):
                 yield last, {**taken, **more}
 
-    def missed(self, over: list[int], wanted: list[int], found: Found) -> None:
-        """Remembers that nothing is there for a wanted part, or that something is left over."""
+    def counted(self, over: list[int], single: list[int], found: Found) -> None:
+        """Remembers what is left over, or missing, where there are too many or too few."""
+        left = list(over)
+        for at in single:
+            fits = [it for it in left if self.may_be(self.have[it], self.want[at], found)]
+            if not fits:
+                self.missed(left, self.want[at], found)
+                return
+            left.remove(fits[0])
+        self.missed(left, EMPTY, found)
+
+    def missed(self, over: list[int], wanted: Formula, found: Found) -> None:
+        """Remembers that nothing of what is left over is what is wanted."""
         there = self.matcher.shapes.row_of_parts("+", [self.have[it] for it in over])
-        asked = self.want[wanted[0]] if wanted else ("0g",)
-        self.matcher.progress.part_missed(there, self.matcher.meant(asked, found))
+        self.matcher.progress.part_missed(there, self.matcher.meant(wanted, found))
 
     def taken_singly(self, over: list[int], rest: list[int],
                      found: Found) -> Iterator[tuple[Found, Taken]]:
@@ -120,7 +133,7 @@ class Sum:
                 for at in rest}
         at = min(rest, key=lambda at: len(fits[at]))
         if not fits[at]:
-            self.missed(over, [at], found)
+            self.missed(over, self.want[at], found)
         others, none = [it for it in rest if it != at], True
         for it in fits[at]:
             left_over = [other for other in over if other != it]
@@ -138,18 +151,17 @@ class Sum:
         return tuple(self.matcher.book.subst(self.want[at], found) for at in rest)
 
     def may_be(self, have: Formula, want: Formula, found: Found) -> bool:
-        """Says no where the left part can't be the wanted one, whatever is found."""
+        """Says no where the left part can't be the wanted one, whatever is found: another form, or a
+        node with another name, number or list. What is below is told by the match itself."""
         matcher, head = self.matcher, want[0]
-        if head == "node" == have[0]:
-            for at in (1, 2, 4):
-                term = matcher.meant(want[at], found, True)
-                if term != have[at] and not matcher.is_open(term):
-                    return False
-        if have[0] == "and" or head in ("true", "and", "len", "is it", "*", "+") or head[0] == "@":
+        if have[0] == "and" or head in ("true", "and", "is it") or head[0] == "@":
             return True
-        if have[0] != head:
-            return head in ("0f", "0g") and have[0] not in ("one tree", "one root", "node")
-        return all(self.may_be(have[at], want[at], found) for at in PLACES.get(head, ()))
+        if have[0] != head:  # a closer look may be taken at a tree
+            return head == "node" and have[0] in ("is it", "true")
+        if head == "node":
+            terms = ((have[at], matcher.meant(want[at], found, True)) for at in (1, 2, 4))
+            return all(one == other or matcher.is_open(other) for one, other in terms)
+        return head != "one root" or self.may_be(have[1], want[1], found)
 
     def taken_together(self, over: list[int], rest: list[int],
                        found: Found) -> Iterator[tuple[Found, Taken]]:

@@ -4,7 +4,7 @@ Terms are compared by their representatives. Rows are walked in order, sums with
 is met first for an unknown is put for it from there on.
 """
 from dataclasses import dataclass, field
-from typing import Callable, Iterator
+from typing import TYPE_CHECKING, Callable, Iterator
 
 from domlogic.reading.computing import difference
 from domlogic.search import anywhere, listings
@@ -12,6 +12,9 @@ from domlogic.search.facts import Facts
 from domlogic.search.formulas import LITERALS, PLACES, TRUE, Formula, Term, free, part_sort
 from domlogic.search.refusals import Fails, Missing
 from domlogic.search.right_sides import Found
+
+if TYPE_CHECKING:
+    from domlogic.search.entailments import Matching
 
 # What is found, and the function that writes the step for it: left entails right, all that is found
 # in the end put in.
@@ -28,6 +31,7 @@ class Progress:
 
     needs: list[tuple[Formula, str]] = field(default_factory=list)  # parts that want a name
     lengths: list[tuple[Formula, Formula]] = field(default_factory=list)  # forests, len E wanted
+    trees: list[Formula] = field(default_factory=list)  # variables and `true` that aren't nodes
     farthest: Missing = Missing()
     hits: int = 0
 
@@ -45,7 +49,7 @@ class Progress:
 class Matcher:
     """Matches one way to prove a right side with what is known."""
 
-    def __init__(self, matching, known: Facts, unknowns: set[Term], facts: list[Formula],
+    def __init__(self, matching: "Matching", known: Facts, unknowns: set[Term], facts: list[Formula],
                  progress: Progress):
         """`facts` are wanted too: they are asked as soon as all of their unknowns are found."""
         self.matching, self.known, self.unknowns = matching, known, unknowns
@@ -124,6 +128,8 @@ class Matcher:
             self.progress.needs.append((left, sort))
             if left[0] != "and":
                 return
+        if head == "node" and (left == TRUE or left[0] == "is it"):
+            self.progress.trees.append(left)
         if head == "and":
             yield from self.both(left, right, sort, found)
             return
@@ -132,7 +138,7 @@ class Matcher:
         if head[0] == "@" and right[1][0] == "-o":
             yield from anywhere.with_hole(self, left, right, sort, found)
         have, want = self.counts(left, right, sort)
-        if want != 1:
+        if want != 1 or (have > 1 and not self.absorbs(right, found)):
             yield from (listings.rows if sort == "f" else listings.sums)(self, left, right, found)
         elif have < 2:
             yield from self.one_part(left, right, sort, found)

@@ -3,8 +3,9 @@ of the search."""
 from typing import Iterable, NamedTuple
 
 from domlogic.reading.sorts import walk
-from domlogic.search.book import Book, Fails
+from domlogic.search.book import Book
 from domlogic.search.printing import command_text, condition_text, formula_text
+from domlogic.search.refusals import Fails
 from domlogic.search.shapes import Shapes
 
 

@@ -2,7 +2,7 @@
 from contextlib import contextmanager
 from typing import Iterator, NamedTuple
 
-from domlogic.search.heaps import Formula
+from domlogic.search.formulas import Formula
 
 
 class Line(NamedTuple):

@@ -1,10 +1,10 @@
 """Where in a case the node of a command stands, and what is around it."""
 from typing import NamedTuple
 
-from domlogic.search.book import Fails, get_at, put, term_text
-from domlogic.search.heaps import Case, Formula
 from domlogic.search.entailments import Facts
-from domlogic.search.frames import Path
+from domlogic.search.formulas import Formula, Path, part_at, with_part
+from domlogic.search.printing import term_text
+from domlogic.search.refusals import Fails, Refusal
 from domlogic.search.shapes import Shapes
 
 # The parts of ("node", name, number, children, list).
@@ -46,35 +46,35 @@ def node_of(shapes: Shapes, known: Facts, term: Formula, part: int = NUMBER) -> 
         if formula[0] == "node" and known.rep(formula[part], True) == meant:
             return Node(path, formula)
     kind = "number" if part == NUMBER else "list"
-    raise Fails((known.whole, f"a node whose {kind} is {term_text(term)}"))
+    raise Fails(Refusal(known.whole, f"a node whose {kind} is {term_text(term)}"))
 
 
 def moved(shapes: Shapes, known: Facts, term: Formula) -> Moved:
     """The tree or root of the node whose number is the term's."""
     path, node = node_of(shapes, known, term)
-    piece = get_at(known.shape, path[:-1]) if path else node
+    piece = part_at(known.shape, path[:-1]) if path else node
     if piece[0] not in ("one tree", "one root"):
-        raise Fails((known.whole, "a tree or root of its own with the node " + term_text(term)))
+        raise Fails(Refusal(known.whole, "a tree or root of its own with the node " + term_text(term)))
     sort, nothing = ("f", ("0f",)) if piece[0] == "one tree" else ("g", ("0g",))
     return Moved(node, piece, path[:-1], sort, nothing)
 
 
 def root_above(shape: Formula, path: Path) -> Path | None:
     """The place of the root brackets around the node, where it stands in such."""
-    return path[:-1] if path and get_at(shape, path[:-1])[0] == "one root" else None
+    return path[:-1] if path and part_at(shape, path[:-1])[0] == "one root" else None
 
 
 def child_above(shapes: Shapes, shape: Formula, path: Path) -> Child | None:
     """The node at the path as a child, where the shape has its parent."""
-    if not path or get_at(shape, path[:-1])[0] != "one tree":
+    if not path or part_at(shape, path[:-1])[0] != "one tree":
         return None
     place = path[:-1]
-    while place and get_at(shape, place[:-1])[0] == "*":
+    while place and part_at(shape, place[:-1])[0] == "*":
         place = place[:-1]
-    if not place or get_at(shape, place[:-1])[0] != "node":
+    if not place or part_at(shape, place[:-1])[0] != "node":
         return None
     steps_to_the_right = sum(1 for it in path[len(place):-1] if it == 2)
-    return child_of(shapes, Node(place[:-1], get_at(shape, place[:-1])), steps_to_the_right)
+    return child_of(shapes, Node(place[:-1], part_at(shape, place[:-1])), steps_to_the_right)
 
 
 def child_of(shapes: Shapes, parent: Node, at: int) -> Child:
@@ -90,10 +90,10 @@ def numbered_child(shapes: Shapes, known: Facts, parent: Node, term: Formula) ->
         is_node = it[0] == "one tree" and it[1][0] == "node"
         if is_node and known.rep(it[1][NUMBER], True) == meant:
             return child_of(shapes, parent, at)
-    raise Fails((known.whole, "a child whose number is " + term_text(term)))
+    raise Fails(Refusal(known.whole, "a child whose number is " + term_text(term)))
 
 
 def split_around(shapes: Shapes, child: Child) -> Formula:
     """The parent with its children as those before the child, it, and those after."""
     first, rest = (shapes.row_of_parts("*", it) for it in (child.before, child.after))
-    return put(child.parent, CHILDREN, ("*", ("*", first, child.tree), rest))
+    return with_part(child.parent, CHILDREN, ("*", ("*", first, child.tree), rest))

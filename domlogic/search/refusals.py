@@ -16,11 +16,13 @@ class Missing(NamedTuple):
 
 
 class Refusal(NamedTuple):
-    """A case of what is known, what was wanted of it, and the first part that wasn't shown."""
+    """A case of what is known, what was wanted of it, and the first part that wasn't shown; `why`
+    says what ended the search, if it wasn't that."""
 
     case: tuple
     wanted: Any
     missing: Missing = Missing()
+    why: str = ""
 
 
 class Fails(Exception):

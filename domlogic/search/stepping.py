@@ -1,18 +1,29 @@
 """One command from an assertion: from each of its cases, by the command's axiom or by a triple that
 is known."""
-from domlogic.search.book import TRUE, Book, Fails, free, modified
-from domlogic.search.calls import applied, call
-from domlogic.search.heaps import Case, Command, Formula, Variable
+from domlogic.reading.nameless import modified
+from domlogic.search.book import Book
+from domlogic.search.calls import NoPart, applied, call
 from domlogic.search.closer import looks
 from domlogic.search.commands import TABLE
 from domlogic.search.contexts import named_contexts, unnamed
 from domlogic.search.entailments import Matching
+from domlogic.search.formulas import TRUE, Formula, free
 from domlogic.search.frames import Frames
+from domlogic.search.heaps import Case, Command, Variable
+from domlogic.search.refusals import Fails, Refusal
 
 COMPOUND = ("skip", "block", "local", "if", "while")
 COMMANDS = {**TABLE, "call": call}
 LOOKS = 2  # closer looks, one after the other
 NONE_SET: frozenset[Variable] = frozenset()
+
+
+def in_case(case: Case, why: Fails) -> Fails:
+    """The failure as one of the case, where it speaks of a part of that or of other names."""
+    if isinstance(why, NoPart):
+        return NoPart(case, why.args[0].wanted, why.needs)
+    told = why.args[0]
+    return Fails(Refusal(case.formula, *(told[1:] if isinstance(told, tuple) else [told])))
 
 
 class Stepping:
@@ -46,10 +57,8 @@ class Stepping:
         """The triple of the command from one case."""
         variable = self.spoken_of(case, command, old)
         if variable is not None:
-            new, inner, start = self.triples.old_value_named(case, variable)
-            number = self.from_case(inner, command, left, old | {variable})
-            return self.triples.stronger(start, self.triples.eliminated(number, (new,)))
-        fails = Fails((case.formula, "an earlier step for this command"))
+            return self.with_old_value(case, command, left, old, variable)
+        fails = Fails(Refusal(case.formula, "an earlier step for this command"))
         for triple in self.known_triples(command):
             try:
                 return applied(self.frames, case, triple, [])
@@ -60,7 +69,18 @@ class Stepping:
         try:
             return self.triples.by_cases(COMMANDS[command[0]](self.frames, case, command))
         except Fails as why:
-            return self.closer(case, command, left, old, why)
+            return self.closer(case, command, left, old, in_case(case, why))
+
+    def with_old_value(self, case: Case, command: Command, left: int, old: frozenset[Variable],
+                       variable: Variable) -> int:
+        """The same with a name for the old value of a variable; a refusal speaks of the case that
+        has none."""
+        new, inner, start = self.triples.old_value_named(case, variable)
+        try:
+            number = self.from_case(inner, command, left, old | {variable})
+        except Fails as why:
+            raise in_case(case, why) from None
+        return self.triples.stronger(start, self.triples.eliminated(number, (new,)))
 
     @staticmethod
     def spoken_of(case: Case, command: Command, old: frozenset[Variable]) -> Variable | None:
@@ -75,17 +95,18 @@ class Stepping:
     def closer(self, case: Case, command: Command, left: int, old: frozenset[Variable],
                why: Fails) -> int:
         """The same after a closer look at the case; `why` where none helps."""
-        needs, wanted = getattr(why, "needs", []), TRUE
-        if left and command[0] == "call" and hasattr(why, "needs"):
-            wanted = why.args[0][1]
-            for it in named_contexts(self.frames, case, wanted):
-                try:
-                    number = self.from_case(it.case, command, left - 1, old)
-                except Fails:
-                    continue
-                number = unnamed(self.frames, number, it.name)
-                return self.triples.stronger(it.step, self.triples.eliminated(number, (it.name,)))
-        for start, after in looks(self.frames, case, command, needs, wanted) if left else ():
+        if not left:
+            raise why
+        is_call = isinstance(why, NoPart)
+        needs, wanted = (why.needs, why.args[0][1]) if is_call else ([], TRUE)
+        for it in named_contexts(self.frames, case, wanted):
+            try:
+                number = self.from_case(it.case, command, left - 1, old)
+            except Fails:
+                continue
+            number = unnamed(self.frames, number, it.name)
+            return self.triples.stronger(it.step, self.triples.eliminated(number, (it.name,)))
+        for start, after in looks(self.frames, case, command, needs, wanted):
             try:
                 number = self.from_assertion(after, command, case.sort, left - 1, old)
             except Fails:

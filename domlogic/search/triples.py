@@ -1,7 +1,8 @@
 """Steps on triples: their ends changed, quantifiers put around them, cases put together."""
-from domlogic.search.book import FALSE, Book, disj, free
-from domlogic.search.heaps import Case, Heaps, Command, Formula, Opened, Variable
+from domlogic.search.book import Book
 from domlogic.search.entailments import Matching
+from domlogic.search.formulas import FALSE, Formula, disjunction, free
+from domlogic.search.heaps import Case, Command, Heaps, Opened, Variable
 
 
 class Triples:
@@ -68,7 +69,7 @@ class Triples:
         posts."""
         book = self.book
         posts = self.possible_posts(numbers)
-        whole = disj(posts)
+        whole = disjunction(posts)
         numbers = [self.one_of(it, posts, whole) for it in numbers]
         number = numbers[-1]
         for one in reversed(numbers[:-1]):
@@ -103,7 +104,7 @@ class Triples:
         if not cased.cases:
             return self.weaker(number, cased.step)
         changed = [cases.without(it, variable) for it in cased.cases]
-        whole = disj([it.formula for it, _ in changed])
+        whole = disjunction([it.formula for it, _ in changed])
         ends = []
         for at, ((after, step), before) in enumerate(zip(changed, cased.cases)):
             # The step leads below the case's own quantifiers, which come out last.

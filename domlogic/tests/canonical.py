@@ -1,8 +1,8 @@
 """The canonical models of an assertion, for each of its cases that has no contradiction.
 
-In the first, all that isn't equated differs, and what a variable of shapes stands for is larger than
-anything that the right side can spell out. In each other one, two terms more are equal: they are
-for negated equations. An exact entailment is true where these models meet its right side.
+In the first, all that isn't equated differs, and what a variable of shapes stands for is larger
+than anything that the right side can spell out. In each other one, two terms more are equal: they
+are for negated equations. An exact entailment is true where these models meet its right side.
 """
 import itertools
 from random import Random
@@ -46,7 +46,8 @@ class Cases:
                     for one in self.of(parts[0]) for two in self.of(parts[1])]
         listed = [self.of(it) if is_shape(head, at) else [Case(it, [])]
                   for at, it in enumerate(parts, 1)]
-        return [Case((head, *(it.shape for it in chosen)), [fact for it in chosen for fact in it.facts])
+        return [Case((head, *(it.shape for it in chosen)),
+                     [fact for it in chosen for fact in it.facts])
                 for chosen in itertools.product(*listed)]
 
     @staticmethod
@@ -94,8 +95,8 @@ class Canonical:
     """Makes models of cases."""
 
     def __init__(self, sorts: dict[Term, str], depth: int, random: Random | None = None):
-        """`depth` is the number of nodes that a variable of shapes stands for, or more; with a source
-        of chance it is any shape."""
+        """`depth` is the number of nodes that a variable of shapes stands for, or more; with a
+        source of chance it is any shape."""
         self.sorts, self.depth, self.random = sorts, depth, random
         self.numbers = itertools.count(1000)
 
@@ -158,10 +159,11 @@ class Canonical:
 
         for fact in case.facts:
             if fact[0] == "=":
-                one, two = top(fact[1]), top(fact[2])
-                parent[one if one[0] not in LITERALS else two] = two if one[0] not in LITERALS else one
-                if one != two and one[0] in LITERALS and two[0] in LITERALS:
+                # A literal comes second, and stays at the top.
+                one, two = sorted((top(fact[1]), top(fact[2])), key=lambda it: it[0] in LITERALS)
+                if one != two and one[0] in LITERALS:
                     return None
+                parent[one] = two
         if any(fact[0] == "not" and top(fact[1][1]) == top(fact[1][2]) for fact in case.facts):
             return None
         made: Values = {}

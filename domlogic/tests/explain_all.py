@@ -104,7 +104,7 @@ def promised_of_step(line: str) -> list[str]:
         return found + [r"^wanted +'|is a rule for|takes|has to be|is for|at sort|judgements "
                         r"at|sort|stands here|behind|is wanted"]
     if verdict == "premises":
-        return found + [r"^wanted +'|and the step cites|isn't an earlier step|is wanted\.|stands "
+        return found + [r"^wanted +'|and the step cites|has to be an earlier step|is wanted\.|stands "
                         r"here|sort"]
     named = {"free": "stands", "assigned": "stands in", "modified": "The command changes '",
              "pure": "speaks of the data",
@@ -158,11 +158,11 @@ def wrong_offers(refusal: Refusal) -> Iterator[str]:
     source = Source(refusal.content)
     source.take_tokens(number)
     before = source.tokens[: number - 1]
-    offered = tokens.possible(before)
+    offered, reserved = tokens.possible(before), TheoryReader(before).reserved
     for token in UNIVERSE:
         found = fault_token([*before, token])
         moves = found is None or found > number
-        if moves != tokens.is_offered(token, offered):
+        if moves != tokens.is_offered(token, offered, reserved):
             yield f"{token.text} {'can' if moves else 'can not'} stand there"
 
 
@@ -205,8 +205,10 @@ def not_mended(refusal: Refusal) -> Iterator[str]:
     text = case.source.text
     changed = text[: case.source.starts[begin]] + f" {wanted} " + text[
         case.source.tokens[end - 1].end :]
-    again = case_of(changed.encode(), refusal.line)
-    assert again.step.rule == case.step.rule
+    try:
+        again = case_of(changed.encode(), refusal.line)
+    except KeyError:  # no declared name fits a bound variable of the part
+        return
     verdict, other = own_verdict(again), difference(again)
     if other is not None and (other.rank, other.path) == (miss.rank, miss.path):
         yield f"with {wanted} in place the step differs at the same place: {verdict}"
@@ -243,7 +245,23 @@ def not_at_fault(refusal: Refusal) -> Iterator[str]:
     yield "no other part in its place moves the fault on"
 
 
-def independent(refusal: Refusal) -> Iterator[str]:
+def not_fitting(refusal: Refusal, told: list[str]) -> Iterator[str]:
+    """A rule or citations that are said to fit, by which the step is no instance."""
+    whole = " ".join(told)
+    step = case_of(refusal.content, refusal.line)
+    text, (begin, end) = step.source.text, step.source.span(step.step)
+    first, last = step.source.starts[begin], step.source.tokens[end - 1].end
+    for rules, cited in re.findall(r"(?:By ([^.]*)|With '\w+\(([\d, ]*)\)') it is an instance\.", whole):
+        for rule in re.findall(r"'(\w+)'", rules) or [""]:
+            own = text[first:last]
+            own = re.sub(r"by\s+\w+", f"by {rule}", own, count=1) if rule else own
+            own = re.sub(r"\([\d,\s]*\)", f"({cited})", own, count=1) if cited else own
+            changed = case_of((text[:first] + own + text[last:]).encode(), refusal.line)
+            if own_verdict(changed) is not None:
+                yield f"it isn't: {own}"
+
+
+def independent(refusal: Refusal, told: list[str]) -> Iterator[str]:
     """What the independent checks find."""
     if refusal.status == 3:
         yield from wrong_offers(refusal)
@@ -251,6 +269,7 @@ def independent(refusal: Refusal) -> Iterator[str]:
         yield from not_at_fault(refusal)
     elif refusal.status == 1 and refusal.line.endswith((": shape", ": premises")):
         yield from not_mended(refusal)
+        yield from not_fitting(refusal, told)
 
 
 def main() -> int:
@@ -268,7 +287,7 @@ def main() -> int:
         told = explanation(refusal.status, refusal.line, name, refusal.content)
         found = list(complaints(refusal, told))
         if at % options.every == 0:
-            found += independent(refusal)
+            found += independent(refusal, told)
         passed, failed = passed + (not found), failed + bool(found)
         if options.show or found:
             print("\n".join([f"{refusal.place[:160]}\n{refusal.line}", *told,

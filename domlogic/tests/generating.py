@@ -13,8 +13,8 @@ Path = tuple[int, ...]
 NONE, EMPTY = ("0f",), ("0g",)
 TRIVIAL = ("=", ("int", 0), ("int", 0))
 VALUES = ("node", "list", "str", "int")
-LOGIC = {"node": 4, "list": 4, "str": 3, "int": 2, "t": 3, "f": 3, "g": 3, "tt": 1, "tf": 1, "tg": 1,
-         "ft": 1, "ff": 1, "fg": 1, "gg": 1}
+LOGIC = {"node": 4, "list": 4, "str": 3, "int": 2, "t": 3, "f": 3, "g": 3,
+         "tt": 1, "tf": 1, "tg": 1, "ft": 1, "ff": 1, "fg": 1, "gg": 1}
 PROGRAM = {"node": ["p", "q"], "list": ["l"], "str": ["s"], "int": ["i"]}
 LITERALS = {"node": [("null",)], "list": [("nolist",)], "str": [("str", "a"), ("str", "b")],
             "int": [("int", 0), ("int", 1)]}
@@ -117,6 +117,8 @@ class Generator:
         self.unused = {it for it, kind in SORTS.items() if kind not in VALUES}
         self.used = {kind: [] for kind in VALUES}
         left = self.assertion(sort, size)
+        for _ in range(self.random.choice((0, 0, 1, 2))):
+            left = self.reworded(left, sort)
         right = left
         for _ in range(self.random.choice((0, 1, 2, 4, 6))):
             right = self.same_or_weaker(right, sort)
@@ -204,7 +206,8 @@ class Generator:
 
     def node(self, size: int) -> Formula:
         """A node over a forest of this size."""
-        name, number, listing = self.term("str", 0.3), self.term("node", 0.93), self.term("list", 0.93)
+        name = self.term("str", 0.3)
+        number, listing = self.term("node", 0.93), self.term("list", 0.93)
         children = self.assertion("f", size) if size else \
             NONE if self.likely(0.5) else self.variable("f") or NONE
         return ("node", name, number, children, listing)
@@ -215,18 +218,22 @@ class Generator:
         context = self.variable(hole + sort)
         return context and ("@" + hole, context, self.assertion(hole, size - 1))
 
-    # ---------------------------------------------------------------------------- the same or weaker
+    # -------------------------------------------------------------------------- the same or weaker
+    def reworded(self, formula: Formula, sort: str) -> Formula:
+        """The formula in other words, at one place."""
+        path, part, here = self.random.choice(Places(formula, sort).shapes)
+        ways = (self.turned, self.bracketed, self.with_unit, self.cut_out, self.regrouped)
+        return put(formula, path, self.random.choice(ways)(part, here))
+
     def same_or_weaker(self, formula: Formula, sort: str) -> Formula:
         """The formula in other words, or a weaker one, by a change at one place."""
         places = Places(formula, sort)
         path, part, here = self.random.choice(places.shapes)
-        ways = [self.turned, self.bracketed, self.with_unit, self.cut_out, self.less,
-                self.fact_moved, self.fact_copied, self.with_choice, self.equal_put]
+        ways = [self.turned, self.bracketed, self.with_unit, self.cut_out, self.regrouped, self.less,
+                self.fact_moved, self.fact_copied, self.with_choice, None]
         ways += [self.anything, self.with_anything, self.anywhere] * 2 if self.loose else []
-        way: Callable[[Formula, str], Formula] = self.random.choice(ways)
-        if way == self.equal_put:
-            return self.equals_put(formula, places)
-        return put(formula, path, way(part, here))
+        way: Callable[[Formula, str], Formula] | None = self.random.choice(ways)
+        return put(formula, path, way(part, here)) if way else self.equal_put(formula, places)
 
     def turned(self, part: Formula, sort: str) -> Formula:
         """A sum, an `and` or a choice the other way round."""
@@ -253,6 +260,15 @@ class Generator:
         hole = ("?" + sort,)
         context, inner, inner_sort = self.layers(part, sort, self.random.randint(0, 2))
         return ("@" + inner_sort, context, inner) if context else ("@" + sort, hole, part)
+
+    def regrouped(self, part: Formula, sort: str) -> Formula:
+        """(K @h (H @j P)) as ((K @h H) @j P), and back."""
+        app, outer, inner = part if part[0][0] == "@" else ("@", (), ())
+        if outer and inner[0][0] == "@":
+            return (inner[0], (app, outer, inner[1]), inner[2])
+        if outer and outer[0][0] == "@":
+            return (outer[0], outer[1], (app, outer[2], inner))
+        return part
 
     def layers(self, part: Formula, sort: str, depth: int) -> tuple:
         """(context, part in it, its sort), or no context where a layer can't be made."""
@@ -324,11 +340,7 @@ class Generator:
         _, inner, inner_sort = self.random.choice(inside or [((), part, sort)])
         return ("@" + inner_sort, ("true",), inner) if inner_sort + sort in LOGIC else part
 
-    def equal_put(self, part: Formula, sort: str) -> Formula:
-        """Stands for `equals_put`, which looks at the whole."""
-        return part
-
-    def equals_put(self, formula: Formula, places: Places) -> Formula:
+    def equal_put(self, formula: Formula, places: Places) -> Formula:
         """The other side of one of the equations at a place of one side."""
         facts = [it for _, fact in places.facts for it in parts_of(fact) if it[0] == "="]
         if not facts:

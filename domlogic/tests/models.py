@@ -1,8 +1,8 @@
 """Formulas judged in models: an answer to entailments that has nothing of the search.
 
 A forest is a tuple of trees; a grove a frozenset of them. In a context a Hole stands where the part
-goes: for a tree in its place, for a forest or a grove as one of the members. A model has a value for
-each variable: of values, of shapes, of contexts. The value of a literal is the literal itself.
+goes: for a tree in its place, for a forest or a grove as one of the members. A model has a value
+for each variable: of values, of shapes, of contexts. The value of a literal is the literal itself.
 
 Quantified variables are looked for as they are met: in a node or an equation their value is read
 off, and elsewhere they run through a domain. So a variable that isn't met has no value.
@@ -31,7 +31,7 @@ class Hole(NamedTuple):
 
 
 def parted(data: Any, sort: str, hole: str) -> Iterator[tuple[Any, Any]]:
-    """Gives (context, part): each part of the sort `hole` that stands in the data, of sort `sort`."""
+    """Gives (context, part): each part of the sort `hole` in the data, which is of sort `sort`."""
     if sort == "t":
         if hole == "t" and is_tree(data):
             yield Hole("t"), data

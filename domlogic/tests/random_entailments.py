@@ -22,7 +22,9 @@ sys.path.insert(0, os.path.dirname(os.path.dirname(os.path.dirname(os.path.abspa
 from domlogic.reading.limits import Refused
 from domlogic.reading.proofs import check_proof
 from domlogic.reading.theories import Procedure, Step, Theory
-from domlogic.search.filling import proposed
+from domlogic.search.book import Book
+from domlogic.search.entailments import Matching
+from domlogic.search.filling import ended_in
 from domlogic.search.printing import judgement_text, theory_text
 from domlogic.search.refusals import Fails
 from domlogic.tests.canonical import Canonical, Cases, node_count
@@ -92,6 +94,17 @@ def kernel_refuses(made: Made) -> str | None:
     return None
 
 
+def searched(number: int, asked: Entailment) -> Made | str:
+    """The proof that the search finds, or why it finds none."""
+    whole = theory([])._replace(procedures=[procedure("p", [])])
+    book = Book(whole, whole.procedures[0], 1, [])
+    try:
+        last = Matching(book).prove(*asked)
+    except Fails as why:
+        return str(why.args[0])
+    return Made(number, asked, ended_in(("entails", *asked), book, last), book.new)
+
+
 class Run:
     """What was asked and found so far."""
 
@@ -119,26 +132,18 @@ class Run:
         wanted = is_true(asked) and (not self.words.loose or is_true(asked, Random(number)))
         self.timed("judged", started)
         started = time.process_time()
-        made = self.searched(number, asked)
+        made = searched(number, asked)
         self.timed("searched", started)
         self.slowest = max(self.slowest, (time.process_time() - started, number))
         self.asked += 1
         self.true += wanted
         if wanted != isinstance(made, Made):
-            self.told(number, asked, f"true, but refused: {made}" if wanted else "false, but proved")
+            what = f"true, but refused: {made}" if wanted else "false, but proved"
+            self.told(number, asked, what)
         if isinstance(made, Made):
             started = time.process_time()
             self.checked(made)
             self.timed("checked", started)
-
-    def searched(self, number: int, asked: Entailment) -> Made | str:
-        """The proof that the search finds, or why it finds none."""
-        whole = theory([])._replace(procedures=[procedure("p", [])])
-        try:
-            steps, new = proposed(whole, whole.procedures[0], 1, ("entails", *asked), [])
-        except Fails as why:
-            return str(why.args[0])
-        return Made(number, asked, steps, new)
 
     def checked(self, made: Made) -> None:
         """Has a proof checked, or puts it into the file that is checked next."""

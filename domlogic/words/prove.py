@@ -3,8 +3,8 @@ import re
 
 from domlogic.reading.sorts import walk
 from domlogic.reading.theories import Theory
-from domlogic.search.book import theory_text
 from domlogic.search.filling import Filled, NotFilled, filled
+from domlogic.search.printing import theory_text
 from domlogic.search.stepping import COMMANDS
 from domlogic.words.bar import Bar
 from domlogic.words.program import ACCEPTED, GAP, LIMIT, REFUSED, Answer, checked, read

@@ -1,11 +1,13 @@
 """`show FILE PROC`: the assertion behind each command of a procedure, by cases."""
 from domlogic.reading.theories import Procedure, Step, Theory
-from domlogic.search.book import Book, Fails, formula_text
+from domlogic.search.book import Book
 from domlogic.search.execution import Execution
 from domlogic.search.filling import Earlier, asked_steps, own_triple, searched, title_of
-from domlogic.search.heaps import Formula
+from domlogic.search.formulas import Formula
 from domlogic.search.messages import ShownNames, lines_of
 from domlogic.search.outline import Line
+from domlogic.search.printing import formula_text
+from domlogic.search.refusals import Fails
 from domlogic.words.program import BAD_WORDS, Answer, read
 
 NOTHING_LEFT = "nothing: no case is left"

@@ -1,9 +1,12 @@
-"""A forest of which nothing is known is empty, or has a first node and a rest."""
-from typing import NamedTuple
+"""Shapes of which nothing is known: a tree is a node; a forest is empty, or has a first node."""
+from typing import TYPE_CHECKING, NamedTuple
 
-from domlogic.search.formulas import (NONE, TRUE, Formula, Term, has_head, quantified, with_facts,
-                                      with_part)
+from domlogic.search.formulas import (NONE, TRUE, Formula, Term, disjunction, has_head, quantified,
+                                      with_facts, with_part)
 from domlogic.search.opening import Key
+
+if TYPE_CHECKING:
+    from domlogic.search.entailments import Matching
 
 ZERO, ONE = ("int", 0), ("int", 1)
 
@@ -16,10 +19,10 @@ class Target(NamedTuple):
     length: Formula
 
 
-class ForestCases:
-    """Steps from a forest to its two cases."""
+class UnknownShapes:
+    """Steps from a tree to a node, and from a forest to its two cases."""
 
-    def __init__(self, matching):
+    def __init__(self, matching: "Matching"):
         self.matching, self.shapes, self.book = matching, matching.shapes, matching.book
 
     def cases(self, part: Formula) -> int:
@@ -28,20 +31,30 @@ class ForestCases:
         if part[0] == "len":
             return self.length_cases(part)
         number, after = self.first_tree()
-        return number if part == TRUE else self.variable_cases(part, number, after)
+        return number if part == TRUE else self.variable_cases(part, number, after, "f")
+
+    def node(self, part: Formula) -> int:
+        """The step that `true` or a variable of trees entails that it is a node."""
+        _, _, number, node = self.some_node()
+        return number if part == TRUE else self.variable_cases(part, number, node, "t")
+
+    def some_node(self) -> tuple[list[Term], Formula, int, Formula]:
+        """(variables, node, step, formula): true entails the formula, that there is a node."""
+        names = [self.book.fresh(it) for it in ("str", "node", "f", "list")]
+        name, number, inner, listing = names
+        node = ("node", name, number, ("is it", inner), listing)
+        some = quantified(names, node)
+        return names, node, self.book.ent("node_some", (), TRUE, some, "t"), some
 
     def first_tree(self) -> tuple[int, Formula]:
         """(step, cases): true entails (0f or there are a first node and a rest)."""
         book = self.book
         tree, rest = book.fresh("t"), book.fresh("f")
-        name, number, inner, listing = (book.fresh(it) for it in ("str", "node", "f", "list"))
-        node = ("node", name, number, ("is it", inner), listing)
-        names = [name, number, inner, listing]
+        names, node, is_node, _ = self.some_node()
         first = ("*", ("one tree", ("is it", tree)), ("is it", rest))
         wanted = quantified([*names, rest], ("*", ("one tree", node), ("is it", rest)))
         cases = ("or", NONE, quantified([tree, rest], first))
-        opened = book.cut(book.ent("true_in", (), ("is it", tree), TRUE, "t"),
-                          book.ent("node_some", (), TRUE, quantified(names, node), "t"))
+        opened = book.cut(book.ent("true_in", (), ("is it", tree), TRUE, "t"), is_node)
         lifted = book.lift(first, "f", (1, 1), opened)
         done = book.cut(lifted, self.matching.prove(book.judged(lifted)[2], wanted, "f"))
         for variable in (rest, tree):
@@ -54,28 +67,28 @@ class ForestCases:
         return book.cut(start, book.ent("or_out", (one, two), cases, after, "f")), after
 
     # ---------------------------------------------------------------------------------- a variable
-    def variable_cases(self, part: Formula, number: int, after: Formula) -> int:
-        """The cases of a variable, with ($f is ..) kept in each."""
+    def variable_cases(self, part: Formula, number: int, after: Formula, sort: str) -> int:
+        """The cases of a variable, from those of true, with ($x is ..) kept in each."""
         book = self.book
-        any_forest = book.ent("true_in", (), part, TRUE, "f")
-        start = book.both(book.id(part, "f"), book.cut(any_forest, number))
-        leaves, emit = self.shapes.opened(("and", part, after), "f")
+        any_shape = book.ent("true_in", (), part, TRUE, sort)
+        start = book.both(book.id(part, sort), book.cut(any_shape, number))
+        leaves, emit = self.shapes.opened(("and", part, after), sort)
         forms = []
         for variables, shape, _ in leaves:
             other = shape[2] if shape[1] == part else shape[1]
             kept = ("and", other, ("is", part[1], other))
             forms.append((variables, shape, kept))
-        target = ("or", *(quantified(variables, kept) for variables, _, kept in forms))
+        target = disjunction([quantified(variables, kept) for variables, _, kept in forms])
 
         def of_leaf(leaf: Key) -> int:
             at, found = next((at, it) for at, it in enumerate(forms) if it[1] == leaf[0])
             variables, shape, kept = found
             pair = ("and", part, kept[1])
-            mine = self.shapes.gather(shape, kept[1], "f")
-            fact = book.cut(self.shapes.gather(shape, pair, "f"),
-                            book.ent("is_in", (), pair, kept[2], "f"))
-            done = book.ent("and_in", (mine, fact), shape, kept, "f")
-            return book.cut(done, self.shapes.into(kept, variables, target, at, 2, "f"))
+            mine = self.shapes.gather(shape, kept[1], sort)
+            fact = book.cut(self.shapes.gather(shape, pair, sort),
+                            book.ent("is_in", (), pair, kept[2], sort))
+            done = book.ent("and_in", (mine, fact), shape, kept, sort)
+            return book.cut(done, self.shapes.into(kept, variables, target, at, len(forms), sort))
 
         return book.cut(start, emit(target, of_leaf))
 
