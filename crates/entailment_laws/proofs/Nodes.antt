@@ -4,7 +4,8 @@ use Rattle.std.proofs.Math.Decide.{ℕ_discrete}
 use Rattle.model_shapes.specs.Sorts.{DataSort, Sort, tree, forest, value, shape, context, outer, with_outer}
 use Rattle.model_shapes.specs.Values.{node_number, list_number, str}
 use Rattle.model_shapes.specs.Trees.{Trees, WellFormed, none, node, hole, beside, fill, node_uses, list_uses, one_if, width}
-use Rattle.model_shapes.specs.Shapes.{SameAt, Shaped, OneHole, may_stand, root_holes}
+use Rattle.model_shapes.specs.Shapes.{SameAt, Shaped, OneHole, may_stand}
+use Rattle.model_shapes.specs.RootHoles.{root_holes}
 use Rattle.model_shapes.specs.Things.{Thing, val}
 use Rattle.model_shapes.proofs.Basics.{node_uses-beside, list_uses-beside, node_uses-fill, list_uses-fill}
 use Rattle.model_shapes.proofs.Shapes.{SameAt-sym, same-node_uses, same-list_uses, root_holes-le, hole-root, hole-below, one-hole}

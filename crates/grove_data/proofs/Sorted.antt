@@ -8,7 +8,8 @@ use Rattle.std.proofs.lemmas.List.Sorted.{sum_by-IsPermutation}
 use Rattle.std.proofs.lemmas.Slice.Eq.{bytes_eq-Decides}
 use Rattle.std.proofs.lemmas.Bool.Decides.{nat_tests}
 use Rattle.model_shapes.specs.Trees.{Trees, none, node, hole, beside, root_uses, node_uses, WellFormed}
-use Rattle.model_shapes.specs.Shapes.{root_holes, SameAt}
+use Rattle.model_shapes.specs.Shapes.{SameAt}
+use Rattle.model_shapes.specs.RootHoles.{root_holes}
 use Rattle.model_shapes.specs.Sorts.{grove}
 use Rattle.model_shapes.proofs.Truth.{both_true}
 use Rattle.model_shapes.proofs.Basics.{root_uses-beside, node_uses-beside}

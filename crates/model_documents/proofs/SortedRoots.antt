@@ -4,7 +4,7 @@ use Rattle.std.proofs.Common.{◌≡◌, ℕ, ◌≤◌, ◌+◌, Bool, true, fa
 use Rattle.std.proofs.lemmas.Bool.Decides.{nat_tests}
 use Rattle.std.proofs.Math.Decide.{ℕ_discrete}
 use Rattle.model_shapes.specs.Trees.{Trees, none, node, hole, beside, root_uses, node_uses, list_uses, one_if, trees_eq, WellFormed}
-use Rattle.model_shapes.specs.Shapes.{root_holes}
+use Rattle.model_shapes.specs.RootHoles.{root_holes}
 use Rattle.model_shapes.proofs.Basics.{root_uses-beside, root_holes-beside, node_uses-beside, list_uses-beside}
 use Rattle.model_shapes.proofs.Sameness.{SameGrove, one_if_self, same-count}
 use Rattle.model_documents.specs.Roots.{root_put, sorted_roots, FromNumber, Rising}

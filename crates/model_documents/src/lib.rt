@@ -6,7 +6,8 @@
 
 ghost use Rattle.std.specs.Prelude.{◌≡◌, None};
 ghost use Rattle.model_shapes.specs.Trees.{Trees, WellFormed};
-ghost use Rattle.model_shapes.specs.Shapes.{root_holes, SameAt};
+ghost use Rattle.model_shapes.specs.Shapes.{SameAt};
+ghost use Rattle.model_shapes.specs.RootHoles.{root_holes};
 ghost use Rattle.model_shapes.specs.Sorts.{grove};
 ghost use Rattle.model_documents.specs.Numbers.{first_out_of_range, first_repeat};
 ghost use Rattle.model_documents.specs.Roots.{sorted_roots, Rising};

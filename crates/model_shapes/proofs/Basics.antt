@@ -1,7 +1,8 @@
 -- Counting in trees, beside and fill.
 use Rattle.std.proofs.Common.{◌≡◌, ℕ, ◌+◌, ◌*◌, sym, refl, ap, arith, ◌∙◌}
 use Rattle.model_shapes.specs.Trees.{Trees, none, node, hole, beside, fill, width, root_uses, node_uses, list_uses}
-use Rattle.model_shapes.specs.Shapes.{holes, root_holes}
+use Rattle.model_shapes.specs.Shapes.{holes}
+use Rattle.model_shapes.specs.RootHoles.{root_holes}
 
 -- nothing behind
 pub beside-none : (a : Trees) → beside a none ≡ a

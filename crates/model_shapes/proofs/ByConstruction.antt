@@ -2,7 +2,8 @@
 -- each gives a plain one, each plain one comes from one, and from one only.
 use Rattle.std.proofs.Common.{◌≡◌, ℕ, zero, suc, ◌≤◌, sym, refl, ap, ◌∙◌, arith, List, true}
 use Rattle.model_shapes.specs.Trees.{Trees, none, node, hole, beside, fill, width, root_uses, WellFormed}
-use Rattle.model_shapes.specs.Shapes.{holes, root_holes, SameAt, Shaped, OneHole, may_stand}
+use Rattle.model_shapes.specs.Shapes.{holes, SameAt, Shaped, OneHole, may_stand}
+use Rattle.model_shapes.specs.RootHoles.{root_holes}
 use Rattle.model_shapes.specs.Sorts.{context, DataSort, tree, forest, grove}
 use Rattle.model_shapes.specs.Contexts.{TreeContext, tree_hole, around_node, ForestContext, between, ForestInner, forest_hole, one_context, GroveContext, grove_hole, root_context, tree_thing, forest_thing, inner_thing, grove_thing, tree_hole_sort, forest_hole_sort, inner_hole_sort, grove_hole_sort, TreeBare, ForestBare, InnerBare, GroveBare, SameContext}
 use Rattle.model_shapes.proofs.Truth.{false≢true}

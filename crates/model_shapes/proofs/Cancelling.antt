@@ -1,7 +1,8 @@
 -- What stands in a context is determined up to sameness by the whole.
 use Rattle.std.proofs.Common.{◌≡◌, ℕ, zero, suc, ◌≤◌, ◌*◌, sym, refl, ap, arith, ◌∙◌, List}
 use Rattle.model_shapes.specs.Trees.{Trees, none, node, hole, beside, fill, width, root_uses, one_if, trees_eq}
-use Rattle.model_shapes.specs.Shapes.{holes, root_holes, SameAt, OneHole, HasWidth}
+use Rattle.model_shapes.specs.Shapes.{holes, SameAt, OneHole, HasWidth}
+use Rattle.model_shapes.specs.RootHoles.{root_holes}
 use Rattle.model_shapes.specs.Sorts.{DataSort, tree, forest, grove}
 use Rattle.model_shapes.proofs.Basics.{width-beside, root_uses-beside, fill-no_hole}
 use Rattle.model_shapes.proofs.Truth.{false≢true}

@@ -2,7 +2,8 @@
 -- A hole for a grove stands among the roots, and nowhere else.
 use Rattle.std.proofs.Common.{◌≡◌, ℕ, zero, suc, ◌*◌, ◌+◌, sym, refl, ap, arith, ◌∙◌, subst, true, false}
 use Rattle.model_shapes.specs.Trees.{Trees, none, node, hole, beside, fill, width, root_uses, node_uses, list_uses, one_if, trees_eq, WellFormed}
-use Rattle.model_shapes.specs.Shapes.{holes, root_holes, SameAt, Shaped, OneHole, HasWidth, may_stand}
+use Rattle.model_shapes.specs.Shapes.{holes, SameAt, Shaped, OneHole, HasWidth, may_stand}
+use Rattle.model_shapes.specs.RootHoles.{root_holes}
 use Rattle.model_shapes.specs.Sorts.{Sort, value, shape, context, with_outer, DataSort, tree, forest, grove}
 use Rattle.model_shapes.proofs.Basics.{root_uses-beside, fill-beside, fill-no_hole, holes-fill, root_holes-fill, width-fill, fill-fill, node_uses-fill, list_uses-fill}
 use Rattle.model_shapes.proofs.Truth.{false≢true}

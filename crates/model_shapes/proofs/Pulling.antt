@@ -1,7 +1,8 @@
 -- What stands in a context can be computed from the context and the whole grove.
 use Rattle.std.proofs.Common.{◌≡◌, ℕ, zero, suc, ◌≤◌, ◌+◌, ◌-◌, refl, sym, ap, ◌∙◌, arith}
 use Rattle.model_shapes.specs.Trees.{Trees, none, node, hole, beside, fill, width, root_uses, one_if, trees_eq}
-use Rattle.model_shapes.specs.Shapes.{holes, root_holes, SameAt, Shaped}
+use Rattle.model_shapes.specs.Shapes.{holes, SameAt, Shaped}
+use Rattle.model_shapes.specs.RootHoles.{root_holes}
 use Rattle.model_shapes.specs.Sorts.{shape, context, DataSort, tree, forest, grove}
 use Rattle.model_shapes.proofs.Basics.{beside-none, width-beside, root_uses-beside, fill-no_hole}
 use Rattle.model_shapes.proofs.Truth.{false≢true}

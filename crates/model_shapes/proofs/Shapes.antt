@@ -1,7 +1,8 @@
 -- Well-formedness of parts, of wholes and of same groves.
 use Rattle.std.proofs.Common.{◌≡◌, ℕ, zero, suc, ◌≤◌, ◌+◌, true, sym, refl, ap, arith, ◌∙◌, subst}
 use Rattle.model_shapes.specs.Trees.{Trees, none, node, hole, beside, width, node_uses, list_uses, WellFormed}
-use Rattle.model_shapes.specs.Shapes.{holes, root_holes, may_stand, around_hole, OneHole, Same, SameAt, Shaped, HasWidth, HasHoles}
+use Rattle.model_shapes.specs.Shapes.{holes, may_stand, around_hole, OneHole, Same, SameAt, Shaped, HasWidth, HasHoles}
+use Rattle.model_shapes.specs.RootHoles.{root_holes}
 use Rattle.model_shapes.specs.Sorts.{Sort, value, shape, context, DataSort, tree, forest, grove, outer, with_outer}
 use Rattle.model_shapes.proofs.Basics.{holes-beside, root_holes-beside, width-beside, node_uses-beside, list_uses-beside, root_uses-beside}
 use Rattle.model_shapes.proofs.Sameness.{same-count}

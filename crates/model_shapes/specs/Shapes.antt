@@ -3,7 +3,6 @@
 use Rattle.std.specs.Prelude.{◌≡◌, ℕ, ◌+◌, Bool, true, false}
 use Rattle.model_shapes.specs.Sorts.{DataSort, tree, forest, grove, Sort, value, shape, context, outer}
 use Rattle.model_shapes.specs.Trees.{Trees, none, node, hole, width, root_uses, WellFormed}
-pub use Rattle.model_shapes.specs.RootHoles.{root_holes}
 
 -- how many holes there are
 abbrev pub holes : Trees → ℕ

@@ -1,7 +1,8 @@
 -- What the axioms append, remove and create share.
 use Rattle.std.proofs.Common.{◌≡◌, ℕ, ◌≤◌, ◌+◌, ◌*◌, List, [], ◌∷◌, cond, refl, sym, ap, subst, arith, true}
 use Rattle.std.proofs.Math.Decide.{ℕ_discrete}
-use Rattle.model_shapes.specs.Shapes.{holes, root_holes, Shaped, OneHole, Same, SameAt}
+use Rattle.model_shapes.specs.Shapes.{holes, Shaped, OneHole, Same, SameAt}
+use Rattle.model_shapes.specs.RootHoles.{root_holes}
 use Rattle.model_shapes.specs.Sorts.{DataSort, Sort, shape, context, tree, forest, grove}
 use Rattle.model_shapes.specs.Trees.{Trees, none, node, hole, beside, fill, node_uses, list_uses, root_uses, one_if, WellFormed}
 use Rattle.model_shapes.proofs.Basics.{node_uses-fill, list_uses-fill, holes-fill, root_uses-beside}

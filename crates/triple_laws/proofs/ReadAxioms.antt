@@ -1,7 +1,8 @@
 -- The axioms of the commands that read: name, children, item, item_none, parent and parent_none.
 use Rattle.std.proofs.Common.{◌≡◌, ◌⊎◌, ℕ, ℤ, zero, suc, ◌≤◌, List, pos, negsuc, int_le, IsTrue, false, cond, ◌||◌, refl, sym, ap, ◌∙◌, subst, arith, inl, inr, ⊎_elim, leb-true}
 use mathlib.Core.HLevel.{dec→stable}
-use Rattle.model_shapes.specs.Shapes.{holes, root_holes, Shaped, OneHole}
+use Rattle.model_shapes.specs.Shapes.{holes, Shaped, OneHole}
+use Rattle.model_shapes.specs.RootHoles.{root_holes}
 use Rattle.model_shapes.specs.Sorts.{DataSort, shape, context, tree, grove, node_sort, list_sort, int_sort}
 use Rattle.model_shapes.specs.Things.{val}
 use Rattle.model_shapes.specs.Trees.{Trees, none, node, hole, beside, fill, width, node_uses, WellFormed}
