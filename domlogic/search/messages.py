@@ -2,8 +2,11 @@
 of the search."""
 from typing import Iterable, NamedTuple
 
+from domlogic.reading.nameless import is_pure
 from domlogic.reading.sorts import walk
 from domlogic.search.book import Book
+from domlogic.search.formulas import Formula, conjunction, conjuncts, free
+from domlogic.search.heaps import Case, Opened, tidied
 from domlogic.search.printing import command_text, condition_text, formula_text
 from domlogic.search.refusals import Fails
 from domlogic.search.shapes import Shapes
@@ -50,7 +53,18 @@ def in_normal_form(failure: Failure, book: Book, sort: str) -> Failure:
         is_formula = isinstance(formula, tuple)
         return shapes.canon(formula, sort).right if is_formula else formula
 
-    return failure._replace(known=normal(failure.known), wanted=normal(failure.wanted))
+    known = normal(failure.known)
+    return failure._replace(known=known and without_noise(known, book, sort),
+                            wanted=normal(failure.wanted))
+
+
+def without_noise(known: Formula, book: Book, sort: str) -> Formula:
+    """The case without facts that say nothing beside it."""
+    parts = conjuncts(known)
+    shape = conjunction([it for it in parts if not is_pure(it)])
+    pure = tuple(it for it in parts if is_pure(it))
+    new = tuple(sorted(it for it in free(known) if it[0] == "logic" and it[1] in book.new))
+    return tidied(Opened(new, Case(shape, pure, sort))).case.formula
 
 
 def lines_of(failure: Failure, names: "ShownNames") -> list[str]:
