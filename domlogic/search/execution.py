@@ -19,7 +19,7 @@ Watch = Callable[[Command], None]
 BY_STEP = " by an earlier step"
 GUESSED = ", with a guessed invariant"
 NOT_FOUND = ", of which no invariant was found"
-SECONDS = 10.0  # of the processor's time, in which invariants are guessed
+SECONDS = 6.0  # of the processor's time, in which invariants are guessed
 
 
 class Execution:
