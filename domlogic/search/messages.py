@@ -21,6 +21,7 @@ class Failure(NamedTuple):
     wanted: tuple | str
     missing: tuple | None = None
     instead: tuple | None = None
+    why: str | None = None
 
 
 def heading(command: tuple) -> str:
@@ -42,7 +43,8 @@ def failure_of(why: Fails, place: str) -> Failure:
     kind, instead, missing = more[0][1:4] if more else (None, None, None)
     if kind != "part":
         instead = None
-    return Failure(place, known, wanted, missing if kind else None, instead)
+    because = more[1] if more[1:] and more[1] else None
+    return Failure(place, known, wanted, missing if kind else None, instead, because)
 
 
 def in_normal_form(failure: Failure, book: Book, sort: str) -> Failure:
@@ -70,7 +72,7 @@ def without_noise(known: Formula, book: Book, sort: str) -> Formula:
 def lines_of(failure: Failure, names: "ShownNames") -> list[str]:
     """The lines under the place."""
     given = {"in the case": failure.known, "wanted": failure.wanted, "not shown": failure.missing,
-             "where stands": failure.instead}
+             "where stands": failure.instead, "because": failure.why}
     told = [(title, formula) for title, formula in given.items() if formula is not None]
     return [f"  {title:<12} {names.text(formula)}" for title, formula in told]
 
