@@ -3,10 +3,11 @@ import itertools
 from typing import Iterator
 
 from domlogic.search.book import Book
-from domlogic.search.formulas import Formula, free
+from domlogic.search.formulas import Formula, free, variables_named
 from domlogic.search.frames import Frames, Place
 from domlogic.search.heaps import Case, Command, Variable
-from domlogic.search.refusals import Fails, Refusal
+from domlogic.search.matching import Progress
+from domlogic.search.refusals import Fails, Missing, Refusal
 
 Judgement = tuple
 
@@ -15,8 +16,8 @@ class NoPart(Fails):
     """No part of the case meets what the triple wants. `needs` are parts, with their sorts, that
     stand where it wants a variable."""
 
-    def __init__(self, case: Case, wanted: Formula, needs: list):
-        super().__init__(Refusal(case.formula, wanted))
+    def __init__(self, case: Case, wanted: Formula, needs: list, missing: Missing = Missing()):
+        super().__init__(Refusal(case.formula, wanted, missing))
         self.needs = needs
 
 
@@ -39,11 +40,11 @@ def applied(frames: Frames, case: Case, triple: int, names: list[Variable]) -> i
     book, matching = frames.book, frames.matching
     _, pre, _, _, sort = book.judged(triple)
     renamed = {it: book.fresh(book.sort_of(it)) for it in names}
-    wanted, needs = book.subst(pre, renamed), []
+    wanted, needs, missing = book.subst(pre, renamed), [], Missing()
     for place in parts(frames, case, sort):
         known = frames.known(Case(place.part, case.pure, sort))
-        matching.needs = []
-        found, inner = matching.matched_with(known, wanted, set(renamed.values()))
+        progress = Progress()
+        found, inner = matching.matched(known, wanted, progress, frozenset(renamed.values()))
         if inner is None and not names and place.start is None:
             found, inner = {}, matching.tried(known.whole, wanted, sort, 2)
         if inner is not None:
@@ -52,8 +53,11 @@ def applied(frames: Frames, case: Case, triple: int, names: list[Variable]) -> i
             if not book.same(meant, book.judged(number)[1]):
                 raise Fails(Refusal(known.whole, book.judged(number)[1]))
             return frames.at(case, place, inner, number)
-        needs += matching.needs
-    raise NoPart(case, pre, needs)
+        needs += progress.needs
+        missing = max(missing, progress.farthest, key=lambda it: it.hits)
+    unknown = {new: ("logic", "?" + it[1]) for it, new in renamed.items()}
+    asked = missing.asked and variables_named(missing.asked, unknown)
+    raise NoPart(case, pre, needs, missing._replace(asked=asked))
 
 
 def parts(frames: Frames, case: Case, sort: str) -> Iterator[Place]:

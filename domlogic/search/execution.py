@@ -19,7 +19,7 @@ Watch = Callable[[Command], None]
 BY_STEP = " by an earlier step"
 GUESSED = ", with a guessed invariant"
 NOT_FOUND = ", of which no invariant was found"
-SECONDS = 10.0  # of the processor's time, in which invariants are guessed
+SECONDS = 6.0  # of the processor's time, in which invariants are guessed
 
 
 class Execution:
@@ -32,15 +32,16 @@ class Execution:
         self.triples = self.stepping.triples
         self.place, self.outline = "", Outline()
         self.first_way, self.guessing, self.has_guessed = 0, 0, False
-        self.not_kept: tuple[Fails, str, list] | None = None
+        self.given: Command = ()
         self.deadline = time.process_time() + SECONDS
         self.forms = {"skip": self.skip, "block": self.block, "local": self.local,
                       "if": self.choice, "while": self.loop}
 
     def prove(self, pre: Formula, command: Command, post: Formula, sort: str) -> int:
         """The step of the triple. Where an invariant was guessed and isn't enough for the rest,
-        others are tried; what is told is of the first."""
-        failures = []
+        others are tried; what is told is of the first. A loop that is asked for itself has its
+        invariant from the author."""
+        failures, self.given = [], command
         for self.first_way in range(len(WAYS)):
             try:
                 return self.once(pre, command, post, sort)
@@ -49,9 +50,7 @@ class Execution:
                 if not self.has_guessed or self.is_late():
                     break
             self.outline, self.has_guessed = Outline(), False
-        # A loop that has a step of its own has its invariant from the author.
-        told = self.not_kept if command[0] == "while" and self.not_kept else failures[0]
-        fails, self.place, self.outline.lines = told
+        fails, self.place, self.outline.lines = failures[0]
         raise fails
 
     def once(self, pre: Formula, command: Command, post: Formula, sort: str) -> int:
@@ -75,6 +74,8 @@ class Execution:
         try:
             return self.told(heading(command) + BY_STEP, pre, command, sort)
         except Fails as why:
+            if command[0] == "while":  # its invariant is the author's
+                raise
             try:
                 self.outline.back_to(count)
                 return self.forms[command[0]](pre, command, sort)
@@ -145,8 +146,9 @@ class Execution:
         try:
             number, start = self.triples.weaker_to(once, pre), self.book.id(pre, sort)
         except Fails as why:
-            lines = list(self.outline.lines)
-            self.not_kept = self.not_kept or (why, place, lines)
+            lines, self.place = list(self.outline.lines), place
+            if command == self.given:
+                raise
             found = self.guessed(pre, command, sort, once, count)
             if found is None:
                 self.place, self.outline.lines = place + NOT_FOUND, lines

@@ -2,8 +2,11 @@
 of the search."""
 from typing import Iterable, NamedTuple
 
+from domlogic.reading.nameless import is_pure
 from domlogic.reading.sorts import walk
 from domlogic.search.book import Book
+from domlogic.search.formulas import Formula, conjunction, conjuncts, free
+from domlogic.search.heaps import Case, Opened, tidied
 from domlogic.search.printing import command_text, condition_text, formula_text
 from domlogic.search.refusals import Fails
 from domlogic.search.shapes import Shapes
@@ -18,6 +21,7 @@ class Failure(NamedTuple):
     wanted: tuple | str
     missing: tuple | None = None
     instead: tuple | None = None
+    why: str | None = None
 
 
 def heading(command: tuple) -> str:
@@ -39,7 +43,8 @@ def failure_of(why: Fails, place: str) -> Failure:
     kind, instead, missing = more[0][1:4] if more else (None, None, None)
     if kind != "part":
         instead = None
-    return Failure(place, known, wanted, missing if kind else None, instead)
+    because = more[1] if more[1:] and more[1] else None
+    return Failure(place, known, wanted, missing if kind else None, instead, because)
 
 
 def in_normal_form(failure: Failure, book: Book, sort: str) -> Failure:
@@ -50,13 +55,24 @@ def in_normal_form(failure: Failure, book: Book, sort: str) -> Failure:
         is_formula = isinstance(formula, tuple)
         return shapes.canon(formula, sort).right if is_formula else formula
 
-    return failure._replace(known=normal(failure.known), wanted=normal(failure.wanted))
+    known = normal(failure.known)
+    return failure._replace(known=known and without_noise(known, book, sort),
+                            wanted=normal(failure.wanted))
+
+
+def without_noise(known: Formula, book: Book, sort: str) -> Formula:
+    """The case without facts that say nothing beside it."""
+    parts = conjuncts(known)
+    shape = conjunction([it for it in parts if not is_pure(it)])
+    pure = tuple(it for it in parts if is_pure(it))
+    new = tuple(sorted(it for it in free(known) if it[0] == "logic" and it[1] in book.new))
+    return tidied(Opened(new, Case(shape, pure, sort))).case.formula
 
 
 def lines_of(failure: Failure, names: "ShownNames") -> list[str]:
     """The lines under the place."""
     given = {"in the case": failure.known, "wanted": failure.wanted, "not shown": failure.missing,
-             "where stands": failure.instead}
+             "where stands": failure.instead, "because": failure.why}
     told = [(title, formula) for title, formula in given.items() if formula is not None]
     return [f"  {title:<12} {names.text(formula)}" for title, formula in told]
 

@@ -20,9 +20,9 @@ NONE_SET: frozenset[Variable] = frozenset()
 
 def in_case(case: Case, why: Fails) -> Fails:
     """The failure as one of the case, where it speaks of a part of that or of other names."""
-    if isinstance(why, NoPart):
-        return NoPart(case, why.args[0].wanted, why.needs)
     told = why.args[0]
+    if isinstance(why, NoPart):
+        return NoPart(case, told.wanted, why.needs, told.missing)
     return Fails(Refusal(case.formula, *(told[1:] if isinstance(told, tuple) else [told])))
 
 

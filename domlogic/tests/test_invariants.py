@@ -12,13 +12,14 @@ def test_all_children_are_taken_away():
 
 def test_all_children_are_counted():
     filled_text(f"""p(p: node) returns (n: int) sort g ;; {SPOT} ;; ($k @t $s#p[len n]%$l) ;;
-        local l : list {{ local c : node {{ l := childNodes(p) ; c := item(l, n) ;
+        local l : list {{ local c : node {{
+            l := childNodes(p) ; n := 0 ; c := item(l, n) ;
             while (not c = null) {{ n := {{n + 1}} ; c := item(l, n) }} }} }}""")
 
 
 def test_a_counter_goes_up_to_a_bound():
     filled_text("""p(n: int) returns (i: int) sort g ;; (0g and 0 <= n) ;;
-        ((0g and i <= n) and n <= i) ;; while (not n <= i) { i := {i + 1} }""")
+        ((0g and i <= n) and n <= i) ;; { i := 0 ; while (not n <= i) { i := {i + 1} } }""")
 
 
 def test_a_row_grows_as_a_counter_goes_down():
