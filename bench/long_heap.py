@@ -11,18 +11,18 @@ nothing built that takes an hour or less. The program is kept as out/long_heap, 
 
 A row is node 1 with all the others as its children. A chain is nodes that are each the only child of the
 one made next: each comes below a root, so that no walk to the root is long while it is made. It is
-printed by `write_text`, which walks the links. `to_grove` isn't measured: to drop a plain grove that nests
-100,000 deep recurses, and takes more stack than there is.
+printed by `write_text`, which walks the links. `to_grove` and `copy` aren't measured.
 
 For each kind of step it prints the time of one at 1,000, 10,000 and 100,000 nodes and the ratio of the
 last to the first. The program runs with no rounds and with many, and the difference of the two times,
 each the least of some runs, is divided by the rounds. A time is the user's and the system's together:
 the sum is exact, and how it is parted is told in ticks alone. The steps go over the nodes in their
 order, or, where they are called scattered, in one that jumps; the second kind pays for memory that is in
-no cache. A move, and a removal, asks for the parent first. `append` walks from its parent to the root, and
-`item` to its place, by design: the moves in a chain are those of its eight nodes next to the root, and the
-two walks are measured apart, for a node of the walk. The greatest memory is that of the whole program,
-divided by the nodes; what this script holds itself, some 14 MB, is the least that it can see.
+no cache. A move, and a removal, asks for the parent first. `append` of a node with children walks from its
+new parent to the root, and `item` to its place, by design: the moves in a chain are those of its eight nodes
+next to the root, and the two walks are measured apart, for a node of the walk. The greatest memory is that
+of the whole program, divided by the nodes; what this script holds itself, some 14 MB, is the least that it
+can see.
 """
 import os
 import pathlib

@@ -3,6 +3,7 @@ from typing import Iterator
 
 from domlogic.explaining.comparing import Miss, Path, State, called
 from domlogic.explaining.named import Node, unnamed_judgement
+from domlogic.explaining.rows import LETTERS
 from domlogic.explaining.source import Source
 from domlogic.explaining.wording import code, labelled, listed, shortened
 from domlogic.reading.matching import Written, with_new_variables
@@ -12,7 +13,6 @@ from domlogic.reading.sorts import scope_of, walk
 from domlogic.reading.theories import Procedure, Step
 from domlogic.search.printing import formula_text, term_text
 
-LETTERS = {"W": "Y"}
 TERM_PLACES = {"=": (1, 2), "<=": (1, 2), "node": (1, 2, 4), "len": (1,), "is it": (1,), "is": (1,),
                "exists": (1,), "forall": (1,)}
 COMMANDS = {"skip": "skip", ":=": "x := E", "if": "if B BL else BL2", "while": "while B BL",

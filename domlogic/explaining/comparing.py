@@ -13,9 +13,11 @@ from domlogic.reading.sorts import term_sort
 
 Path = tuple[int, ...]
 QUANTIFIERS = ("exists", "forall")
-# A part that is shown whole where several places of it differ.
+# The most nodes of a part that is shown whole where several places of it differ.
 SMALL = 12
-LAST = 1000
+# The rank of what is looked at last: no rule has so many premises.
+LAST = 65536
+# Forms that are shown whole.
 ATOMS = ("bound", "logic", "prog", "int", "str", "is it")
 # How the names of variables begin that no file can name.
 NEW = "a new "

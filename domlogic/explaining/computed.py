@@ -60,8 +60,8 @@ def substitution(case: Case) -> Iterator[str]:
     yield from labelled("written", code(shortened(case.written_text(0, (2, *path)))))
     if (part, at_path(right, path)) == (new, old):
         yield from wrapped("Equals are put from left to right: of "
-                           f"{code(f'{shown[0]} = {shown[1]}')} the right term "
-                           "is put for the left one.")
+                           f"{code(f'{shown[0]} = {shown[1]}')} the right term is put for the left "
+                           "one.")
 
 
 def unreplaced(one: Node, other: Node, old: Node, new: Node,

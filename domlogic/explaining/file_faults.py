@@ -148,8 +148,7 @@ def constant(place: Place) -> Iterator[Placed]:
         if variable[1] in place.scope.params:
             yield (place.source.span(variable),
                    f"{code(variable[1])} is a parameter, which keeps its value, and it is {how} "
-                   "here. "
-                   "Copy it to a result or a local first.")
+                   "here. Copy it to a result or a local first.")
 
 
 def results(place: Place) -> Iterator[Placed]:
@@ -196,8 +195,8 @@ def number(place: Place) -> Iterator[Placed]:
     """A step's number that isn't its place."""
     at = place.source.span(place.step)[0] + 1
     yield (at, at + 1), (f"This is step {place.order} of the proof of {place.procedure.name}, and "
-                         "its number is "
-                         f"{place.step.number}. Steps are numbered from 1 in each proof.")
+                         f"its number is {place.step.number}. Steps are numbered from 1 in each "
+                         "proof.")
 
 
 FINDERS: dict[str, Callable[[Place], Iterator[Placed]]] = {

@@ -29,8 +29,8 @@ def nesting(source: Source) -> list[str]:
             break
     return [*source.view_of_text(start, end),
             *wrapped(f"Here {depth} brackets are open, and at most {FILE_NESTING} may be. Of a "
-                     "formula, give a part a "
-                     "name, by 'some'; of a body, put a part into a procedure of its own.")]
+                     "formula, give a part a name, by 'some'; of a body, put a part into a "
+                     "procedure of its own.")]
 
 
 def text(source: Source) -> list[str]:
@@ -54,16 +54,15 @@ def variables(source: Source) -> list[str]:
     begin = source.span(found)[0]
     return [*source.view(begin, begin + 2),
             *wrapped(f"{found.name} has {figure(count)} parameters, results and locals, and a "
-                     "procedure has at most "
-                     f"{VARIABLES}.")]
+                     f"procedure has at most {VARIABLES}.")]
 
 
 def steps(source: Source) -> list[str]:
     """How many steps all proofs have: each begins with a word that stands nowhere else."""
     counts = Counter(token.text for token in tokens_of(source.content) if token.kind == "word")
     return wrapped(f"The file has {figure(counts['step'])} steps in "
-                   f"{counted(counts['proof'], 'proof')}, and a file has "
-                   f"at most {figure(STEPS)}. Share its procedures out to several files.")
+                   f"{counted(counts['proof'], 'proof')}, and a file has at most {figure(STEPS)}. "
+                   "Share its procedures out to several files.")
 
 
 TOLD = {"file": file, "nesting": nesting, "text": text, "variables": variables, "steps": steps}

@@ -14,13 +14,11 @@ COMPUTED = {
     "eq_subst": "(E = F and P) entails Q, where Q is P with the term E replaced by F at some of "
                 "its places",
     "linear": "with A1, .., An: P entails Q, where P has n conjuncts Li <= Ri or Li = Ri of "
-              "integers, "
-              "and Q is a sum of them",
+              "integers, and Q is a sum of them",
     "seq": "pre P0 do C1 post P1, .., a step for each command, give pre P0 do { C1 ; .. ; Cn } "
            "post Pn",
     "call": "pre R do call (r, ..) := f(E, ..) post S, where R and S are the requires and the "
-            "ensures of f "
-            "with the arguments and the results put in",
+            "ensures of f with the arguments and the results put in",
 }
 CONDITIONS = {"literal": "E and F are two literals that differ",
               "texts": "E and F are texts of the same pieces", "pure": "Q is pure"}

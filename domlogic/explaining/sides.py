@@ -2,10 +2,10 @@
 from typing import Callable, Iterator
 
 from domlogic.explaining import computed, rows
-from domlogic.explaining.case import LETTERS, Case
+from domlogic.explaining.case import Case
 from domlogic.explaining.comparing import Path, State
 from domlogic.explaining.named import Node
-from domlogic.explaining.rows import Row
+from domlogic.explaining.rows import LETTERS, Row
 from domlogic.explaining.wording import code, labelled, listed, shortened, wrapped
 from domlogic.reading.computing import LITERALS, is_met, pieces
 from domlogic.reading.nameless import is_pure, modified, program_variables, stands_in

@@ -101,8 +101,7 @@ def formula_fault(formula: Node, sort: str, scope: Scope) -> Fault | None:
     if head == "is" and scope.logic[parts[0][1]] in VALUE_SORTS:
         its = sort_in_words(scope.logic[parts[0][1]])
         return Fault(parts[0], f"{code(parts[0][1])} has sort {its}, and 'is' speaks of data: of a "
-                               "tree, a forest, "
-                               "a grove or a context.")
+                               "tree, a forest, a grove or a context.")
     if head == "node":
         name, node, children, childlist = parts
         inner = terms_fault(scope, name, "str", node, "node", childlist, "list")
@@ -147,8 +146,7 @@ def assignment_fault(command: Node, scope: Scope) -> Fault | None:
     if inner or sorts[0] == sorts[1]:
         return inner
     return Fault(term, f"This term has sort {sort_in_words(sorts[1])}, and {code(target[1])} has "
-                       "sort "
-                       f"{sort_in_words(sorts[0])}.")
+                       f"sort {sort_in_words(sorts[0])}.")
 
 
 def operands_fault(command: Node, scope: Scope) -> Fault | None:
@@ -158,8 +156,7 @@ def operands_fault(command: Node, scope: Scope) -> Fault | None:
     if head not in MOVES and term_sort(parts[0], scope) != wanted[0]:
         its = sort_in_words(term_sort(parts[0], scope))
         return Fault(parts[0], f"{code(parts[0][1])} has sort {its}, and {code(head)} gives a "
-                               "value of sort "
-                               f"{sort_in_words(wanted[0])}.")
+                               f"value of sort {sort_in_words(wanted[0])}.")
     return terms_fault(scope, *(it for pair in zip(parts, wanted) for it in pair))
 
 
@@ -169,8 +166,7 @@ def local_fault(command: Node, scope: Scope) -> Fault | None:
     if scope.program[name] == sort:
         return command_fault(block, scope)
     return Fault(command, f"{code(name)} is declared here with sort {sort_in_words(sort)}, and in "
-                          "its procedure "
-                          f"with sort {sort_in_words(scope.program[name])}.")
+                          f"its procedure with sort {sort_in_words(scope.program[name])}.")
 
 
 def command_fault(command: Node, scope: Scope) -> Fault | None:

@@ -5,8 +5,7 @@ from typing import Iterator
 from domlogic.explaining import computed, mending, rows, sides
 from domlogic.explaining.case import Case, wanted_lines, wanted_text
 from domlogic.explaining.comparing import (BOUND_FREE, BOUND_SORT, KIND, SORT, TERM_SORT,
-                                           Comparison, Miss,
-                                           State, Way)
+                                           Comparison, Miss, State, Way)
 from domlogic.explaining.rows import Row
 from domlogic.explaining.source import Source
 from domlogic.explaining.wording import (code, counted, labelled, listed, shortened,
@@ -254,8 +253,7 @@ def differing(case: Case, way: Way, miss: Miss) -> Iterator[str]:
     elif miss.why == SORT:
         yield from case.marked_sort(miss.judgement)
         yield from wrapped(f"It is at sort {sort_in_words(step.judgement[-1])}, and "
-                           f"{sort_in_words(wanted[-1])} is "
-                           "wanted.")
+                           f"{sort_in_words(wanted[-1])} is wanted.")
     else:
         yield from miss_lines(case, miss)
 

@@ -2,10 +2,10 @@
 from domlogic.explaining.source import Source
 from domlogic.explaining.wording import code, counted, figure, shortened, wrapped
 from domlogic.reading.limits import LAST_I64, SHAPE_SORTS, VALUE_SORTS
+from domlogic.reading.names import run_end
 from domlogic.reading.reader import NoReading
 from domlogic.reading.theories import CONNECTIVES, TheoryReader
 from domlogic.reading.tokens import DIGITS, RESERVED, SYMBOLS, Token, tokens_of
-from domlogic.reading.names import run_end
 
 # What a token may be, by its kind or its text.
 ANY_NAME, ANY_WORD = "a name", "the name of a rule"

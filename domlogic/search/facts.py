@@ -5,6 +5,7 @@ from domlogic.reading.computing import pieces
 from domlogic.search.apart import LISTING, NOTHING, NUMBER, Nodes
 from domlogic.search.formulas import FALSE, LITERALS, TRUE, Formula, conjunction, conjuncts
 from domlogic.search.linear import summed
+from domlogic.search.negations import clash
 
 if TYPE_CHECKING:
     from domlogic.search.entailments import Matching
@@ -114,9 +115,9 @@ class Facts(Nodes):
         goal, cases = ("->", whole, order), ("or", denied, order)
         absurd, plain = ("and", denied, whole), ("and", order, whole)
         mine = book.cut(book.side(absurd, 2, sort), self.project(fact))
-        clash = book.cut(self.clash(mine, book.side(absurd, 1, sort)),
-                         book.ent("false_out", (), FALSE, order, sort))
-        one = book.ent("imp_in", (clash,), denied, goal, sort)
+        anything = book.ent("false_out", (), FALSE, order, sort)
+        clashed = book.cut(clash(book, mine, book.side(absurd, 1, sort)), anything)
+        one = book.ent("imp_in", (clashed,), denied, goal, sort)
         two = book.ent("imp_in", (book.side(plain, 1, sort),), order, goal, sort)
         total = book.cut(book.ent("int_total", (), whole, cases, sort),
                          book.ent("or_out", (one, two), cases, goal, sort))
@@ -149,9 +150,14 @@ class Facts(Nodes):
     def supposing(self, goal: Formula) -> int | None:
         """(not P) or (P -> Q), with P among the facts."""
         more = self.with_more(goal[1])
-        inner = more.contradiction() if goal[0] == "not" else more.prove(goal[2], False)
+        inner = more.prove(goal[2], False) if goal[0] == "->" else None
         if inner is None:
-            return None
+            inner = more.contradiction()
+            if inner is None:
+                return None
+            if goal[0] == "->":
+                absurd = self.book.ent("false_out", (), FALSE, goal[2], self.sort)
+                inner = self.book.cut(inner, absurd)
         turned = self.shapes.gather(("and", self.whole, goal[1]), more.whole, self.sort)
         rule = "not_in" if goal[0] == "not" else "imp_in"
         return self.book.ent(rule, (self.book.cut(turned, inner),), self.whole, goal, self.sort)
@@ -205,16 +211,9 @@ class Facts(Nodes):
         book, sort = self.book, self.sort
         supposed = book.cut(self.shapes.gather(start, more.whole, sort), inner)
         mine = book.cut(book.side(start, 1, sort), number)
-        return book.ent("not_in", (self.clash(mine, supposed),), self.whole, goal, sort)
+        return book.ent("not_in", (clash(self.book, mine, supposed),), self.whole, goal, sort)
 
     # ------------------------------------------------------------------------------ contradictions
-    def clash(self, negation: int, number: int) -> int:
-        """From the steps of (not P) and of P that of false."""
-        _, left, fact, sort = self.book.judged(negation)
-        pair = ("and", fact, fact[1])
-        both = self.book.ent("and_in", (negation, number), left, pair, sort)
-        return self.book.cut(both, self.book.ent("not_out", (), pair, FALSE, sort))
-
     def contradiction(self) -> int | None:
         """The step that the heap entails false, or None."""
         found = self.project(FALSE)
@@ -234,8 +233,8 @@ class Facts(Nodes):
             other = literals.setdefault(best, term) if term[0] in LITERALS else term
             if other != term:
                 equal = ("=", other, term)
-                clash = self.book.ent("distinct", (), equal, FALSE, self.sort)
-                return self.book.cut(self.equation(other, term), clash)
+                absurd = self.book.ent("distinct", (), equal, FALSE, self.sort)
+                return self.book.cut(self.equation(other, term), absurd)
         return None
 
     def denied_fact(self) -> int | None:
@@ -243,7 +242,7 @@ class Facts(Nodes):
         for fact in self.pure:
             inner = self.prove(fact[1], False) if fact[0] == "not" else None
             if inner is not None:
-                return self.clash(self.project(fact), inner)
+                return clash(self.book, self.project(fact), inner)
         return None
 
     def null_node(self) -> int | None:
@@ -252,7 +251,7 @@ class Facts(Nodes):
             for at, constant in NOTHING.items():
                 if self.rep(part[at], True) == constant:
                     number, fact = self.node_fact(path, part, at)
-                    return self.clash(number, self.prove(fact[1], False))
+                    return clash(self.book, number, self.prove(fact[1], False))
         return None
 
     def one_node_twice(self) -> int | None:
@@ -261,4 +260,4 @@ class Facts(Nodes):
         if twins is None:
             return None
         number, fact = self.apart(*twins)
-        return self.clash(number, self.prove(fact[1], False))
+        return clash(self.book, number, self.prove(fact[1], False))

@@ -49,8 +49,8 @@ class Progress:
 class Matcher:
     """Matches one way to prove a right side with what is known."""
 
-    def __init__(self, matching: "Matching", known: Facts, unknowns: set[Term], facts: list[Formula],
-                 progress: Progress):
+    def __init__(self, matching: "Matching", known: Facts, unknowns: set[Term],
+                 facts: list[Formula], progress: Progress):
         """`facts` are wanted too: they are asked as soon as all of their unknowns are found."""
         self.matching, self.known, self.unknowns = matching, known, unknowns
         self.book, self.shapes = known.book, known.shapes
@@ -226,8 +226,11 @@ class Matcher:
             _, term = lengths.length(left)
         except Fails:
             return
-        if want in self.unknowns:
+        meant = self.known.rep(term, True)
+        if want in self.unknowns and meant == term:
             yield {**found, want: term}, lambda final: lengths.only_length(left)
+        elif want in self.unknowns:  # the facts have another term for it, which has to stand there
+            self.progress.lengths.append((left, ("len", meant)))
         elif not difference((want, 1), (term, -1)):
             yield found, lambda final: lengths.length_as(
                 left, lengths.only_length(left), term, self.meant(right[1], final, True))

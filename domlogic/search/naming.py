@@ -1,10 +1,9 @@
 """A name for a part: a logic variable, and the fact of what it is."""
 from domlogic.search.book import Book
-from domlogic.search.formulas import Formula
-from domlogic.search.heaps import Variable
+from domlogic.search.formulas import Formula, Term
 
 
-def named(book: Book, part: Formula, sort: str, new: Variable) -> int:
+def named(book: Book, part: Formula, sort: str, new: Term) -> int:
     """The step that P entails (exists $x . ($x and ($x is P)))."""
     it, fact = ("is it", new), ("is", new, part)
     pair, body = ("and", it, part), ("and", it, fact)

@@ -6,6 +6,7 @@ out by one idea: with K the context of its place, (K o-s GOAL) says what the par
 from typing import Callable, NamedTuple, Sequence
 
 from domlogic.reading.nameless import is_pure
+from domlogic.search import negations
 from domlogic.search.cases import Cases, Tree
 from domlogic.search.conjunctions import Known
 from domlogic.search.formulas import (FALSE, TRUE, Formula, Path, Term, conjunction, conjuncts,
@@ -74,16 +75,26 @@ class Opening(Cases):
             first = with_facts(shape, [fact] + rest)
             return leaves, lambda goal, of_leaf: book.cut(
                 self.gather(here, first, sort), emit(goal, of_leaf))
-        if fact[0] != "not" or fact[1][0] != "not":
+        if fact[0] != "not" or fact[1][0] not in ("not", "and", "or"):
             return None
-        inner = fact[1][1]
+        said = self.negation_said(fact, sort)
 
         def known() -> Known:
-            plain = book.ent("classical", (), fact, inner, sort)
-            return [(inner, book.cut(self.project(here, fact, sort), plain))]
+            mine = self.project(here, fact, sort)
+            return [(formula, book.cut(mine, number)) for formula, number in said]
 
-        after = with_facts(shape, [*pure[:at], inner, *pure[at + 1:]])
+        after = with_facts(shape, [*pure[:at], *(it for it, _ in said), *pure[at + 1:]])
         return self.turned(here, after, sort, known)
+
+    def negation_said(self, fact: Formula, sort: str) -> Known:
+        """What (not P) says, with the steps that it does, where P is a negation, `and` or `or`."""
+        if fact[1][0] == "or":
+            return negations.both_denied(self.book, fact, sort)
+        if fact[1][0] == "and":
+            number, choice = negations.one_denied(self.book, fact, sort)
+            return [(choice, number)]
+        inner = fact[1][1]
+        return [(inner, self.book.ent("classical", (), fact, inner, sort))]
 
     def part_opened(self, place: Place, part_sort: str) -> Opened | None:
         """The cases that a part at a place makes, or None where it makes none."""

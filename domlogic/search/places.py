@@ -54,7 +54,8 @@ def moved(shapes: Shapes, known: Facts, term: Formula) -> Moved:
     path, node = node_of(shapes, known, term)
     piece = part_at(known.shape, path[:-1]) if path else node
     if piece[0] not in ("one tree", "one root"):
-        raise Fails(Refusal(known.whole, "a tree or root of its own with the node " + term_text(term)))
+        wanted = "a tree or root of its own with the node " + term_text(term)
+        raise Fails(Refusal(known.whole, wanted))
     sort, nothing = ("f", ("0f",)) if piece[0] == "one tree" else ("g", ("0g",))
     return Moved(node, piece, path[:-1], sort, nothing)
 

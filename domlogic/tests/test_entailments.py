@@ -63,6 +63,7 @@ def test_lengths():
     proved("((len $u * <$t>) and {$u + 1} = x) entails len x at f")
     proved("(($f * (len $u * (<$t> * $g))) and {$u + 1} = x) entails ($f * (len x * $g)) at f")
     proved("($f and ($f is (<$t> * len 2))) entails len 3 at f")
+    proved("((len $u * <$t>) and x = {$u + 1}) entails (exists $w . len $w) at f")
     refused("(<$t> * len $u) entails len $u at f")
 
 
@@ -82,6 +83,13 @@ def test_connectives_on_the_right():
     proved("($t and false) entails (not $t) at t")
     proved("0g entails (forall $n . ($n = p -> p = $n)) at g")
     proved("($K @t $t) entails ([$b#$j[0f]%$m] -> ($K @t $t)) at g")
+
+
+def test_negations_of_connectives():
+    proved("($t and (not ($a = $b and (not $b = $c)))) entails "
+           "(($t and (not $a = $b)) or ($t and $b = $c)) at t")
+    proved("($t and (not ($a = $b or $b = $c))) entails ($t and (not $c = $b)) at t")
+    proved("(($t and $a = $b) and (not ($b = $a and x <= y))) entails ($t and {y + 1} <= x) at t")
 
 
 def missing_of(text: str) -> tuple[str, str | None]:

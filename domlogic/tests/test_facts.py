@@ -35,6 +35,9 @@ def test_sums_of_equations_and_comparisons():
     assert follows("(0g and ($u <= x and x <= $v))", "$u <= {$v + 2}")
     assert follows("(0g and (not x <= y))", "{y + 1} <= x")
     assert follows("(0g and ((not x <= y) and y = $u))", "(not x = $u)")
+    assert follows("(0g and ({$u + 1} <= x and (0 <= $u and ({$v + 1} <= $w and y = {$w + x}))))",
+                   "{{$v + 1} + 1} <= y")
+    assert follows("(0g and ({$u + $u} <= {x + x} and y = $u))", "{y + $u} <= {x + x}")
     assert not follows("(0g and (not x <= y))", "{y + 2} <= x")
     assert not follows("(0g and $u <= x)", "$u = x")
 
@@ -52,6 +55,7 @@ def test_negated_equations():
 def test_connectives_of_facts():
     assert follows("(0g and ($a = $b and $u <= x))", "($u <= x and ($b = $a or $a = $c))")
     assert follows("(0g and $a = $b)", "($b = $c -> $a = $c)")
+    assert follows("(0g and $a = $b)", "((not $b = $a) -> $a = $c)")
     assert follows("(0g and $a = $b)", "(forall $s . ($s = $a -> $s = $b))")
     assert follows("(0g and ($f is (<$t> * $g)))", "($f is (<$t> * true))")
     assert follows("[$a#$i[$f]%$l]", "($f is true)")
