@@ -5,11 +5,14 @@ usage: python3 domlogic/fill_library.py --program PROGRAM [--into FOLDER] [FILE.
   FOLDER    where the filled files are written; without it nothing is kept
   FILE      the files to fill, if not those of examples/library
 
-Prints a line for each procedure: its file, the lines and steps that its author wrote, and the steps that were filled;
-and for each file the seconds. The exit status is 1 where a file isn't filled.
+Prints a line for each procedure: its file, the lines and steps that its author wrote, and the
+steps that were filled; and for each file the seconds. The exit status is 1 where a file isn't
+filled.
 """
 import argparse
+import glob
 import os
+import re
 import sys
 import time
 from collections.abc import Iterator
@@ -26,7 +29,7 @@ LIBRARY = os.path.join(TOP, "examples", "library")
 
 
 class Written(NamedTuple):
-    """A procedure as its author wrote it: its name, its lines without comments, and the steps of its proof."""
+    """A procedure as its author wrote it: its name, its lines without comments, its steps."""
 
     name: str
     lines: int
@@ -38,7 +41,7 @@ def written(path: str) -> Iterator[Written]:
     with open(path, encoding="utf-8") as file:
         text = file.read()
     theory = theory_of(text.encode())
-    lines = [line for line in text.split("\n") if line.strip() and not line.lstrip().startswith("//")]
+    lines = [line for line in text.split("\n") if not re.match(r"\s*(//|$)", line)]
     starts = [at for at, line in enumerate(lines) if line.startswith("proc ")] + [len(lines)]
     for procedure, start, end in zip(theory.procedures, starts, starts[1:]):
         yield Written(procedure.name, end - start, len(procedure.steps))
@@ -52,18 +55,20 @@ def told(path: str, answer: Answer, seconds: float) -> None:
         return
     filled = theory_of(answer.text.encode()).procedures
     for one, other in zip(written(path), filled):
-        print(f"{name} {one.name}: {one.lines} lines, {one.steps} steps written, {len(other.steps)} filled")
+        print(f"{name} {one.name}: {one.lines} lines, {one.steps} steps written,",
+              f"{len(other.steps)} filled")
     print(f"{name}: {seconds:.1f} s")
 
 
 def main() -> int:
     """Fills the files and returns the status."""
-    parser = argparse.ArgumentParser(description=__doc__, formatter_class=argparse.RawDescriptionHelpFormatter)
+    how = {"description": __doc__, "formatter_class": argparse.RawDescriptionHelpFormatter}
+    parser = argparse.ArgumentParser(**how)
     parser.add_argument("--program", required=True)
     parser.add_argument("--into")
     parser.add_argument("files", nargs="*")
     options = parser.parse_args()
-    here = (os.path.join(LIBRARY, name) for name in sorted(os.listdir(LIBRARY)) if name.endswith(".dom"))
+    here = sorted(glob.glob(os.path.join(LIBRARY, "*.dom")))
     status = 0
     for path in options.files or here:
         start = time.monotonic()
@@ -73,7 +78,8 @@ def main() -> int:
             status = 1
         elif options.into:
             os.makedirs(options.into, exist_ok=True)
-            with open(os.path.join(options.into, os.path.basename(path)), "w", encoding="utf-8") as file:
+            made = os.path.join(options.into, os.path.basename(path))
+            with open(made, "w", encoding="utf-8") as file:
                 file.write(answer.text)
     return status
 
