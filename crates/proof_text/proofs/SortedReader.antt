@@ -15,7 +15,7 @@ use Rattle.logic_text.specs.FormulaReaders.{formula_at}
 use Rattle.proof_text.specs.Lists.{leaf_data_sort, bracketed_at}
 use Rattle.proof_text.specs.Commands.{command_at}
 use Rattle.proof_text.specs.Theories.{declaration_at, step_tail, contents_at, procedure_tail, more_procedures_at, procedures_at, logic_lines_at, joined_lines, theory_at}
-use Rattle.proof_text.specs.SortedTheories.{mapped, sorted_step_tail, sorted_steps_at, declared_with, sorted_contents_at, sorted_procedure_tail, more_sorted_procedures_at, sorted_procedures_at, sorted_theory_at}
+use Rattle.proof_text.specs.SortedTheories.{mapped, sorted_step_tail, sorted_steps_at, declared_with, formula_sorted, command_sorted, sorted_contents_at, sorted_procedure_tail, more_sorted_procedures_at, sorted_procedures_at, sorted_theory_at}
 
 -- ---- readers in general
 
@@ -176,7 +176,7 @@ sorted-steps d depth most ts = (steps-turned d depth most).same ts
 pub contents-turned : (logics : List Var) (depth most : ℕ) (f : List ℕ) (xs ys : List ProgVar)
     (k : DataSort) → Turns (sorted_procedure logics) (contents_at depth most f xs ys k)
     (sorted_contents_at logics depth most f xs ys k)
-unfolding contents_at sorted_contents_at
+unfolding contents_at sorted_contents_at formula_sorted command_sorted
 contents-turned logics depth most f xs ys k =
     expect-turned (codes "requires") (then-turned (formula_at depth) _ _ λ p.
     expect-turned (codes "ensures") (then-turned (formula_at depth) _ _ λ q.

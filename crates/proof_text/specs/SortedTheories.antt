@@ -34,6 +34,13 @@ sorted_steps_at declared depth most = many leaf_step (sorted_step_tail declared 
 abbrev pub declared_with : List Var → List ProgVar → List ProgVar → Command → Declared
 declared_with logics xs ys c = record { variables = xs ++ (ys ++ locals_of c); logics = logics }
 
+-- a formula, and a command, with the sorts of what is declared: proofs see each as one word
+unfoldable pub formula_sorted : Declared → Named → Named
+formula_sorted declared p = sorted_formula declared p
+
+unfoldable pub command_sorted : Declared → Command → Command
+command_sorted declared c = sorted_command declared c
+
 -- what stands behind a procedure's sort
 unfoldable pub sorted_contents_at : List Var → ℕ → ℕ → List ℕ → List ProgVar → List ProgVar
     → DataSort → Read (ProcedureOf Named)
@@ -48,9 +55,9 @@ sorted_contents_at logics depth most f xs ys k =
       params = xs;
       results = ys;
       sort = k;
-      pre = sorted_formula (declared_with logics xs ys c) p;
-      post = sorted_formula (declared_with logics xs ys c) q;
-      body = sorted_command (declared_with logics xs ys c) c;
+      pre = formula_sorted (declared_with logics xs ys c) p;
+      post = formula_sorted (declared_with logics xs ys c) q;
+      body = command_sorted (declared_with logics xs ys c) c;
       proof = steps;
     }))))))
 

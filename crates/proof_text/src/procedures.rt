@@ -5,7 +5,6 @@ ghost use Rattle.std.specs.List.{list_all};
 ghost use Rattle.model_commands.specs.CommandParts.{variables_of, variables_of_command};
 ghost use Rattle.model_commands.specs.Theories.{nameless_procedure};
 ghost use Rattle.model_files.specs.FileFaults.{is_judged_at};
-ghost use Rattle.model_grammar.specs.Sorts.{sorted_command, sorted_formula};
 ghost use Rattle.dom_terms.specs.Sorts.{data_sort_of, sort_of};
 ghost use Rattle.dom_terms.specs.Terms.{logic_var_of, prog_var_of};
 ghost use Rattle.formula_syntax.specs.Formulas.{formula_of};
@@ -20,7 +19,7 @@ ghost use Rattle.declared_sorts.specs.Settled.{is_settled, procedure_settled};
 ghost use Rattle.token_readers.specs.Giving.{Gives};
 ghost use Rattle.token_readers.specs.Leaves.{lexemes_in};
 ghost use Rattle.token_readers.specs.Reading.{with_front};
-ghost use Rattle.proof_text.specs.SortedTheories.{sorted_contents_at, sorted_procedure_tail, more_sorted_procedures_at, sorted_procedures_at};
+ghost use Rattle.proof_text.specs.SortedTheories.{command_sorted, formula_sorted, sorted_contents_at, sorted_procedure_tail, more_sorted_procedures_at, sorted_procedures_at};
 
 use crate::commands::command;
 use crate::declarations::declarations;
@@ -94,7 +93,7 @@ fn unproved(alloc: Global, header: Header, pre: Formula, post: Formula, body: Co
 // Gives each variable of the requires, the ensures and the body of a procedure the sort of its
 // declaration, and tells whether each of them is declared, first with the sort that it then has,
 // and whether the requires and the ensures may be judged at the sort.
-#[tactic(auto, using(declared_sorts::proofs::Loops::last_behind))]
+#[tactic(auto, using(declared_sorts::proofs::Loops::last_behind), unfolding(crate::specs::SortedTheories::formula_sorted, crate::specs::SortedTheories::command_sorted))]
 fn set_head(
     pre: &mut Formula,
     post: &mut Formula,
@@ -104,11 +103,11 @@ fn set_head(
 ) -> Told
     requires { Knows declared.now }
     ensures pre { formula_of pre.new
-        ≡ sorted_formula (declared_of declared.now) (formula_of pre.old) }
+        ≡ formula_sorted (declared_of declared.now) (formula_of pre.old) }
     ensures post { formula_of post.new
-        ≡ sorted_formula (declared_of declared.now) (formula_of post.old) }
+        ≡ formula_sorted (declared_of declared.now) (formula_of post.old) }
     ensures body { command_of body.new
-        ≡ sorted_command (declared_of declared.now) (command_of body.old) }
+        ≡ command_sorted (declared_of declared.now) (command_of body.old) }
     ensures settled { result.is_settled ≡ list_all (is_settled (scope_in declared.now))
         (variables_of (formula_of pre.new) ++ (variables_of (formula_of post.new)
         ++ variables_of_command (command_of body.new))) }

@@ -14,6 +14,7 @@ use Rattle.theory_syntax.specs.Theories.{procedure_of}
 use Rattle.declared_sorts.specs.Declarations.{declared_of, scope_in}
 use Rattle.declared_sorts.specs.Settled.{head_settled, step_settled, procedure_settled}
 use Rattle.declared_sorts.proofs.TheoryLaws.{still_declared, with_parts}
+use Rattle.proof_text.specs.SortedTheories.{command_sorted}
 use Rattle.proof_text.proofs.JudgedLoops.{both_judged}
 use Rattle.proof_text.proofs.procedures.contents.Goals as goal
 
@@ -31,7 +32,7 @@ told_in_scope logics f scope same told head proof both h k =
     ∙ λ j. head_settled (same j) f && list_all (step_settled (same j)) f.proof
 
 pub returns-clause-settled : goal.returns-clause-settled
-unfolding scope_in
+unfolding scope_in command_sorted
 returns-clause-settled g c =
     let declared = c.new-declared.result in
     let logics = map logic_var_of c.args.logics.now in
