@@ -5,7 +5,7 @@ from typing import Iterable, NamedTuple
 from domlogic.reading.nameless import is_pure
 from domlogic.reading.sorts import walk
 from domlogic.search.book import Book
-from domlogic.search.formulas import Formula, conjunction, conjuncts, free
+from domlogic.search.formulas import TRUE, Formula, conjunction, conjuncts, free
 from domlogic.search.heaps import Case, Opened, tidied
 from domlogic.search.printing import command_text, condition_text, formula_text
 from domlogic.search.refusals import Fails
@@ -64,7 +64,7 @@ def without_noise(known: Formula, book: Book, sort: str) -> Formula:
     """The case without facts that say nothing beside it."""
     parts = conjuncts(known)
     shape = conjunction([it for it in parts if not is_pure(it)])
-    pure = tuple(it for it in parts if is_pure(it))
+    pure = tuple(it for it in parts if is_pure(it) and it != TRUE)
     new = tuple(sorted(it for it in free(known) if it[0] == "logic" and it[1] in book.new))
     return tidied(Opened(new, Case(shape, pure, sort))).case.formula
 
