@@ -101,7 +101,7 @@ class Sums:
 
 
 def summed(facts: list[Formula], goal: Formula) -> Iterator[Factors]:
-    """Gives the sums of the facts that show the goal: comparisons or false; a fact with its factor."""
+    """Gives the sums of the facts, each with its factor, that show a comparison or false."""
     sums = Sums(facts)
     rows = [difference((it[2], 1), (it[1], -1)) for it in sums.equations]
     for chosen in sums.chosen(goal):

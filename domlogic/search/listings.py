@@ -151,8 +151,8 @@ class Sum:
         return tuple(self.matcher.book.subst(self.want[at], found) for at in rest)
 
     def may_be(self, have: Formula, want: Formula, found: Found) -> bool:
-        """Says no where the left part can't be the wanted one, whatever is found: another form, or a
-        node with another name, number or list. What is below is told by the match itself."""
+        """Says no where the left part can't be the wanted one, whatever is found: another form, or
+        a node with another name, number or list. What is below is told by the match itself."""
         matcher, head = self.matcher, want[0]
         if have[0] == "and" or head in ("true", "and", "is it") or head[0] == "@":
             return True

@@ -49,8 +49,8 @@ class Progress:
 class Matcher:
     """Matches one way to prove a right side with what is known."""
 
-    def __init__(self, matching: "Matching", known: Facts, unknowns: set[Term], facts: list[Formula],
-                 progress: Progress):
+    def __init__(self, matching: "Matching", known: Facts, unknowns: set[Term],
+                 facts: list[Formula], progress: Progress):
         """`facts` are wanted too: they are asked as soon as all of their unknowns are found."""
         self.matching, self.known, self.unknowns = matching, known, unknowns
         self.book, self.shapes = known.book, known.shapes

@@ -1,4 +1,4 @@
-"""What a negation says: contradictions, and (not (P and Q)) and (not (P or Q)) as what they mean."""
+"""What a negation says: contradictions, and what (not (P and Q)) and (not (P or Q)) mean."""
 from domlogic.search.book import Book
 from domlogic.search.formulas import FALSE, Formula
 

@@ -229,8 +229,8 @@ class Generator:
         """The formula in other words, or a weaker one, by a change at one place."""
         places = Places(formula, sort)
         path, part, here = self.random.choice(places.shapes)
-        ways = [self.turned, self.bracketed, self.with_unit, self.cut_out, self.regrouped, self.less,
-                self.fact_moved, self.fact_copied, self.with_choice, None]
+        ways = [self.turned, self.bracketed, self.with_unit, self.cut_out, self.regrouped,
+                self.less, self.fact_moved, self.fact_copied, self.with_choice, None]
         ways += [self.anything, self.with_anything, self.anywhere] * 2 if self.loose else []
         way: Callable[[Formula, str], Formula] | None = self.random.choice(ways)
         return put(formula, path, way(part, here)) if way else self.equal_put(formula, places)
