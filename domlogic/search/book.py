@@ -199,18 +199,3 @@ class Book:
             cited = tuple(place.get(it, it) for it in premises)
             found.append((place[number], rule, cited, arguments, judgement))
         return found
-
-
-# For modules that look for these names here.
-from domlogic.reading.nameless import is_pure, modified
-from domlogic.search.formulas import (DEFAULTS, EMPTY, FALSE, LITERALS, NONE, PLACES, TRUE,
-                                      conjuncts)
-from domlogic.search.formulas import conjunction as conj
-from domlogic.search.formulas import disjunction as disj
-from domlogic.search.formulas import part_at as get_at
-from domlogic.search.formulas import with_facts as mk
-from domlogic.search.formulas import with_part as put
-from domlogic.search.formulas import with_part_at as put_at
-from domlogic.search.printing import (command_text, condition_text, formula_text, judgement_text,
-                                      step_text, term_text, theory_text)
-from domlogic.search.refusals import Fails

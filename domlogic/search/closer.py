@@ -1,7 +1,7 @@
 """A closer look at a case in which a command finds no axiom: what is known may say more."""
 from typing import Iterator
 
-from domlogic.search.entailments import Facts
+from domlogic.search.facts import Facts
 from domlogic.search.formulas import TRUE, Formula, part_at
 from domlogic.search.frames import Frames
 from domlogic.search.heaps import Case, Command

@@ -2,7 +2,7 @@
 from functools import partial
 from typing import Callable
 
-from domlogic.search.entailments import Facts
+from domlogic.search.facts import Facts
 from domlogic.search.formulas import NONE, Formula, free, with_part
 from domlogic.search.frames import Frames, Place
 from domlogic.search.heaps import Case, Command

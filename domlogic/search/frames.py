@@ -3,7 +3,8 @@ from typing import Callable, Iterable, NamedTuple
 
 from domlogic.reading.nameless import modified
 from domlogic.search.book import Book
-from domlogic.search.entailments import Facts, Matching
+from domlogic.search.entailments import Matching
+from domlogic.search.facts import Facts
 from domlogic.search.formulas import Formula, Path, conjunction, free, part_at
 from domlogic.search.heaps import Case, Command
 from domlogic.search.refusals import Fails, Refusal

@@ -2,7 +2,8 @@
 from typing import Any, NamedTuple, Sequence
 
 from domlogic.search.book import Book
-from domlogic.search.entailments import Facts, Matching
+from domlogic.search.entailments import Matching
+from domlogic.search.facts import Facts
 from domlogic.search.formulas import (FALSE, Formula, Term, disjunction, free, quantified,
                                       with_facts)
 

@@ -1,7 +1,7 @@
 """Where in a case the node of a command stands, and what is around it."""
 from typing import NamedTuple
 
-from domlogic.search.entailments import Facts
+from domlogic.search.facts import Facts
 from domlogic.search.formulas import Formula, Path, part_at, with_part
 from domlogic.search.printing import term_text
 from domlogic.search.refusals import Fails, Refusal
