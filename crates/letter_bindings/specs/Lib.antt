@@ -1,0 +1,5 @@
+pub mod Known
+pub mod Matching
+pub mod Shifts
+pub mod Settled
+pub mod Lines
