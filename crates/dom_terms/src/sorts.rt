@@ -1,5 +1,5 @@
 /// A sort of values.
-#[derive(Clone, Copy, Debug, PartialEq, Eq)]
+#[derive(Clone, Copy, Debug, PartialEq, Eq, Hash)]
 pub enum ValueSort {
     /// Node numbers, and the null node.
     Node,
@@ -14,7 +14,7 @@ pub enum ValueSort {
 }
 
 /// A sort of data.
-#[derive(Clone, Copy, Debug, PartialEq, Eq)]
+#[derive(Clone, Copy, Debug, PartialEq, Eq, Hash)]
 pub enum DataSort {
     /// One tree.
     Tree,
@@ -25,7 +25,7 @@ pub enum DataSort {
 }
 
 /// A sort of values, of shapes or of contexts.
-#[derive(Clone, Copy, Debug, PartialEq, Eq)]
+#[derive(Clone, Copy, Debug, PartialEq, Eq, Hash)]
 pub enum Sort {
     /// Values.
     Value(ValueSort),

@@ -8,7 +8,7 @@ use dom_terms::{Copied, DataSort, LogicVar, OutOfMemory, Term, copies, with};
 use std::alloc::Global;
 
 /// Where the hole of a concatenation is.
-#[derive(Clone, Copy, Debug, PartialEq, Eq)]
+#[derive(Clone, Copy, Debug, PartialEq, Eq, Hash)]
 pub enum Side {
     /// There is none.
     Whole,
