@@ -3,3 +3,4 @@ pub mod Matching
 pub mod Shifts
 pub mod Settled
 pub mod Lines
+pub mod Choices
