@@ -1,5 +1,5 @@
 -- What a walk that ends well knows: what it knew before, and the letters that it met.
-use Rattle.std.proofs.Common.{◌≡◌, refl, sym, ap, subst, ◌∙◌, zero, Bool, true, false, ◌&&◌, ◌||◌, Option, Some, None, is_some, List, [], ◌∷◌}
+use Rattle.std.proofs.Common.{◌≡◌, refl, sym, ap, subst, ◌∙◌, zero, Bool, true, false, cond, ◌||◌, Option, Some, None, is_some, List, [], ◌∷◌}
 use Rattle.model_shapes.proofs.Truth.{false≢true}
 use Rattle.model_shapes.specs.Sorts.{Sort, shape, context, DataSort}
 use Rattle.model_shapes.specs.Tests.{same_sort, same_data_sort, same_value}
@@ -14,6 +14,7 @@ use Rattle.rule_patterns.specs.Letter.{FormulaLetter, TermLetter, P', Q', R', A'
 use Rattle.rule_patterns.specs.Finding.{same_formula_letter, same_term_letter}
 use Rattle.rule_patterns.specs.Patterns.{DataPattern, some_data, this_data, SortPattern, some_sort, sort_of_x, data_sort, context_sort, either_sort, TermPattern, some_term, x_term, literal_p, sum_p, difference_p, appended_p, FormulaPattern, some_formula, replaced, truth_p, falsity_p, closed_p, conjunction_p, disjunction_p, implication_p, negation_p, exists_p, forall_p, equality_p, at_most_p, empty_p, bare_hole_p, node_p, tree_p, root_p, concatenation_p, sum_of_groves_p, sum_hole_p, application_p, hole_adjoint_p, context_adjoint_p, same_as_p, length_p, meets_p, JudgementPattern, entails_p}
 use Rattle.letter_bindings.specs.Known.{FormulaPlaces, TermPlaces, place_in, term_in, data_in, put_place, put_term, Known, with_formula, with_below, with_term, with_data}
+use Rattle.letter_bindings.proofs.Learning.{formula_letter-is, term_letter-is, get-place, get-term}
 use Rattle.letter_bindings.specs.Matching.{then, if_so, meet, match_data, match_x_sort, same_hole, match_hole, match_sort, same_logic, match_variable, match_term, match_below, match_formula, match_judgement, match_judgements, match_terms}
 
 -- what may be known: a formula letter, what stands below a binder for it, a term letter, the sort
@@ -108,145 +109,20 @@ module _ (t : Thing) where
   in_terms (p ∷ ps) = in_term p || in_terms ps
 
 -- WHAT IS PUT IS THERE
+put-or : {A : Type 0} (b : Bool) (v : A) (o : Option A)
+    → is_some (cond b (Some v) o) ≡ (b || is_some o)
+put-or true v o = refl
+put-or false v o = refl
+
 set-place : (b a : FormulaLetter) (p : Formula) (ps : FormulaPlaces)
     → is_some (place_in (put_place a p ps) b) ≡ (same_formula_letter b a || is_some (place_in ps b))
-set-place P' P' p ps = refl
-set-place P' Q' p ps = refl
-set-place P' R' p ps = refl
-set-place P' A' p ps = refl
-set-place P' B' p ps = refl
-set-place P' K' p ps = refl
-set-place P' H' p ps = refl
-set-place Q' P' p ps = refl
-set-place Q' Q' p ps = refl
-set-place Q' R' p ps = refl
-set-place Q' A' p ps = refl
-set-place Q' B' p ps = refl
-set-place Q' K' p ps = refl
-set-place Q' H' p ps = refl
-set-place R' P' p ps = refl
-set-place R' Q' p ps = refl
-set-place R' R' p ps = refl
-set-place R' A' p ps = refl
-set-place R' B' p ps = refl
-set-place R' K' p ps = refl
-set-place R' H' p ps = refl
-set-place A' P' p ps = refl
-set-place A' Q' p ps = refl
-set-place A' R' p ps = refl
-set-place A' A' p ps = refl
-set-place A' B' p ps = refl
-set-place A' K' p ps = refl
-set-place A' H' p ps = refl
-set-place B' P' p ps = refl
-set-place B' Q' p ps = refl
-set-place B' R' p ps = refl
-set-place B' A' p ps = refl
-set-place B' B' p ps = refl
-set-place B' K' p ps = refl
-set-place B' H' p ps = refl
-set-place K' P' p ps = refl
-set-place K' Q' p ps = refl
-set-place K' R' p ps = refl
-set-place K' A' p ps = refl
-set-place K' B' p ps = refl
-set-place K' K' p ps = refl
-set-place K' H' p ps = refl
-set-place H' P' p ps = refl
-set-place H' Q' p ps = refl
-set-place H' R' p ps = refl
-set-place H' A' p ps = refl
-set-place H' B' p ps = refl
-set-place H' K' p ps = refl
-set-place H' H' p ps = refl
+set-place b a p ps =
+    ap is_some (get-place a b p ps) ∙ put-or (same_formula_letter b a) p (place_in ps b)
 
 set-term : (b a : TermLetter) (t : Term) (ts : TermPlaces)
     → is_some (term_in (put_term a t ts) b) ≡ (same_term_letter b a || is_some (term_in ts b))
-set-term E' E' t ts = refl
-set-term E' F' t ts = refl
-set-term E' S' t ts = refl
-set-term E' I' t ts = refl
-set-term E' L' t ts = refl
-set-term E' T' t ts = refl
-set-term E' J' t ts = refl
-set-term E' M' t ts = refl
-set-term F' E' t ts = refl
-set-term F' F' t ts = refl
-set-term F' S' t ts = refl
-set-term F' I' t ts = refl
-set-term F' L' t ts = refl
-set-term F' T' t ts = refl
-set-term F' J' t ts = refl
-set-term F' M' t ts = refl
-set-term S' E' t ts = refl
-set-term S' F' t ts = refl
-set-term S' S' t ts = refl
-set-term S' I' t ts = refl
-set-term S' L' t ts = refl
-set-term S' T' t ts = refl
-set-term S' J' t ts = refl
-set-term S' M' t ts = refl
-set-term I' E' t ts = refl
-set-term I' F' t ts = refl
-set-term I' S' t ts = refl
-set-term I' I' t ts = refl
-set-term I' L' t ts = refl
-set-term I' T' t ts = refl
-set-term I' J' t ts = refl
-set-term I' M' t ts = refl
-set-term L' E' t ts = refl
-set-term L' F' t ts = refl
-set-term L' S' t ts = refl
-set-term L' I' t ts = refl
-set-term L' L' t ts = refl
-set-term L' T' t ts = refl
-set-term L' J' t ts = refl
-set-term L' M' t ts = refl
-set-term T' E' t ts = refl
-set-term T' F' t ts = refl
-set-term T' S' t ts = refl
-set-term T' I' t ts = refl
-set-term T' L' t ts = refl
-set-term T' T' t ts = refl
-set-term T' J' t ts = refl
-set-term T' M' t ts = refl
-set-term J' E' t ts = refl
-set-term J' F' t ts = refl
-set-term J' S' t ts = refl
-set-term J' I' t ts = refl
-set-term J' L' t ts = refl
-set-term J' T' t ts = refl
-set-term J' J' t ts = refl
-set-term J' M' t ts = refl
-set-term M' E' t ts = refl
-set-term M' F' t ts = refl
-set-term M' S' t ts = refl
-set-term M' I' t ts = refl
-set-term M' L' t ts = refl
-set-term M' T' t ts = refl
-set-term M' J' t ts = refl
-set-term M' M' t ts = refl
-
-formula_letter-is : (a b : FormulaLetter) → same_formula_letter a b ≡ true → a ≡ b
-formula_letter-is P' P' e = refl
-formula_letter-is Q' Q' e = refl
-formula_letter-is R' R' e = refl
-formula_letter-is A' A' e = refl
-formula_letter-is B' B' e = refl
-formula_letter-is K' K' e = refl
-formula_letter-is H' H' e = refl
-formula_letter-is a b e = false≢true e
-
-term_letter-is : (a b : TermLetter) → same_term_letter a b ≡ true → a ≡ b
-term_letter-is E' E' e = refl
-term_letter-is F' F' e = refl
-term_letter-is S' S' e = refl
-term_letter-is I' I' e = refl
-term_letter-is L' L' e = refl
-term_letter-is T' T' e = refl
-term_letter-is J' J' e = refl
-term_letter-is M' M' e = refl
-term_letter-is a b e = false≢true e
+set-term b a t ts =
+    ap is_some (get-term a b t ts) ∙ put-or (same_term_letter b a) t (term_in ts b)
 
 absorbed : (b c : Bool) → (b ≡ true → c ≡ true) → (b || c) ≡ c
 absorbed true c f = sym (f refl)
