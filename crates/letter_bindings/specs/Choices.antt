@@ -59,6 +59,14 @@ IsBodyAt (Some s) (Some q) = IsBody s q
 abbrev pub AllBodies : Known → Type 0
 AllBodies k = (a : FormulaLetter) → IsBodyAt k.x_sort (place_in k.belows a)
 
+-- the sort of $x is known where something stands below its binder
+abbrev pub IsSortedAt : Option Sort → Option Formula → Type 0
+IsSortedAt None (Some q) = ⊥
+IsSortedAt s q = Unit {0}
+
+abbrev pub SortIsKnown : Known → Type 0
+SortIsKnown k = (a : FormulaLetter) → IsSortedAt k.x_sort (place_in k.belows a)
+
 -- what is put has its letters known
 abbrev pub IsReady : Option Formula → Option Term → Option Formula → Type 0
 IsReady p e None = Unit {0}
