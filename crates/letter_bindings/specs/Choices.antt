@@ -1,8 +1,8 @@
 -- Needn't be believed: the choice of the letters that is read off what is known, and what is asked
 -- of what is known so that it agrees with it.
-use Rattle.std.specs.Prelude.{◌≡◌, ◌⊎◌, zero, List, [], ◌∷◌, Option, Some, None}
+use Rattle.std.specs.Prelude.{◌≡◌, zero, List, [], ◌∷◌, Option, Some, None}
 use Rattle.std.specs.Option.{unwrap_or}
-use Rattle.model_shapes.specs.Sorts.{Sort, value, shape, tree, grove, node_sort}
+use Rattle.model_shapes.specs.Sorts.{Sort, shape, tree, grove}
 use Rattle.model_shapes.specs.Values.{null}
 use Rattle.model_terms.specs.Variables.{bound}
 use Rattle.model_terms.specs.Terms.{Term, literal, variable}
@@ -12,7 +12,7 @@ use Rattle.rule_table.specs.Letters.{Letters, LogicVar, as_logic}
 use Rattle.rule_table.proofs.Opening.{opening}
 use Rattle.rule_table.proofs.SomeLetters.{plain_letters}
 use Rattle.rule_patterns.specs.Letter.{FormulaLetter}
-use Rattle.letter_bindings.specs.Known.{FormulaPlaces, place_in, Known}
+use Rattle.letter_bindings.specs.Known.{place_in, Known}
 
 -- the formula of a letter: what it is, or what it is below a binder with $x for what that binds
 abbrev pub formula_in : LogicVar → Option Formula → Option Formula → Formula
