@@ -1,8 +1,8 @@
 -- Needn't be believed: the choice of the letters that is read off what is known, and what is asked
 -- of what is known so that it agrees with it.
-use Rattle.std.specs.Prelude.{◌≡◌, ◌⊎◌, zero, List, [], ◌∷◌, Option, Some, None}
+use Rattle.std.specs.Prelude.{◌≡◌, zero, List, [], ◌∷◌, Option, Some, None}
 use Rattle.std.specs.Option.{unwrap_or}
-use Rattle.model_shapes.specs.Sorts.{Sort, value, shape, tree, grove, node_sort}
+use Rattle.model_shapes.specs.Sorts.{Sort, shape, tree, grove}
 use Rattle.model_shapes.specs.Values.{null}
 use Rattle.model_terms.specs.Variables.{bound}
 use Rattle.model_terms.specs.Terms.{Term, literal, variable}
@@ -12,7 +12,7 @@ use Rattle.rule_table.specs.Letters.{Letters, LogicVar, as_logic}
 use Rattle.rule_table.proofs.Opening.{opening}
 use Rattle.rule_table.proofs.SomeLetters.{plain_letters}
 use Rattle.rule_patterns.specs.Letter.{FormulaLetter}
-use Rattle.letter_bindings.specs.Known.{FormulaPlaces, place_in, Known}
+use Rattle.letter_bindings.specs.Known.{place_in, Known}
 
 -- the formula of a letter: what it is, or what it is below a binder with $x for what that binds
 abbrev pub formula_in : LogicVar → Option Formula → Option Formula → Formula
@@ -58,6 +58,14 @@ IsBodyAt (Some s) (Some q) = IsBody s q
 
 abbrev pub AllBodies : Known → Type 0
 AllBodies k = (a : FormulaLetter) → IsBodyAt k.x_sort (place_in k.belows a)
+
+-- the sort of $x is known where something stands below its binder
+abbrev pub IsSortedAt : Option Sort → Option Formula → Type 0
+IsSortedAt None (Some q) = ⊥
+IsSortedAt s q = Unit {0}
+
+abbrev pub SortIsKnown : Known → Type 0
+SortIsKnown k = (a : FormulaLetter) → IsSortedAt k.x_sort (place_in k.belows a)
 
 -- what is put has its letters known
 abbrev pub IsReady : Option Formula → Option Term → Option Formula → Type 0
