@@ -41,7 +41,7 @@ keeps-meet : {A : Type 0} (same : A → A → Bool) (o : Option A) (v : A) (n k 
 keeps-meet same None v n k f = f refl
 keeps-meet same (Some w) v n k f = keeps-if (same v w) k
 
-keeps-then : (k : Known) (o : Option Known) (g : Known → Option Known) → Keeps k o
+pub keeps-then : (k : Known) (o : Option Known) (g : Known → Option Known) → Keeps k o
     → ((n : Known) → Keeps n (g n)) → Keeps k (then o g)
 keeps-then k None g h f = tt
 keeps-then k (Some n) g h f = by (g n) (f n)

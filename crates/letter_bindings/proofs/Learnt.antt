@@ -158,7 +158,7 @@ module _ (t : Thing) where
   or_or false true d = refl
   or_or false false d = refl
 
-  learns-then : (b c : Bool) (k : Known) (o : Option Known) (g : Known → Option Known)
+  pub learns-then : (b c : Bool) (k : Known) (o : Option Known) (g : Known → Option Known)
       → Learns t b k o → ((n : Known) → Learns t c n (g n)) → Learns t (b || c) k (then o g)
   learns-then b c k None g h f = tt
   learns-then b c k (Some n) g h f = by (g n) (f n)
