@@ -1,7 +1,8 @@
--- Where the binders of what is written bind variables of their sorts, what a walk knows below a
+-- Where the outermost binders of what is written bind variables of their sorts, what a walk knows below a
 -- binder is a body for the sort of $x.
-use Rattle.std.proofs.Common.{◌≡◌, zero, refl, sym, ap, subst, ◌∙◌, Bool, true, false, cond, inl, inr, Option, Some, None, List, [], ◌∷◌}
-use Rattle.model_shapes.proofs.Truth.{false≢true}
+use Rattle.std.proofs.Common.{◌≡◌, zero, refl, sym, ap, subst, ◌∙◌, Bool, true, false, ◌&&◌, cond, inl, inr, Option, Some, None, List, [], ◌∷◌}
+use Rattle.std.specs.Prelude.{◌⊎◌}
+use Rattle.model_shapes.proofs.Truth.{false≢true, both_true}
 use Rattle.model_shapes.specs.Sorts.{Sort, shape, context, DataSort}
 use Rattle.model_shapes.specs.Tests.{same_sort, same_data_sort, same_value}
 use Rattle.model_shapes.proofs.Tests.{same_sort-is}
@@ -14,7 +15,7 @@ use Rattle.model_formulas.specs.Substitution.{FreeIn, closing, formula_with}
 use Rattle.model_formulas.specs.Deciding.{closing_at}
 use Rattle.model_formulas.specs.Nameless.{nameless}
 use Rattle.model_formulas.proofs.Nameless.{nameless-exists, nameless-forall}
-use Rattle.model_commands.specs.Theories.{Judgement, entails}
+use Rattle.model_commands.specs.Theories.{JudgementOf, Judgement, entails, triple, nameless_judgement}
 use Rattle.rule_table.specs.Letters.{LogicVar}
 use Rattle.rule_patterns.specs.Constant.{constant_formula}
 use Rattle.rule_patterns.specs.Letter.{FormulaLetter, TermLetter, P', E'}
@@ -23,7 +24,7 @@ use Rattle.rule_patterns.specs.Patterns.{DataPattern, some_data, this_data, Sort
 use Rattle.letter_bindings.specs.Known.{FormulaPlaces, place_in, term_in, data_in, Known, with_formula, with_below, with_term, with_data}
 use Rattle.letter_bindings.specs.Matching.{then, if_so, meet, match_data, match_x_sort, same_hole, match_hole, match_sort, same_logic, match_variable, match_term, match_below, match_formula, match_judgement, match_judgements, match_terms}
 use Rattle.letter_bindings.specs.Choices.{IsBody, IsBodyAt, AllBodies}
-use Rattle.letter_bindings.specs.Bodies.{BindsSorted, JudgementSorted, EachSorted, CitedSorted}
+use Rattle.letter_bindings.specs.Bodies.{BindsSorted, JudgementSorted}
 use Rattle.letter_bindings.proofs.FreeOnes.{free-from, not-lowest}
 use Rattle.letter_bindings.proofs.Learning.{get-place}
 
@@ -198,18 +199,63 @@ keeps-bound p s r body k = by (match_x_sort s k) (keeps-x_sort s k) (sorted s k)
     by None f e = tt
     by (Some n) f e = at n f e (match_below p r n) (below-keeps s p r body n)
 
+-- no binder stands in the pattern
+abbrev pub binds_none : FormulaPattern → Bool
+binds_none (exists_p p) = false
+binds_none (forall_p p) = false
+binds_none (conjunction_p p q) = binds_none p && binds_none q
+binds_none (disjunction_p p q) = binds_none p && binds_none q
+binds_none (implication_p p q) = binds_none p && binds_none q
+binds_none (negation_p p) = binds_none p
+binds_none (node_p a b p c) = binds_none p
+binds_none (tree_p p) = binds_none p
+binds_none (root_p p) = binds_none p
+binds_none (concatenation_p d p q) = binds_none p && binds_none q
+binds_none (sum_of_groves_p p q) = binds_none p && binds_none q
+binds_none (sum_hole_p p q) = binds_none p && binds_none q
+binds_none (application_p h p q) = binds_none p && binds_none q
+binds_none (hole_adjoint_p p q) = binds_none p && binds_none q
+binds_none (context_adjoint_p h p q) = binds_none p && binds_none q
+binds_none (meets_p s a p) = binds_none p
+binds_none p = true
+
+abbrev pub judgement_binds_none : JudgementPattern → Bool
+judgement_binds_none (entails_p p q o) = binds_none p && binds_none q
+
+abbrev pub each_binds_none : List JudgementPattern → Bool
+each_binds_none [] = true
+each_binds_none (p ∷ ps) = judgement_binds_none p && each_binds_none ps
+
+-- no binder is met, or each binds variables of its sort
+abbrev Fine : FormulaPattern → Formula → Type 0
+Fine p f = (binds_none p ≡ true) ⊎ BindsSorted f
+
+fine-both : (b c : Bool) (X Y : Type 0) → ((b && c) ≡ true) ⊎ (X × Y)
+    → ((b ≡ true) ⊎ X) × ((c ≡ true) ⊎ Y)
+fine-both b c X Y (inl e) =
+    let h : (b ≡ true) × (c ≡ true) = both_true b c e in (inl h.0, inl h.1)
+fine-both b c X Y (inr h) = (inr h.0, inr h.1)
+
+fine-bound : {X : Type 0} → (false ≡ true) ⊎ X → X
+fine-bound (inl e) = false≢true e
+fine-bound (inr h) = h
+
 keeps-both : (p q : FormulaPattern) (r s : Formula)
-    → ((k : Known) → Keeps k (match_formula p r k))
-    → ((k : Known) → Keeps k (match_formula q s k)) → (k : Known)
+    → (Fine p r → (k : Known) → Keeps k (match_formula p r k))
+    → (Fine q s → (k : Known) → Keeps k (match_formula q s k))
+    → ((binds_none p && binds_none q) ≡ true) ⊎ (BindsSorted r × BindsSorted s) → (k : Known)
     → Keeps k (then (match_formula p r k) (match_formula q s))
-keeps-both p q r s f g k = keeps-then k (match_formula p r k) (match_formula q s) (f k) g
+keeps-both p q r s f g w k =
+    let v : Fine p r × Fine q s =
+    fine-both (binds_none p) (binds_none q) (BindsSorted r) (BindsSorted s) w in
+    keeps-then k (match_formula p r k) (match_formula q s) (f v.0 k) (g v.1)
 
 keeps-two : (p q : TermPattern) (a b : Term) (k : Known)
     → Keeps k (then (match_term p a k) (match_term q b))
 keeps-two p q a b k =
     keeps-then k (match_term p a k) (match_term q b) (keeps-term p a k) (keeps-term q b)
 
-pub keeps-formula : (p : FormulaPattern) (f : Formula) → BindsSorted f → (k : Known)
+pub keeps-formula : (p : FormulaPattern) (f : Formula) → Fine p f → (k : Known)
     → Keeps k (match_formula p f k)
 keeps-formula (some_formula a) f w k =
     keeps-meet same_formula (place_in k.formulas a) f (with_formula a f k) k (λ e b. b)
@@ -219,14 +265,14 @@ keeps-formula (closed_p c) f w k = keeps-if (same_formula (constant_formula c) f
 keeps-formula truth_p truth w k = λ b. b
 keeps-formula falsity_p falsity w k = λ b. b
 keeps-formula (conjunction_p p q) (conjunction r s) w k =
-    keeps-both p q r s (keeps-formula p r w.0) (keeps-formula q s w.1) k
+    keeps-both p q r s (keeps-formula p r) (keeps-formula q s) w k
 keeps-formula (disjunction_p p q) (disjunction r s) w k =
-    keeps-both p q r s (keeps-formula p r w.0) (keeps-formula q s w.1) k
+    keeps-both p q r s (keeps-formula p r) (keeps-formula q s) w k
 keeps-formula (implication_p p q) (implication r s) w k =
-    keeps-both p q r s (keeps-formula p r w.0) (keeps-formula q s w.1) k
+    keeps-both p q r s (keeps-formula p r) (keeps-formula q s) w k
 keeps-formula (negation_p p) (negation r) w k = keeps-formula p r w k
-keeps-formula (exists_p p) (existential s r) w k = keeps-bound p s r w k
-keeps-formula (forall_p p) (universal s r) w k = keeps-bound p s r w k
+keeps-formula (exists_p p) (existential s r) w k = keeps-bound p s r (fine-bound w) k
+keeps-formula (forall_p p) (universal s r) w k = keeps-bound p s r (fine-bound w) k
 keeps-formula (equality_p p q) (equality a b) w k = keeps-two p q a b k
 keeps-formula (at_most_p p q) (at_most a b) w k = keeps-two p q a b k
 keeps-formula (empty_p h) (empty j) w k = keeps-data h j k
@@ -243,19 +289,19 @@ keeps-formula (root_p p) (one_root r) w k = keeps-formula p r w k
 keeps-formula (concatenation_p d p q) (concatenation e r s) w k =
     keeps-then k (if_so (same_side d e) k) (λ n. then (match_formula p r n) (match_formula q s))
     (keeps-if (same_side d e) k)
-    (keeps-both p q r s (keeps-formula p r w.0) (keeps-formula q s w.1))
+    (keeps-both p q r s (keeps-formula p r) (keeps-formula q s) w)
 keeps-formula (sum_of_groves_p p q) (grove_sum r s) w k =
-    keeps-both p q r s (keeps-formula p r w.0) (keeps-formula q s w.1) k
+    keeps-both p q r s (keeps-formula p r) (keeps-formula q s) w k
 keeps-formula (sum_hole_p p q) (grove_sum_hole r s) w k =
-    keeps-both p q r s (keeps-formula p r w.0) (keeps-formula q s w.1) k
+    keeps-both p q r s (keeps-formula p r) (keeps-formula q s) w k
 keeps-formula (application_p h p q) (application j r s) w k =
     keeps-then k (match_data h j k) (λ n. then (match_formula p r n) (match_formula q s))
-    (keeps-data h j k) (keeps-both p q r s (keeps-formula p r w.0) (keeps-formula q s w.1))
+    (keeps-data h j k) (keeps-both p q r s (keeps-formula p r) (keeps-formula q s) w)
 keeps-formula (hole_adjoint_p p q) (hole_adjoint r s) w k =
-    keeps-both p q r s (keeps-formula p r w.0) (keeps-formula q s w.1) k
+    keeps-both p q r s (keeps-formula p r) (keeps-formula q s) w k
 keeps-formula (context_adjoint_p h p q) (context_adjoint j r s) w k =
     keeps-then k (match_data h j k) (λ n. then (match_formula p r n) (match_formula q s))
-    (keeps-data h j k) (keeps-both p q r s (keeps-formula p r w.0) (keeps-formula q s w.1))
+    (keeps-data h j k) (keeps-both p q r s (keeps-formula p r) (keeps-formula q s) w)
 keeps-formula (same_as_p p) (same_as a) w k = keeps-term p a k
 keeps-formula (length_p p) (length_is a) w k = keeps-term p a k
 keeps-formula (meets_p o p q) (value_meets s a r) w k =
@@ -265,21 +311,25 @@ keeps-formula (meets_p o p q) (value_meets s a r) w k =
     (keeps-formula q r w))
 keeps-formula p f w k = tt
 
-pub keeps-judgement : (p : JudgementPattern) (j : Judgement) → JudgementSorted j → (k : Known)
-    → Keeps k (match_judgement p j k)
-keeps-judgement (entails_p p q o) (entails r s u) w k = keeps-then k (match_formula p r k)
-    (λ n. then (match_formula q s n) (match_sort o u)) (keeps-formula p r w.0 k)
-    (λ n. keeps-then n (match_formula q s n) (match_sort o u) (keeps-formula q s w.1 n)
+pub keeps-judgement : (p : JudgementPattern) (j : Judgement) → (judgement_binds_none p ≡ true) ⊎ JudgementSorted j
+    → (k : Known) → Keeps k (match_judgement p j k)
+keeps-judgement (entails_p p q o) (entails r s u) w k =
+    let v : Fine p r × Fine q s =
+    fine-both (binds_none p) (binds_none q) (BindsSorted r) (BindsSorted s) w in
+    keeps-then k (match_formula p r k) (λ n. then (match_formula q s n) (match_sort o u))
+    (keeps-formula p r v.0 k)
+    (λ n. keeps-then n (match_formula q s n) (match_sort o u) (keeps-formula q s v.1 n)
     (keeps-sort o u))
 keeps-judgement p j w k = tt
 
-pub keeps-judgements : (ps : List JudgementPattern) (js : List Judgement) → EachSorted js
-    → (k : Known) → Keeps k (match_judgements ps js k)
-keeps-judgements [] [] w k = λ b. b
-keeps-judgements (p ∷ ps) (j ∷ js) w k =
-    keeps-then k (match_judgement p j k) (match_judgements ps js) (keeps-judgement p j w.0 k)
-    (keeps-judgements ps js w.1)
-keeps-judgements ps js w k = tt
+pub keeps-judgements : (ps : List JudgementPattern) → each_binds_none ps ≡ true
+    → (js : List Judgement) (k : Known) → Keeps k (match_judgements ps js k)
+keeps-judgements [] e [] k = λ b. b
+keeps-judgements (p ∷ ps) e (j ∷ js) k =
+    let v : (judgement_binds_none p ≡ true) × (each_binds_none ps ≡ true) = both_true _ _ e in
+    keeps-then k (match_judgement p j k) (match_judgements ps js) (keeps-judgement p j (inl v.0) k)
+    (keeps-judgements ps v.1 js)
+keeps-judgements ps e js k = tt
 
 pub keeps-terms : (ps : List TermPattern) (es : List Term) (k : Known)
     → Keeps k (match_terms ps es k)
@@ -320,3 +370,7 @@ nameless-sorted (hole_adjoint p q) = (nameless-sorted p, nameless-sorted q)
 nameless-sorted (context_adjoint h p q) = (nameless-sorted p, nameless-sorted q)
 nameless-sorted (value_meets s a p) = nameless-sorted p
 nameless-sorted p = tt
+
+pub nameless_judgement-sorted : (j : JudgementOf Named) → JudgementSorted (nameless_judgement j)
+nameless_judgement-sorted (entails p q s) = (nameless-sorted p, nameless-sorted q)
+nameless_judgement-sorted (triple p c q d) = tt

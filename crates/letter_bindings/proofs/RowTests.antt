@@ -5,10 +5,11 @@ use Rattle.model_shapes.specs.Values.{Name}
 use Rattle.model_shapes.proofs.Truth.{both_true}
 use Rattle.rule_table.specs.Entries.{Entry}
 use Rattle.rule_table.specs.Table.{entailments}
-use Rattle.rule_patterns.specs.Letter.{P', E'}
+use Rattle.rule_patterns.specs.Letter.{FormulaLetter, P', Q', R', A', B', K', H', E'}
 use Rattle.rule_patterns.specs.Patterns.{ConditionPattern, not_free_p, pure_p, RequirementPattern, of_sort_p, x_of_sort_p, LinePattern}
 use Rattle.rule_patterns.specs.Ways.{Way, matched, computed, ways, way_in, way_of}
 use Rattle.letter_bindings.specs.Lines.{line_simple}
+use Rattle.letter_bindings.proofs.KeptBodies.{each_binds_none}
 use Rattle.letter_bindings.proofs.Learnt.{Thing, formula_thing, below_thing, term_thing, x_sort_thing, put_thing, in_terms, in_judgement, in_judgements}
 
 -- it stands in the arguments or the conclusion
@@ -42,10 +43,20 @@ put_ready p =
     not (in_conclusion put_thing p || in_judgements put_thing p.premises)
     || (in_conclusion (term_thing E') p && in_conclusion (below_thing P') p)
 
+-- where something stands below a binder, the sort of $x is known
+abbrev pub below_ready : LinePattern → FormulaLetter → Bool
+below_ready p a = not (in_conclusion (below_thing a) p) || in_conclusion x_sort_thing p
+
+abbrev pub belows_ready : LinePattern → Bool
+belows_ready p =
+    below_ready p P' && (below_ready p Q' && (below_ready p R' && (below_ready p A' &&
+    (below_ready p B' && (below_ready p K' && below_ready p H')))))
+
 abbrev pub row_ready : LinePattern → Bool
 row_ready p =
-    (line_simple p && at_most_one p.conditions)
-    && (conditions_ready p p.conditions && (requirements_ready p p.requirements && put_ready p))
+    (line_simple p && (at_most_one p.conditions && each_binds_none p.premises))
+    && (conditions_ready p p.conditions
+    && (requirements_ready p p.requirements && (put_ready p && belows_ready p)))
 
 abbrev pub all_ready : List LinePattern → Bool
 all_ready [] = true
@@ -85,18 +96,34 @@ ready-of name ps e = sym (ap way_ready e) ∙ named_ready entailments ways each_
 pub record Ready (p : LinePattern) : Type 0 where
   pub simple : line_simple p ≡ true
   pub one : at_most_one p.conditions ≡ true
+  pub unbound : each_binds_none p.premises ≡ true
   pub conditions : conditions_ready p p.conditions ≡ true
   pub requirements : requirements_ready p p.requirements ≡ true
   pub put : put_ready p ≡ true
+  pub belows : belows_ready p ≡ true
 
 pub ready-parts : (p : LinePattern) → row_ready p ≡ true → Ready p
 ready-parts p e =
-    let a : ((line_simple p && at_most_one p.conditions) ≡ true)
-    × ((conditions_ready p p.conditions && (requirements_ready p p.requirements && put_ready p))
-    ≡ true) = both_true _ _ e in
-    let b : (line_simple p ≡ true) × (at_most_one p.conditions ≡ true) = both_true _ _ a.0 in
-    let c : (conditions_ready p p.conditions ≡ true)
-    × ((requirements_ready p p.requirements && put_ready p) ≡ true) = both_true _ _ a.1 in
-    let d : (requirements_ready p p.requirements ≡ true) × (put_ready p ≡ true) =
-    both_true _ _ c.1 in
-    record { simple = b.0; one = b.1; conditions = c.0; requirements = d.0; put = d.1 }
+    let a : ((line_simple p && (at_most_one p.conditions && each_binds_none p.premises)) ≡ true)
+    × ((conditions_ready p p.conditions
+    && (requirements_ready p p.requirements && (put_ready p && belows_ready p))) ≡ true) =
+    both_true _ _ e in
+    let b : (line_simple p ≡ true)
+    × ((at_most_one p.conditions && each_binds_none p.premises) ≡ true) = both_true _ _ a.0 in
+    let c : (at_most_one p.conditions ≡ true) × (each_binds_none p.premises ≡ true) =
+    both_true _ _ b.1 in
+    let d : (conditions_ready p p.conditions ≡ true)
+    × ((requirements_ready p p.requirements && (put_ready p && belows_ready p)) ≡ true) =
+    both_true _ _ a.1 in
+    let f : (requirements_ready p p.requirements ≡ true)
+    × ((put_ready p && belows_ready p) ≡ true) = both_true _ _ d.1 in
+    let g : (put_ready p ≡ true) × (belows_ready p ≡ true) = both_true _ _ f.1 in
+    record {
+      simple = b.0;
+      one = c.0;
+      unbound = c.1;
+      conditions = d.0;
+      requirements = f.0;
+      put = g.0;
+      belows = g.1;
+    }

@@ -3,25 +3,33 @@ use Rattle.std.proofs.Common.{◌≡◌, zero, suc, refl, sym, ap, subst, ◌∙
 use Rattle.std.specs.Prelude.{◌⊎◌}
 use Rattle.std.specs.List.{list_all}
 use Rattle.model_shapes.proofs.Truth.{false≢true, both_true, and_from}
-use Rattle.model_terms.specs.Terms.{Term}
+use Rattle.model_shapes.specs.Sorts.{Sort}
+use Rattle.model_terms.specs.Terms.{Term, variable}
 use Rattle.model_formulas.specs.Formulas.{Formula}
+use Rattle.model_formulas.specs.SameFormulas.{formula_eq}
+use Rattle.model_formulas.specs.Substitution.{formula_with, closing}
 use Rattle.model_commands.specs.Theories.{Judgement}
-use Rattle.rule_table.specs.Letters.{Letters, LogicVar}
+use Rattle.rule_table.specs.Letters.{Letters, LogicVar, as_logic}
 use Rattle.rule_table.specs.Conditions.{Holds, side_of}
 use Rattle.rule_table.specs.Entries.{Row}
 use Rattle.rule_table.specs.Verdicts.{Written, AllMet, Concludes, Follows, MeetsFirst, MeetsAll, side_at, Verdict, instance_verdict, shape_verdict, premises_verdict, side_verdict}
+use Rattle.rule_table.proofs.Decisions.{both_hold}
+use Rattle.rule_table.proofs.NewNames.{new_name, new_name-new}
+use Rattle.rule_table.proofs.Opening.{opening}
 use Rattle.rule_patterns.specs.Letter.{FormulaLetter, TermLetter, DataLetter, P', Q', R', A', B', K', H', E', F', S', I', L', T', J', M', h', k', j', formula_at, term_at, data_at}
 use Rattle.rule_patterns.specs.Patterns.{RequirementPattern, of_sort_p, x_of_sort_p, ConditionPattern, not_free_p, pure_p, LinePattern, requirements_of, condition_of, conditions_of, terms_of, judgement_of, judgements_of, line_of}
 use Rattle.letter_bindings.specs.Known.{place_in, term_in, data_in, Known, nothing, Says, Agrees, Exact}
 use Rattle.letter_bindings.specs.Matching.{match_terms, match_judgement}
 use Rattle.letter_bindings.specs.Settled.{settle}
-use Rattle.letter_bindings.specs.Choices.{choice, IsBodyAt, AllBodies, IsReady, PutIsReady, IsApart}
-use Rattle.letter_bindings.specs.Bodies.{CitedSorted, WrittenSorted}
+use Rattle.letter_bindings.specs.Choices.{choice, IsBody, IsBodyAt, AllBodies, IsSortedAt, SortIsKnown, IsReady, PutIsReady, IsApart}
+use Rattle.letter_bindings.specs.Bodies.{JudgementSorted}
 use Rattle.letter_bindings.specs.Lines.{walk_conclusion, walk_premises, requirement_met, condition_met, first_side, verdict_settled, verdict_followed, verdict_concluded, row_verdict}
+use Rattle.letter_bindings.proofs.Closing.{closed-body}
+use Rattle.letter_bindings.proofs.OtherVariables.{body-again}
 use Rattle.letter_bindings.proofs.WalkedLines.{conclusion-exact, premises-exact}
-use Rattle.letter_bindings.proofs.Settling.{settled-agrees, settled-new, settled-one, unsettled}
+use Rattle.letter_bindings.proofs.Settling.{each-test, agrees-bodies, settled-agrees, settled-new, settled-one, unsettled}
 use Rattle.letter_bindings.proofs.Learnt.{Thing, formula_thing, below_thing, term_thing, x_sort_thing, put_thing, knows, in_terms, in_judgement, in_judgements, Learns, learns-then, learns-terms, learns-judgement, learns-judgements}
-use Rattle.letter_bindings.proofs.RowTests.{in_conclusion, at_most_one, condition_ready, conditions_ready, requirement_ready, requirements_ready, put_ready, row_ready, Ready, ready-parts}
+use Rattle.letter_bindings.proofs.RowTests.{in_conclusion, at_most_one, condition_ready, conditions_ready, requirement_ready, requirements_ready, put_ready, below_ready, row_ready, Ready, ready-parts}
 use Rattle.letter_bindings.proofs.KeptBodies.{Keeps, keeps-then, keeps-terms, keeps-judgement, keeps-judgements}
 use Rattle.letter_bindings.proofs.Asked.{EachKnown, all-met, met-all, place_of, as_list, XIs, holds-where, fails-where}
 
@@ -80,6 +88,51 @@ nothing-agrees l = record {
 nothing-bodies : AllBodies nothing
 nothing-bodies a = subst (λ o. IsBodyAt None o) (sym (no-formula a)) tt
 
+-- BODIES
+body-decided : (s : Sort) (q : Formula) → Dec (IsBody s q)
+body-decided s q = by (formula_eq (formula_with (closing (as_logic x)) opened) q)
+  where
+    x : LogicVar
+    x = record { name = new_name q; sort = s }
+
+    opened : Formula
+    opened = formula_with (opening (variable (as_logic x))) q
+
+    by : Dec (formula_with (closing (as_logic x)) opened ≡ q) → Dec (IsBody s q)
+    by (yes e) = yes (subst (IsBody s) e (closed-body x opened))
+    by (no n) = no (λ b. n (body-again x q b (new_name-new q s)))
+
+body-decided-at : (s : Option Sort) (o : Option Formula) → Dec (IsBodyAt s o)
+body-decided-at None None = yes tt
+body-decided-at (Some s) None = yes tt
+body-decided-at None (Some q) = no (λ h. h)
+body-decided-at (Some s) (Some q) = body-decided s q
+
+each-decided : (P : FormulaLetter → Type 0) → ((a : FormulaLetter) → Dec (P a))
+    → Dec ((a : FormulaLetter) → P a)
+each-decided P d = by (both_hold (d P') (both_hold (d Q') (both_hold (d R') (both_hold (d A')
+    (both_hold (d B') (both_hold (d K') (d H')))))))
+  where
+    by : Dec ((P P') × ((P Q') × ((P R') × ((P A') × ((P B') × ((P K') × (P H')))))))
+        → Dec ((a : FormulaLetter) → P a)
+    by (yes h) = yes (λ a. at h a)
+      where
+        at : (P P') × ((P Q') × ((P R') × ((P A') × ((P B') × ((P K') × (P H'))))))
+            → (a : FormulaLetter) → P a
+        at h P' = h.0
+        at h Q' = h.1.0
+        at h R' = h.1.1.0
+        at h A' = h.1.1.1.0
+        at h B' = h.1.1.1.1.0
+        at h K' = h.1.1.1.1.1.0
+        at h H' = h.1.1.1.1.1.1
+    by (no n) =
+        no (λ f. n (f P', (f Q', (f R', (f A', (f B', (f K', f H')))))))
+
+bodies-decided : (k : Known) → Dec (AllBodies k)
+bodies-decided k = each-decided (λ a. IsBodyAt k.x_sort (place_in k.belows a))
+    (λ a. body-decided-at k.x_sort (place_in k.belows a))
+
 -- TESTS
 or-true : (b c : Bool) → b ≡ true → (b || c) ≡ true
 or-true true c e = refl
@@ -108,7 +161,7 @@ put-ready (Some p) None (Some q) (inr h) = false≢true h.0
 put-ready None e (Some q) (inl h) = false≢true (sym h)
 put-ready None e (Some q) (inr h) = false≢true h.1
 
-module _ (p : LinePattern) (r : Ready p) (w : Written) (s : WrittenSorted w) where
+module _ (p : LinePattern) (r : Ready p) (w : Written) where
   abbrev row : Row
   row l = line_of l p
 
@@ -120,10 +173,10 @@ module _ (p : LinePattern) (r : Ready p) (w : Written) (s : WrittenSorted w) whe
       (learns-terms t p.arguments w.arguments nothing)
       (learns-judgement t p.conclusion w.conclusion)
 
-  keeps-conclusion : Keeps nothing (walk_conclusion p w)
-  keeps-conclusion = keeps-then nothing (match_terms p.arguments w.arguments nothing)
+  keeps-conclusion : JudgementSorted w.conclusion → Keeps nothing (walk_conclusion p w)
+  keeps-conclusion s = keeps-then nothing (match_terms p.arguments w.arguments nothing)
       (match_judgement p.conclusion w.conclusion) (keeps-terms p.arguments w.arguments nothing)
-      (keeps-judgement p.conclusion w.conclusion s.0)
+      (keeps-judgement p.conclusion w.conclusion (inr s))
 
   -- and after the premises
   learns-premises : (t : Thing) (js : Option (List Judgement)) (k : Known)
@@ -131,10 +184,9 @@ module _ (p : LinePattern) (r : Ready p) (w : Written) (s : WrittenSorted w) whe
   learns-premises t None k = tt
   learns-premises t (Some js) k = learns-judgements t p.premises js k
 
-  keeps-premises : (js : Option (List Judgement)) → CitedSorted js → (k : Known)
-      → Keeps k (walk_premises p js k)
-  keeps-premises None c k = tt
-  keeps-premises (Some js) c k = keeps-judgements p.premises js c k
+  keeps-premises : (js : Option (List Judgement)) (k : Known) → Keeps k (walk_premises p js k)
+  keeps-premises None k = tt
+  keeps-premises (Some js) k = keeps-judgements p.premises r.unbound js k
 
   module _ (k : Known) (e : walk_conclusion p w ≡ Some k) where
     k-known : (t : Thing) → knows t k ≡ (in_conclusion t p || knows t nothing)
@@ -143,13 +195,34 @@ module _ (p : LinePattern) (r : Ready p) (w : Written) (s : WrittenSorted w) whe
     k-knows : (t : Thing) → in_conclusion t p ≡ true → knows t k ≡ true
     k-knows t i = k-known t ∙ or-true (in_conclusion t p) (knows t nothing) i
 
-    k-bodies : AllBodies k
-    k-bodies = let b : Keeps nothing (Some k) = subst (λ o. Keeps nothing o) e keeps-conclusion in
+    k-bodies : JudgementSorted w.conclusion → AllBodies k
+    k-bodies s =
+        let b : Keeps nothing (Some k) = subst (λ o. Keeps nothing o) e (keeps-conclusion s) in
         b nothing-bodies
 
-    abbrev PutCase : Known → Type 0
-    PutCase n = (knows put_thing n ≡ false)
-        ⊎ ((knows (term_thing E') n ≡ true) × (knows (below_thing P') n ≡ true))
+    k-sorted : SortIsKnown k
+    k-sorted a = at k.x_sort (place_in k.belows a) (implied (in_conclusion (below_thing a) p)
+        (in_conclusion x_sort_thing p) (each-below a) (below-unknown a) (k-known (below_thing a))
+        (k-known x_sort_thing))
+      where
+        below-unknown : (a : FormulaLetter) → knows (below_thing a) nothing ≡ false
+        below-unknown a = ap is_some (no-formula a)
+
+        at : (s : Option Sort) (q : Option Formula)
+            → (is_some q ≡ true → is_some s ≡ true) → IsSortedAt s q
+        at None (Some q) f = false≢true (f refl)
+        at (Some s) (Some q) f = tt
+        at None None f = tt
+        at (Some s) None f = tt
+
+        implied : (b c : Bool) {d f g : Bool} → (not b || c) ≡ true → f ≡ false → d ≡ (b || f)
+            → g ≡ (c || false) → d ≡ true → g ≡ true
+        implied true true i j h m n = m
+        implied true false i j h m n = false≢true i
+        implied false c i j h m n = false≢true (sym (h ∙ j) ∙ n)
+
+        each-below : (a : FormulaLetter) → below_ready p a ≡ true
+        each-below = each-test (below_ready p) r.belows
 
     k-ready : PutIsReady k
     k-ready = put-ready k.belows.P k.terms.E k.put (⊎_elim
@@ -202,7 +275,7 @@ module _ (p : LinePattern) (r : Ready p) (w : Written) (s : WrittenSorted w) whe
         settled-new n b f (as_list o) in
         (choice n h.0, (h.1, h.2))
 
-    module _ (m : list_all (requirement_met k) p.requirements ≡ true)
+    module _ (b : AllBodies k) (m : list_all (requirement_met k) p.requirements ≡ true)
         (some : (l : Letters) × Concludes w (row l)) where
       module _ (n : Known) (f : walk_premises p w.premises k ≡ Some n) where
         n-known : (t : Thing) → knows t n ≡ (in_judgements t p.premises || knows t k)
@@ -214,8 +287,8 @@ module _ (p : LinePattern) (r : Ready p) (w : Written) (s : WrittenSorted w) whe
 
         n-bodies : AllBodies n
         n-bodies =
-            let b : Keeps k (Some n) = subst (λ o. Keeps k o) f (keeps-premises w.premises s.1 k) in
-            b k-bodies
+            let c : Keeps k (Some n) = subst (λ o. Keeps k o) f (keeps-premises w.premises k) in
+            c b
 
         n-ready : PutIsReady n
         n-ready = put-ready n.belows.P n.terms.E n.put (⊎_elim
@@ -301,30 +374,49 @@ module _ (p : LinePattern) (r : Ready p) (w : Written) (s : WrittenSorted w) whe
       )
       by-premises (Some n) f = by-settled n f (settle n) refl
 
-    by-requirements : (b : Bool) → list_all (requirement_met k) p.requirements ≡ b
+    by-requirements : AllBodies k → (c : Bool) → list_all (requirement_met k) p.requirements ≡ c
         → (o : Option (Option LogicVar)) → settle k ≡ o
         → RowIs row w
-        (cond (b && is_some o) (verdict_followed p (walk_premises p w.premises k)) shape_verdict)
-    by-requirements false m o g = λ l c. false≢true
+        (cond (c && is_some o) (verdict_followed p (walk_premises p w.premises k)) shape_verdict)
+    by-requirements b false m o g = λ l c. false≢true
         (sym m ∙ met-all k l (concluded l c) p.requirements (each-known p.requirements r.requirements)
         c.1)
-    by-requirements true m None g = λ l c. unsettled k g k-ready l (concluded l c)
-    by-requirements true m (Some x) g =
-        let a : (l : Letters) × (Agrees l k × XIs x l.x None) = agreed k k-bodies x g None in
-        by-premises m (a.0, concludes a.0 a.1.0 m) (walk_premises p w.premises k) refl
+    by-requirements b true m None g = λ l c. unsettled k g k-ready l (concluded l c)
+    by-requirements b true m (Some x) g =
+        let a : (l : Letters) × (Agrees l k × XIs x l.x None) = agreed k b x g None in
+        by-premises b m (a.0, concludes a.0 a.1.0 m) (walk_premises p w.premises k) refl
 
-  by-conclusion : (o : Option Known) → walk_conclusion p w ≡ o
-      → RowIs row w (verdict_concluded p w o)
-  by-conclusion None e = λ l c. subst
+    by-bodies : AllBodies k → RowIs row w (verdict_concluded p w (Some k))
+    by-bodies b =
+        by-requirements b (list_all (requirement_met k) p.requirements) refl (settle k) refl
+
+  no-shape : walk_conclusion p w ≡ None → RowIs row w shape_verdict
+  no-shape e l c = subst
       (λ o. Exact nothing o (λ l. (terms_of l p.arguments ≡ w.arguments)
       × (judgement_of l p.conclusion ≡ w.conclusion))) e (conclusion-exact p r.simple w) l
       (nothing-agrees l) (c.0, c.2)
-  by-conclusion (Some k) e =
-      by-requirements k e (list_all (requirement_met k) p.requirements) refl (settle k) refl
 
-  row-is : RowIs row w (row_verdict p w)
-  row-is = by-conclusion (walk_conclusion p w) refl
+  by-conclusion : JudgementSorted w.conclusion → (o : Option Known) → walk_conclusion p w ≡ o
+      → RowIs row w (verdict_concluded p w o)
+  by-conclusion s None e = no-shape e
+  by-conclusion s (Some k) e = by-bodies k e (k-bodies k e s)
 
-pub row-verdict-is : (p : LinePattern) → row_ready p ≡ true → (w : Written) → WrittenSorted w
-    → RowIs (λ l. line_of l p) w (row_verdict p w)
-row-verdict-is p e w s = row-is p (ready-parts p e) w s
+  -- without that the verdict is found by looking at the bodies too
+  looked : (o : Option Known) → walk_conclusion p w ≡ o → (v : Verdict) × RowIs row w v
+  looked None e = (shape_verdict, no-shape e)
+  looked (Some k) e = by (bodies-decided k)
+    where
+      by : Dec (AllBodies k) → (v : Verdict) × RowIs row w v
+      by (yes b) = (verdict_concluded p w (Some k), by-bodies k e b)
+      by (no n) = (
+        shape_verdict,
+        λ l c. n (agrees-bodies k l (concluded k e l c) (k-sorted k e)),
+      )
+
+pub row-verdict-is : (p : LinePattern) → row_ready p ≡ true → (w : Written)
+    → JudgementSorted w.conclusion → RowIs (λ l. line_of l p) w (row_verdict p w)
+row-verdict-is p e w s = by-conclusion p (ready-parts p e) w s (walk_conclusion p w) refl
+
+pub row-has-verdict : (p : LinePattern) → row_ready p ≡ true → (w : Written)
+    → (v : Verdict) × RowIs (λ l. line_of l p) w v
+row-has-verdict p e w = looked p (ready-parts p e) w (walk_conclusion p w) refl

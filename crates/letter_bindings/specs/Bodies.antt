@@ -1,9 +1,7 @@
 -- Needn't be believed: formulas whose binders bind variables of their sorts, as each that is written
 -- with names does. In another one nothing can be a letter closed over $x.
-use Rattle.std.specs.Prelude.{List, [], ◌∷◌, Option, Some, None}
 use Rattle.model_formulas.specs.Formulas.{Formula, conjunction, disjunction, implication, negation, existential, universal, node_formula, one_tree, one_root, concatenation, grove_sum, grove_sum_hole, application, hole_adjoint, context_adjoint, value_meets}
 use Rattle.model_commands.specs.Theories.{Judgement, entails}
-use Rattle.rule_table.specs.Verdicts.{Written}
 use Rattle.letter_bindings.specs.Choices.{IsBody}
 
 -- the outermost binders
@@ -26,18 +24,7 @@ BindsSorted (context_adjoint h p q) = BindsSorted p × BindsSorted q
 BindsSorted (value_meets s a p) = BindsSorted p
 BindsSorted p = Unit {0}
 
+-- of an entailment
 abbrev pub JudgementSorted : Judgement → Type 0
 JudgementSorted (entails p q s) = BindsSorted p × BindsSorted q
 JudgementSorted j = Unit {0}
-
-abbrev pub EachSorted : List Judgement → Type 0
-EachSorted [] = Unit {0}
-EachSorted (j ∷ js) = JudgementSorted j × EachSorted js
-
-abbrev pub CitedSorted : Option (List Judgement) → Type 0
-CitedSorted None = Unit {0}
-CitedSorted (Some js) = EachSorted js
-
--- of what is written at a step
-abbrev pub WrittenSorted : Written → Type 0
-WrittenSorted w = JudgementSorted w.conclusion × CitedSorted w.premises
