@@ -1,16 +1,14 @@
 -- Needn't be believed: a pattern of a row against what is written, in one walk from the left to the
 -- right: at its first place a letter is learnt, and at each other one it is compared.
 use Rattle.std.specs.Prelude.{List, [], ◌∷◌, Option, Some, None, Bool, true, false, ◌&&◌, cond}
-use Rattle.std.specs.Option.{option_or}
 use Rattle.model_shapes.specs.Sorts.{Sort, shape, context, DataSort}
 use Rattle.model_shapes.specs.Tests.{same_sort, same_data_sort, same_value}
 use Rattle.model_terms.specs.Variables.{logic, bound}
 use Rattle.std.specs.Prelude.{zero}
 use Rattle.model_terms.specs.VariableTests.{same_var}
-use Rattle.model_terms.specs.Terms.{Term, literal, variable, sum, difference, appended, raised_var}
+use Rattle.model_terms.specs.Terms.{Term, literal, variable, sum, difference, appended}
 use Rattle.model_formulas.specs.Formulas.{Formula, truth, falsity, conjunction, disjunction, implication, negation, existential, universal, equality, at_most, empty, bare_hole, node_formula, one_tree, one_root, concatenation, grove_sum, grove_sum_hole, application, hole_adjoint, context_adjoint, same_as, length_is, value_meets}
 use Rattle.model_formulas.specs.SameFormulas.{same_term, same_formula, same_side}
-use Rattle.model_formulas.specs.Substitution.{closing, formula_with}
 use Rattle.model_commands.specs.Theories.{Judgement, entails}
 use Rattle.rule_table.specs.Letters.{LogicVar, as_logic}
 use Rattle.rule_patterns.specs.Constant.{constant_formula}
