@@ -4,3 +4,4 @@ pub mod Shifts
 pub mod Settled
 pub mod Lines
 pub mod Choices
+pub mod Bodies
