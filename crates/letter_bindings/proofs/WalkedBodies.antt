@@ -1,5 +1,5 @@
 -- A walk over what is well bound knows bodies for the sort of $x below its binders.
-use Rattle.std.proofs.Common.{◌≡◌, ℕ, zero, Bool, true, false, sym, refl, ap, ◌∙◌, subst, inl, inr, Option, Some, None, List, [], ◌∷◌}
+use Rattle.std.proofs.Common.{◌≡◌, zero, Bool, true, false, sym, refl, ap, ◌∙◌, subst, inl, inr, Option, Some, None, List, [], ◌∷◌}
 use Rattle.model_shapes.specs.Sorts.{Sort, shape, context, DataSort}
 use Rattle.model_shapes.specs.Tests.{same_sort, same_data_sort, same_value}
 use Rattle.model_shapes.proofs.Tests.{same_sort-is}
@@ -13,7 +13,7 @@ use Rattle.rule_table.specs.Verdicts.{Written}
 use Rattle.rule_patterns.specs.Constant.{constant_formula}
 use Rattle.rule_patterns.specs.Letter.{FormulaLetter, P', Q', R', A', B', K', H', E'}
 use Rattle.rule_patterns.specs.Patterns.{DataPattern, some_data, this_data, SortPattern, some_sort, sort_of_x, data_sort, context_sort, either_sort, TermPattern, some_term, x_term, literal_p, sum_p, difference_p, appended_p, FormulaPattern, some_formula, replaced, truth_p, falsity_p, closed_p, conjunction_p, disjunction_p, implication_p, negation_p, exists_p, forall_p, equality_p, at_most_p, empty_p, bare_hole_p, node_p, tree_p, root_p, concatenation_p, sum_of_groves_p, sum_hole_p, application_p, hole_adjoint_p, context_adjoint_p, same_as_p, length_p, meets_p, JudgementPattern, entails_p, LinePattern}
-use Rattle.letter_bindings.specs.Known.{FormulaPlaces, place_in, term_in, data_in, put_place, Known, nothing, no_formulas, with_formula, with_below, with_term, with_data}
+use Rattle.letter_bindings.specs.Known.{FormulaPlaces, place_in, term_in, data_in, put_place, Known, nothing, with_formula, with_below, with_term, with_data}
 use Rattle.letter_bindings.specs.Matching.{then, if_so, meet, match_data, match_x_sort, same_hole, match_hole, match_sort, same_logic, match_variable, match_term, match_below, match_formula, match_judgement, match_judgements, match_terms}
 use Rattle.letter_bindings.specs.Lines.{walk_conclusion, walk_premises}
 use Rattle.letter_bindings.specs.Choices.{IsBody, IsBodyAt, AllBodies}
@@ -59,7 +59,8 @@ Sorted s n = AllBodies n × (n.x_sort ≡ Some s)
 -- SORTS
 data-bodies : (p : DataPattern) (h : DataSort) (k : Known) → AllBodies k
     → After AllBodies (match_data p h k)
-data-bodies (some_data a) h k b = after-meet AllBodies same_data_sort (data_in k.datas a) h (with_data a h k) k b b
+data-bodies (some_data a) h k b =
+    after-meet AllBodies same_data_sort (data_in k.datas a) h (with_data a h k) k b b
 data-bodies (this_data j) h k b = after-if AllBodies (same_data_sort j h) k b
 
 sort-learnt : (s : Sort) (o q : Option Sort) (p : Option Formula) → o ≡ None → IsBodyAt o p
@@ -80,14 +81,16 @@ x-sort-sorted s k b = at k.x_sort refl
         test false t = tt
 
 x-sort-bodies : (s : Sort) (k : Known) → AllBodies k → After AllBodies (match_x_sort s k)
-x-sort-bodies s k b = after-map (Sorted s) AllBodies (match_x_sort s k) (λ n h. h.0) (x-sort-sorted s k b)
+x-sort-bodies s k b =
+    after-map (Sorted s) AllBodies (match_x_sort s k) (λ n h. h.0) (x-sort-sorted s k b)
 
 hole-bodies : (o : Option DataSort) (k : Known) → AllBodies k → After AllBodies (match_hole o k)
 hole-bodies o k b = after-meet AllBodies same_hole k.hole o (record k { hole = Some o }) k b b
 
 sort-bodies : (p : SortPattern) (s : Sort) (k : Known) → AllBodies k
     → After AllBodies (match_sort p s k)
-sort-bodies some_sort s k b = after-meet AllBodies same_sort k.sort s (record k { sort = Some s }) k b b
+sort-bodies some_sort s k b =
+    after-meet AllBodies same_sort k.sort s (record k { sort = Some s }) k b b
 sort-bodies sort_of_x s k b = x-sort-bodies s k b
 sort-bodies (data_sort p) (shape h) k b = data-bodies p h k b
 sort-bodies (context_sort p q) (context h j) k b =
@@ -103,11 +106,13 @@ sort-bodies p s k b = tt
 variable-bodies : (v : LogicVar) (k : Known) → AllBodies k → After AllBodies (match_variable v k)
 variable-bodies v k b =
     then-bodies (match_x_sort v.sort k) (λ n. meet same_logic n.x v (record n { x = Some v }) n)
-    (x-sort-bodies v.sort k b) (λ n h. after-meet AllBodies same_logic n.x v (record n { x = Some v }) n h h)
+    (x-sort-bodies v.sort k b)
+    (λ n h. after-meet AllBodies same_logic n.x v (record n { x = Some v }) n h h)
 
 term-bodies : (p : TermPattern) (t : Term) (k : Known) → AllBodies k
     → After AllBodies (match_term p t k)
-term-bodies (some_term a) t k b = after-meet AllBodies same_term (term_in k.terms a) t (with_term a t k) k b b
+term-bodies (some_term a) t k b =
+    after-meet AllBodies same_term (term_in k.terms a) t (with_term a t k) k b b
 term-bodies x_term (variable (logic n s)) k b = variable-bodies (record { name = n; sort = s }) k b
 term-bodies (literal_p v) (literal w) k b = after-if AllBodies (same_value v w) k b
 term-bodies (sum_p p q) (sum r s) k b =
@@ -152,8 +157,8 @@ below-sorted (conjunction_p p q) (conjunction r t) s i k b =
     after-then (Sorted s) (Sorted s) (match_below p r k) (match_below q t)
     (below-sorted p r s (λ u m. i u (inl m)) k b) (below-sorted q t s (λ u m. i u (inr m)))
 below-sorted (application_p h p q) (application j r t) s i k b =
-    after-then (Sorted s) (Sorted s) (match_data h j k) (λ n. then (match_below p r n) (match_below q t))
-    (data-sorted h j s k b)
+    after-then (Sorted s) (Sorted s) (match_data h j k)
+    (λ n. then (match_below p r n) (match_below q t)) (data-sorted h j s k b)
     (λ n c. after-then (Sorted s) (Sorted s) (match_below p r n) (match_below q t)
     (below-sorted p r s (λ u m. i u (inl m)) n c) (below-sorted q t s (λ u m. i u (inr m))))
 below-sorted (same_as_p x_term) (same_as (variable (bound zero u))) s i k b =
@@ -162,8 +167,10 @@ below-sorted p f s i k b = tt
 
 below-bodies : (p : FormulaPattern) (s : Sort) (f : Formula) → IsBody s f → (k : Known)
     → AllBodies k → After AllBodies (then (match_x_sort s k) (match_below p f))
-below-bodies p s f i k b = after-then (Sorted s) AllBodies (match_x_sort s k) (match_below p f) (x-sort-sorted s k b)
-    (λ n c. after-map (Sorted s) AllBodies (match_below p f n) (λ m h. h.0) (below-sorted p f s i n c))
+below-bodies p s f i k b =
+    after-then (Sorted s) AllBodies (match_x_sort s k) (match_below p f) (x-sort-sorted s k b)
+    (λ n c. after-map (Sorted s) AllBodies (match_below p f n) (λ m h. h.0)
+    (below-sorted p f s i n c))
 
 -- FORMULAS
 formula-bodies : (p : FormulaPattern) (f : Formula) → IsWellBound f → (k : Known) → AllBodies k
