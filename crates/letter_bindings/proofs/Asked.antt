@@ -1,29 +1,25 @@
 -- What a row asks of the letters, by what is known of them.
-use Rattle.std.proofs.Common.{◌≡◌, refl, sym, subst, ◌∙◌, Bool, true, false, not, inl, inr, Option, Some, None, is_some, List, [], ◌∷◌}
-use Rattle.std.specs.Prelude.{◌⊎◌}
+use Rattle.std.proofs.Common.{◌≡◌, refl, sym, subst, ◌∙◌, Bool, true, false, not, Option, Some, None, is_some, List, [], ◌∷◌}
 use Rattle.std.specs.List.{list_all}
 use Rattle.model_shapes.proofs.Truth.{false≢true, both_true, and_from}
 use Rattle.model_shapes.specs.Sorts.{Sort, value, shape, context, is_sort}
-use Rattle.model_shapes.specs.Tests.{same_sort}
 use Rattle.model_shapes.proofs.Tests.{same_sort-refl}
 use Rattle.model_shapes.specs.Values.{Name}
 use Rattle.model_terms.specs.Variables.{logic}
 use Rattle.model_terms.specs.Terms.{Term, variable}
 use Rattle.model_formulas.specs.Formulas.{Formula, is_pure}
 use Rattle.model_formulas.specs.Substitution.{FreeIn}
-use Rattle.model_formulas.specs.WellSorted.{variable_at}
 use Rattle.rule_table.specs.Letters.{Letters, LogicVar, as_logic}
-use Rattle.rule_table.specs.Conditions.{IsMet, TermAt, Holds}
+use Rattle.rule_table.specs.Conditions.{TermAt, Holds}
 use Rattle.rule_table.specs.Verdicts.{AllMet}
 use Rattle.rule_patterns.specs.Letter.{formula_at, term_at}
-use Rattle.rule_patterns.specs.Patterns.{RequirementPattern, of_sort_p, x_of_sort_p, ConditionPattern, not_free_p, pure_p, requirement_of, requirements_of, condition_of}
+use Rattle.rule_patterns.specs.Patterns.{RequirementPattern, of_sort_p, x_of_sort_p, ConditionPattern, not_free_p, pure_p, requirements_of, condition_of}
 use Rattle.letter_bindings.specs.Known.{place_in, term_in, Known, Says, Agrees}
 use Rattle.letter_bindings.specs.Shifts.{is_free}
-use Rattle.letter_bindings.specs.Settled.{settle}
 use Rattle.letter_bindings.specs.Choices.{IsApart}
 use Rattle.letter_bindings.specs.Lines.{has_sort_at, argument_fits, sort_fits, requirement_met, is_out_of, all_pure, condition_met}
 use Rattle.letter_bindings.proofs.FreeTests.{is_free-is, is-is_free}
-use Rattle.letter_bindings.proofs.Learnt.{Thing, formula_thing, term_thing, x_sort_thing, knows}
+use Rattle.letter_bindings.proofs.Learnt.{term_thing, x_sort_thing, knows}
 
 -- REQUIREMENTS
 has-at : (s : Sort) (a : Term) → has_sort_at s a ≡ true → TermAt s a
@@ -86,8 +82,7 @@ module _ (k : Known) (l : Letters) (g : Agrees l k) where
   all-met [] h = tt
   all-met (of_sort_p e ∷ rs) h =
       let b : (argument_fits k.x_sort (term_in k.terms e) ≡ true)
-      × (list_all (requirement_met k) rs ≡ true) = both_true _ _ h in
-      (
+      × (list_all (requirement_met k) rs ≡ true) = both_true _ _ h in (
         fits-at k.x_sort (term_in k.terms e) l.x.sort (term_at l e) g.x_sort (g.terms e) b.0,
         all-met rs b.1,
       )

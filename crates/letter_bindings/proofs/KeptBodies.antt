@@ -8,7 +8,7 @@ use Rattle.model_shapes.specs.Tests.{same_sort, same_data_sort, same_value}
 use Rattle.model_shapes.proofs.Tests.{same_sort-is}
 use Rattle.model_terms.specs.Variables.{Var, logic, bound, var_sort}
 use Rattle.model_terms.specs.VariableTests.{var_eq}
-use Rattle.model_terms.specs.Terms.{Term, literal, variable, sum, difference, appended, raised_var, InTerm}
+use Rattle.model_terms.specs.Terms.{Term, literal, variable, sum, difference, appended, InTerm}
 use Rattle.model_formulas.specs.Formulas.{Named, Formula, truth, falsity, conjunction, disjunction, implication, negation, existential, universal, equality, at_most, empty, bare_hole, node_formula, one_tree, one_root, concatenation, grove_sum, grove_sum_hole, application, hole_adjoint, context_adjoint, same_as, length_is, value_meets}
 use Rattle.model_formulas.specs.SameFormulas.{same_term, same_formula, same_side}
 use Rattle.model_formulas.specs.Substitution.{FreeIn, closing, formula_with}
@@ -18,10 +18,10 @@ use Rattle.model_formulas.proofs.Nameless.{nameless-exists, nameless-forall}
 use Rattle.model_commands.specs.Theories.{JudgementOf, Judgement, entails, triple, nameless_judgement}
 use Rattle.rule_table.specs.Letters.{LogicVar}
 use Rattle.rule_patterns.specs.Constant.{constant_formula}
-use Rattle.rule_patterns.specs.Letter.{FormulaLetter, TermLetter, P', E'}
+use Rattle.rule_patterns.specs.Letter.{FormulaLetter, P', E'}
 use Rattle.rule_patterns.specs.Finding.{same_formula_letter}
 use Rattle.rule_patterns.specs.Patterns.{DataPattern, some_data, this_data, SortPattern, some_sort, sort_of_x, data_sort, context_sort, either_sort, TermPattern, some_term, x_term, literal_p, sum_p, difference_p, appended_p, FormulaPattern, some_formula, replaced, truth_p, falsity_p, closed_p, conjunction_p, disjunction_p, implication_p, negation_p, exists_p, forall_p, equality_p, at_most_p, empty_p, bare_hole_p, node_p, tree_p, root_p, concatenation_p, sum_of_groves_p, sum_hole_p, application_p, hole_adjoint_p, context_adjoint_p, same_as_p, length_p, meets_p, JudgementPattern, entails_p}
-use Rattle.letter_bindings.specs.Known.{FormulaPlaces, place_in, term_in, data_in, Known, with_formula, with_below, with_term, with_data}
+use Rattle.letter_bindings.specs.Known.{place_in, term_in, data_in, Known, with_formula, with_below, with_term, with_data}
 use Rattle.letter_bindings.specs.Matching.{then, if_so, meet, match_data, match_x_sort, same_hole, match_hole, match_sort, same_logic, match_variable, match_term, match_below, match_formula, match_judgement, match_judgements, match_terms}
 use Rattle.letter_bindings.specs.Choices.{IsBody, IsBodyAt, AllBodies}
 use Rattle.letter_bindings.specs.Bodies.{BindsSorted, JudgementSorted}

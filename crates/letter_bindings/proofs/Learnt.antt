@@ -1,6 +1,5 @@
 -- What a walk that ends well knows: what it knew before, and the letters that it met.
 use Rattle.std.proofs.Common.{◌≡◌, refl, sym, ap, subst, ◌∙◌, zero, Bool, true, false, cond, ◌||◌, Option, Some, None, is_some, List, [], ◌∷◌}
-use Rattle.model_shapes.proofs.Truth.{false≢true}
 use Rattle.model_shapes.specs.Sorts.{Sort, shape, context, DataSort}
 use Rattle.model_shapes.specs.Tests.{same_sort, same_data_sort, same_value}
 use Rattle.model_terms.specs.Variables.{logic, bound}
@@ -10,7 +9,7 @@ use Rattle.model_formulas.specs.SameFormulas.{same_term, same_formula, same_side
 use Rattle.model_commands.specs.Theories.{Judgement, entails}
 use Rattle.rule_table.specs.Letters.{LogicVar}
 use Rattle.rule_patterns.specs.Constant.{constant_formula}
-use Rattle.rule_patterns.specs.Letter.{FormulaLetter, TermLetter, P', Q', R', A', B', K', H', E', F', S', I', L', T', J', M'}
+use Rattle.rule_patterns.specs.Letter.{FormulaLetter, TermLetter, P', E'}
 use Rattle.rule_patterns.specs.Finding.{same_formula_letter, same_term_letter}
 use Rattle.rule_patterns.specs.Patterns.{DataPattern, some_data, this_data, SortPattern, some_sort, sort_of_x, data_sort, context_sort, either_sort, TermPattern, some_term, x_term, literal_p, sum_p, difference_p, appended_p, FormulaPattern, some_formula, replaced, truth_p, falsity_p, closed_p, conjunction_p, disjunction_p, implication_p, negation_p, exists_p, forall_p, equality_p, at_most_p, empty_p, bare_hole_p, node_p, tree_p, root_p, concatenation_p, sum_of_groves_p, sum_hole_p, application_p, hole_adjoint_p, context_adjoint_p, same_as_p, length_p, meets_p, JudgementPattern, entails_p}
 use Rattle.letter_bindings.specs.Known.{FormulaPlaces, TermPlaces, place_in, term_in, data_in, put_place, put_term, Known, with_formula, with_below, with_term, with_data}

@@ -2,7 +2,7 @@
 use Rattle.std.proofs.Common.{◌≡◌, zero, suc, refl, sym, ap, subst, ◌∙◌, Bool, true, false, not, cond, ◌&&◌, ◌||◌, inl, inr, ⊎_elim, Option, Some, None, is_some, List, [], ◌∷◌}
 use Rattle.std.specs.Prelude.{◌⊎◌}
 use Rattle.std.specs.List.{list_all}
-use Rattle.model_shapes.proofs.Truth.{false≢true, both_true, and_from}
+use Rattle.model_shapes.proofs.Truth.{false≢true, both_true}
 use Rattle.model_shapes.specs.Sorts.{Sort}
 use Rattle.model_terms.specs.Terms.{Term, variable}
 use Rattle.model_formulas.specs.Formulas.{Formula}
@@ -10,14 +10,14 @@ use Rattle.model_formulas.specs.SameFormulas.{formula_eq}
 use Rattle.model_formulas.specs.Substitution.{formula_with, closing}
 use Rattle.model_commands.specs.Theories.{Judgement}
 use Rattle.rule_table.specs.Letters.{Letters, LogicVar, as_logic}
-use Rattle.rule_table.specs.Conditions.{Holds, side_of}
+use Rattle.rule_table.specs.Conditions.{side_of}
 use Rattle.rule_table.specs.Entries.{Row}
-use Rattle.rule_table.specs.Verdicts.{Written, AllMet, Concludes, Follows, MeetsFirst, MeetsAll, side_at, Verdict, instance_verdict, shape_verdict, premises_verdict, side_verdict}
+use Rattle.rule_table.specs.Verdicts.{Written, Concludes, Follows, MeetsFirst, MeetsAll, side_at, Verdict, instance_verdict, shape_verdict, premises_verdict, side_verdict}
 use Rattle.rule_table.proofs.Decisions.{both_hold}
 use Rattle.rule_table.proofs.NewNames.{new_name, new_name-new}
 use Rattle.rule_table.proofs.Opening.{opening}
-use Rattle.rule_patterns.specs.Letter.{FormulaLetter, TermLetter, DataLetter, P', Q', R', A', B', K', H', E', F', S', I', L', T', J', M', h', k', j', formula_at, term_at, data_at}
-use Rattle.rule_patterns.specs.Patterns.{RequirementPattern, of_sort_p, x_of_sort_p, ConditionPattern, not_free_p, pure_p, LinePattern, requirements_of, condition_of, conditions_of, terms_of, judgement_of, judgements_of, line_of}
+use Rattle.rule_patterns.specs.Letter.{FormulaLetter, TermLetter, DataLetter, P', Q', R', A', B', K', H', E', F', S', I', L', T', J', M', h', k', j', term_at, data_at}
+use Rattle.rule_patterns.specs.Patterns.{RequirementPattern, of_sort_p, x_of_sort_p, ConditionPattern, not_free_p, pure_p, LinePattern, condition_of, conditions_of, terms_of, judgement_of, judgements_of, line_of}
 use Rattle.letter_bindings.specs.Known.{place_in, term_in, data_in, Known, nothing, Says, Agrees, Exact}
 use Rattle.letter_bindings.specs.Matching.{match_terms, match_judgement}
 use Rattle.letter_bindings.specs.Settled.{settle}
@@ -29,7 +29,7 @@ use Rattle.letter_bindings.proofs.OtherVariables.{body-again}
 use Rattle.letter_bindings.proofs.WalkedLines.{conclusion-exact, premises-exact}
 use Rattle.letter_bindings.proofs.Settling.{each-test, agrees-bodies, settled-agrees, settled-new, settled-one, unsettled}
 use Rattle.letter_bindings.proofs.Learnt.{Thing, formula_thing, below_thing, term_thing, x_sort_thing, put_thing, knows, in_terms, in_judgement, in_judgements, Learns, learns-then, learns-terms, learns-judgement, learns-judgements}
-use Rattle.letter_bindings.proofs.RowTests.{in_conclusion, at_most_one, condition_ready, conditions_ready, requirement_ready, requirements_ready, put_ready, below_ready, row_ready, Ready, ready-parts}
+use Rattle.letter_bindings.proofs.RowTests.{in_conclusion, at_most_one, condition_ready, conditions_ready, requirements_ready, below_ready, row_ready, Ready, ready-parts}
 use Rattle.letter_bindings.proofs.KeptBodies.{Keeps, keeps-then, keeps-terms, keeps-judgement, keeps-judgements}
 use Rattle.letter_bindings.proofs.Asked.{EachKnown, all-met, met-all, place_of, as_list, XIs, holds-where, fails-where}
 

@@ -102,8 +102,7 @@ rows-have [] e w = (shape_verdict, λ m. m)
 rows-have (p ∷ ps) e w =
     let a : (row_ready p ≡ true) × (all_ready ps ≡ true) = both_true _ _ e in
     let b : (v : Verdict) × RowIs (λ l. line_of l p) w v = row-has-verdict p a.0 w in
-    let c : (v : Verdict) × RowsAre (rows_of ps) w v = rows-have ps a.1 w in
-    (
+    let c : (v : Verdict) × RowsAre (rows_of ps) w v = rows-have ps a.1 w in (
       farther b.0 c.0,
       farther-is (λ l. line_of l p) (rows_of ps) w b.0 c.0 b.1 c.1,
     )
@@ -111,8 +110,7 @@ rows-have (p ∷ ps) e w =
 pub has-verdict : (name : Name) (ps : List LinePattern) → way_of name ≡ matched ps
     → (w : Written) → (v : Verdict) × IsVerdict (readings_in entailments name) w v
 has-verdict name ps m w =
-    let a : (v : Verdict) × RowsAre (rows_of ps) w v = rows-have ps (ready-of name ps m) w in
-    (
+    let a : (v : Verdict) × RowsAre (rows_of ps) w v = rows-have ps (ready-of name ps m) w in (
       a.0,
       subst (λ rows. IsVerdict rows w a.0) (tied name ps m)
           (rows-verdict (rows_of ps) w a.0 a.1),
