@@ -1,5 +1,5 @@
--- Where the outermost binders of what is written bind variables of their sorts, what a walk knows below a
--- binder is a body for the sort of $x.
+-- Where the outermost binders of what is written bind variables of their sorts, what a walk knows
+-- below a binder is a body for the sort of $x.
 use Rattle.std.proofs.Common.{◌≡◌, zero, refl, sym, ap, subst, ◌∙◌, Bool, true, false, ◌&&◌, cond, inl, inr, Option, Some, None, List, [], ◌∷◌}
 use Rattle.std.specs.Prelude.{◌⊎◌}
 use Rattle.model_shapes.proofs.Truth.{false≢true, both_true}
@@ -311,8 +311,11 @@ keeps-formula (meets_p o p q) (value_meets s a r) w k =
     (keeps-formula q r w))
 keeps-formula p f w k = tt
 
-pub keeps-judgement : (p : JudgementPattern) (j : Judgement) → (judgement_binds_none p ≡ true) ⊎ JudgementSorted j
-    → (k : Known) → Keeps k (match_judgement p j k)
+abbrev FineJudgement : JudgementPattern → Judgement → Type 0
+FineJudgement p j = (judgement_binds_none p ≡ true) ⊎ JudgementSorted j
+
+pub keeps-judgement : (p : JudgementPattern) (j : Judgement) → FineJudgement p j → (k : Known)
+    → Keeps k (match_judgement p j k)
 keeps-judgement (entails_p p q o) (entails r s u) w k =
     let v : Fine p r × Fine q s =
     fine-both (binds_none p) (binds_none q) (BindsSorted r) (BindsSorted s) w in

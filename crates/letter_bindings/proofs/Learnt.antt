@@ -193,7 +193,8 @@ module _ (t : Thing) where
 
   learns-x_sort : (s : Sort) (k : Known) → Learns t (is_x_sort t) k (match_x_sort s k)
   learns-x_sort s k =
-      learns-meet same_sort k.x_sort s (is_x_sort t) (record k { x_sort = Some s }) k (new t) (old t)
+      learns-meet same_sort k.x_sort s (is_x_sort t) (record k { x_sort = Some s }) k (new t)
+      (old t)
     where
       new : (u : Thing) → knows u (record k { x_sort = Some s }) ≡ (is_x_sort u || knows u k)
       new (formula_thing b) = refl
@@ -268,7 +269,8 @@ module _ (t : Thing) where
       new x_sort_thing = refl
       new put_thing = refl
 
-      old : (u : Thing) → is_some (term_in k.terms a) ≡ true → (is_term u a || knows u k) ≡ knows u k
+      old : (u : Thing) → is_some (term_in k.terms a) ≡ true
+          → (is_term u a || knows u k) ≡ knows u k
       old (formula_thing b) f = refl
       old (below_thing b) f = refl
       old (term_thing b) f =
@@ -378,7 +380,8 @@ module _ (t : Thing) where
   learns-both : (p q : FormulaPattern) (r s : Formula)
       → ((k : Known) → Learns t (in_formula t p) k (match_formula p r k))
       → ((k : Known) → Learns t (in_formula t q) k (match_formula q s k)) → (k : Known)
-      → Learns t (in_formula t p || in_formula t q) k (then (match_formula p r k) (match_formula q s))
+      → Learns t (in_formula t p || in_formula t q) k
+      (then (match_formula p r k) (match_formula q s))
   learns-both p q r s f g k =
       learns-then (in_formula t p) (in_formula t q) k (match_formula p r k) (match_formula q s)
       (f k) g

@@ -165,6 +165,15 @@ module _ (p : LinePattern) (r : Ready p) (w : Written) where
   abbrev row : Row
   row l = line_of l p
 
+  -- the arguments and the conclusion are the written ones
+  abbrev Matches : Letters → Type 0
+  Matches l =
+      (terms_of l p.arguments ≡ w.arguments) × (judgement_of l p.conclusion ≡ w.conclusion)
+
+  -- the premises are
+  abbrev Cites : Letters → Type 0
+  Cites l = Some (judgements_of l p.premises) ≡ w.premises
+
   -- WHAT THE WALK KNOWS, after the conclusion
   learns-conclusion : (t : Thing) → Learns t (in_conclusion t p) nothing (walk_conclusion p w)
   learns-conclusion t =
@@ -246,25 +255,18 @@ module _ (p : LinePattern) (r : Ready p) (w : Written) where
         (k-knows x_sort_thing b.0, each-known rs b.1)
 
     -- CHOICES that agree with it conclude
+    k-exact : Exact nothing (Some k) Matches
+    k-exact = subst (λ o. Exact nothing o Matches) e (conclusion-exact p r.simple w)
+
     concludes : (l : Letters) → Agrees l k → list_all (requirement_met k) p.requirements ≡ true
         → Concludes w (row l)
     concludes l g m =
-        let x : Exact nothing (Some k)
-        (λ l. (terms_of l p.arguments ≡ w.arguments) × (judgement_of l p.conclusion ≡ w.conclusion)) =
-        subst (λ o. Exact nothing o (λ l. (terms_of l p.arguments ≡ w.arguments)
-        × (judgement_of l p.conclusion ≡ w.conclusion))) e (conclusion-exact p r.simple w) in
-        let b : Agrees l nothing
-        × ((terms_of l p.arguments ≡ w.arguments) × (judgement_of l p.conclusion ≡ w.conclusion)) =
-        (x l).0 g in
+        let b : Agrees l nothing × Matches l = (k-exact l).0 g in
         (b.1.0, all-met k l g p.requirements m, b.1.1)
 
     concluded : (l : Letters) → Concludes w (row l) → Agrees l k
     concluded l c =
-        let x : Exact nothing (Some k)
-        (λ l. (terms_of l p.arguments ≡ w.arguments) × (judgement_of l p.conclusion ≡ w.conclusion)) =
-        subst (λ o. Exact nothing o (λ l. (terms_of l p.arguments ≡ w.arguments)
-        × (judgement_of l p.conclusion ≡ w.conclusion))) e (conclusion-exact p r.simple w) in
-        (x l).1 (nothing-agrees l) (c.0, c.2)
+        (k-exact l).1 (nothing-agrees l) (c.0, c.2)
 
     -- some choice agrees with what is settled
     agreed : (n : Known) → AllBodies n → (x : Option LogicVar) → settle n ≡ Some x
@@ -299,20 +301,17 @@ module _ (p : LinePattern) (r : Ready p) (w : Written) where
             inr (n-knows (term_thing E') b.0, n-knows (below_thing P') b.1))
             (not-or (in_conclusion put_thing p) (in_judgements put_thing p.premises) _ r.put))
 
+        n-exact : Exact k (Some n) Cites
+        n-exact = subst (λ o. Exact k o Cites) f (premises-exact p r.simple w.premises k)
+
         follows : (l : Letters) → Agrees l n → Follows w (row l)
         follows l g =
-            let x : Exact k (Some n) (λ l. Some (judgements_of l p.premises) ≡ w.premises) =
-            subst (λ o. Exact k o (λ l. Some (judgements_of l p.premises) ≡ w.premises)) f
-            (premises-exact p r.simple w.premises k) in
-            let b : Agrees l k × (Some (judgements_of l p.premises) ≡ w.premises) = (x l).0 g in
+            let b : Agrees l k × Cites l = (n-exact l).0 g in
             (concludes l b.0 m, b.1)
 
         followed : (l : Letters) → Follows w (row l) → Agrees l n
         followed l h =
-            let x : Exact k (Some n) (λ l. Some (judgements_of l p.premises) ≡ w.premises) =
-            subst (λ o. Exact k o (λ l. Some (judgements_of l p.premises) ≡ w.premises)) f
-            (premises-exact p r.simple w.premises k) in
-            (x l).1 (concluded l h.0) h.1
+            (n-exact l).1 (concluded l h.0) h.1
 
         known-place : (c : ConditionPattern) → condition_ready p c ≡ true
             → is_some (place_of n c) ≡ true
@@ -332,7 +331,8 @@ module _ (p : LinePattern) (r : Ready p) (w : Written) where
           by-condition : (cs : List ConditionPattern) → at_most_one cs ≡ true
               → conditions_ready p cs ≡ true
               → RowIs (λ l. record (row l) { conditions = conditions_of l cs }) w
-              (cond (list_all (condition_met x n) cs) instance_verdict (side_verdict (first_side cs)))
+              (cond (list_all (condition_met x n) cs) instance_verdict
+              (side_verdict (first_side cs)))
           by-condition [] i j =
               let a : (l : Letters) × (Agrees l n × XIs x l.x None) = agreed n n-bodies x g None in
               (a.0, (follows a.0 a.1.0, tt))
@@ -369,8 +369,8 @@ module _ (p : LinePattern) (r : Ready p) (w : Written) where
           → RowIs row w (verdict_followed p o)
       by-premises None f = (
         some,
-        λ l h. subst (λ o. Exact k o (λ l. Some (judgements_of l p.premises) ≡ w.premises)) f
-            (premises-exact p r.simple w.premises k) l (concluded l h.0) h.1,
+        λ l h. subst (λ o. Exact k o Cites) f (premises-exact p r.simple w.premises k) l
+            (concluded l h.0) h.1,
       )
       by-premises (Some n) f = by-settled n f (settle n) refl
 
@@ -379,8 +379,8 @@ module _ (p : LinePattern) (r : Ready p) (w : Written) where
         → RowIs row w
         (cond (c && is_some o) (verdict_followed p (walk_premises p w.premises k)) shape_verdict)
     by-requirements b false m o g = λ l c. false≢true
-        (sym m ∙ met-all k l (concluded l c) p.requirements (each-known p.requirements r.requirements)
-        c.1)
+        (sym m ∙ met-all k l (concluded l c) p.requirements
+        (each-known p.requirements r.requirements) c.1)
     by-requirements b true m None g = λ l c. unsettled k g k-ready l (concluded l c)
     by-requirements b true m (Some x) g =
         let a : (l : Letters) × (Agrees l k × XIs x l.x None) = agreed k b x g None in
@@ -391,9 +391,7 @@ module _ (p : LinePattern) (r : Ready p) (w : Written) where
         by-requirements b (list_all (requirement_met k) p.requirements) refl (settle k) refl
 
   no-shape : walk_conclusion p w ≡ None → RowIs row w shape_verdict
-  no-shape e l c = subst
-      (λ o. Exact nothing o (λ l. (terms_of l p.arguments ≡ w.arguments)
-      × (judgement_of l p.conclusion ≡ w.conclusion))) e (conclusion-exact p r.simple w) l
+  no-shape e l c = subst (λ o. Exact nothing o Matches) e (conclusion-exact p r.simple w) l
       (nothing-agrees l) (c.0, c.2)
 
   by-conclusion : JudgementSorted w.conclusion → (o : Option Known) → walk_conclusion p w ≡ o

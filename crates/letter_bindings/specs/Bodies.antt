@@ -1,5 +1,5 @@
--- Needn't be believed: formulas whose binders bind variables of their sorts, as each that is written
--- with names does. In another one nothing can be a letter closed over $x.
+-- Needn't be believed: formulas whose outermost binders bind variables of their sorts, as in all
+-- that is written with names. What stands below any other binder is no letter closed over $x.
 use Rattle.model_formulas.specs.Formulas.{Formula, conjunction, disjunction, implication, negation, existential, universal, node_formula, one_tree, one_root, concatenation, grove_sum, grove_sum_hole, application, hole_adjoint, context_adjoint, value_meets}
 use Rattle.model_commands.specs.Theories.{Judgement, entails}
 use Rattle.letter_bindings.specs.Choices.{IsBody}
