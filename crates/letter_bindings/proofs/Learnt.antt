@@ -9,8 +9,7 @@ use Rattle.model_formulas.specs.SameFormulas.{same_term, same_formula, same_side
 use Rattle.model_commands.specs.Theories.{Judgement, entails}
 use Rattle.rule_table.specs.Letters.{LogicVar}
 use Rattle.rule_patterns.specs.Constant.{constant_formula}
-use Rattle.rule_patterns.specs.Letter.{FormulaLetter, TermLetter, P', E'}
-use Rattle.rule_patterns.specs.Finding.{same_formula_letter, same_term_letter}
+use Rattle.rule_patterns.specs.Letter.{FormulaLetter, TermLetter, P', E', same_formula_letter, same_term_letter}
 use Rattle.rule_patterns.specs.Patterns.{DataPattern, some_data, this_data, SortPattern, some_sort, sort_of_x, data_sort, context_sort, either_sort, TermPattern, some_term, x_term, literal_p, sum_p, difference_p, appended_p, FormulaPattern, some_formula, replaced, truth_p, falsity_p, closed_p, conjunction_p, disjunction_p, implication_p, negation_p, exists_p, forall_p, equality_p, at_most_p, empty_p, bare_hole_p, node_p, tree_p, root_p, concatenation_p, sum_of_groves_p, sum_hole_p, application_p, hole_adjoint_p, context_adjoint_p, same_as_p, length_p, meets_p, JudgementPattern, entails_p}
 use Rattle.letter_bindings.specs.Known.{FormulaPlaces, TermPlaces, place_in, term_in, data_in, put_place, put_term, Known, with_formula, with_below, with_term, with_data}
 use Rattle.letter_bindings.proofs.Learning.{formula_letter-is, term_letter-is, get-place, get-term}
