@@ -5,6 +5,8 @@
 
 mod known;
 mod sorts;
+mod terms;
 
 pub use known::{Datas, Known, Places, Terms};
-pub use sorts::{walk_data, walk_sort};
+pub use sorts::{walk_data, walk_sort, walk_x_sort};
+pub use terms::{walk_term, walk_variable};
