@@ -3,10 +3,13 @@
 //! Stands on the rows of patterns, on the table and on variables by number.
 #![tactic(auto)]
 
+mod below;
 mod known;
+mod letters;
 mod sorts;
 mod terms;
 
+pub use below::walk_below;
 pub use known::{Datas, Known, Places, Terms};
 pub use sorts::{walk_data, walk_sort, walk_x_sort};
 pub use terms::{walk_term, walk_variable};
