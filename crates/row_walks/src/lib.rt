@@ -4,12 +4,15 @@
 #![tactic(auto)]
 
 mod below;
+mod flat;
+mod formulas;
 mod known;
 mod letters;
 mod sorts;
 mod terms;
 
 pub use below::walk_below;
+pub use formulas::walk_formula;
 pub use known::{Datas, Known, Places, Terms};
 pub use sorts::{walk_data, walk_sort, walk_x_sort};
 pub use terms::{walk_term, walk_variable};
