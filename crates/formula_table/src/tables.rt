@@ -146,7 +146,7 @@ impl Table {
         ensures { result ≡ bytes_eq (name_at self.now number) [] }
     {
         match self.names.get_index(number as usize) {
-            Some(name) => name.is_empty(),
+            Some(name) => name.as_str().is_empty(),
             None => true,
         }
     }
