@@ -1,5 +1,5 @@
--- Needn't be believed: what a walk over numbers knows, as the definitions have it, and what it means
--- that the walk is theirs.
+-- Needn't be believed: what a walk over numbers knows, as the definitions have it, and what it
+-- means that the walk is theirs.
 use Rattle.std.specs.Prelude.{◌≡◌, Bool, true, false, Option, Some, None}
 use Rattle.std.specs.Option.{option_map}
 use Rattle.dom_terms.specs.Sorts.{data_sort_of, sort_of}

@@ -192,8 +192,8 @@ impl Datas {
     }
 }
 
-/// What a walk knows: what each letter is, and what stands for it below a binder of `$x`; `$x` and its
-/// sort; and the formula that `P with E for $x` is to be.
+/// What a walk knows: what each letter is, and what stands for it below a binder of `$x`; `$x` and
+/// its sort; and the formula that `P with E for $x` is to be.
 #[derive(Clone, Copy)]
 pub struct Known {
     /// The formulas.

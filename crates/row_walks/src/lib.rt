@@ -1,5 +1,5 @@
-//! What one walk over a row of a rule learns of its letters, over the numbers of a table of formulas.
-//! Promises that each walk is the walk of the definitions. No memory is taken.
+//! What one walk over a row of a rule learns of its letters, over the numbers of a table of
+//! formulas. Promises that each walk is the walk of the definitions. No memory is taken.
 //! Stands on the rows of patterns, on the table and on variables by number.
 #![tactic(auto)]
 

@@ -104,8 +104,8 @@ pub fn walk_conclusion(
     }
 }
 
-/// What is known after the walk over the premises too, from what was known before; None where the row
-/// doesn't fit them.
+/// What is known after the walk over the premises too, from what was known before; None where the
+/// row doesn't fit them.
 pub fn walk_premises(table: &Table, row: &Row, cited: Cited, known: Known) -> Option<Known>
     ensures { option_map (known_at table.now) result
         ≡ lines.walk_premises (line_in row.now) (Some (all_cited table.now cited))
