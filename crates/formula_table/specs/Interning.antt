@@ -1,11 +1,12 @@
 -- Needn't be believed: what becomes of a table to which a formula is added, part by part.
 use Rattle.std.specs.Prelude.{◌≡◌, ℕ, ◌<◌, nat_lt, Bool, true, false, if◌then◌else◌, List, [], ◌∷◌, ◌++◌, length, Result, Ok, Err}
 use Rattle.std.specs.List.{list_any}
+use Rattle.model_shapes.specs.Values.{Name}
 use Rattle.model_terms.specs.Terms.{Term}
 use Rattle.model_formulas.specs.Formulas.{Formula, truth, falsity, conjunction, disjunction, implication, negation, existential, universal, equality, at_most, empty, bare_hole, node_formula, one_tree, one_root, concatenation, grove_sum, grove_sum_hole, application, hole_adjoint, context_adjoint, same_as, length_is, value_meets}
 use Rattle.model_formulas.specs.SameFormulas.{same_formula}
 use Rattle.formula_table.specs.Growing.{Keeps}
-use Rattle.formula_table.specs.Forms.{names_at, terms_at, forms_at, term_at, form_at}
+use Rattle.formula_table.specs.Forms.{names_at, terms_at, forms_at, name_at, term_at, form_at}
 use Rattle.formula_table.specs.declared.faults.TableFault.{TableFault}
 use Rattle.formula_table.specs.declared.faults.TableFault.TheVariants as t
 use Rattle.formula_table.specs.declared.tables.Table.{Table}
@@ -60,6 +61,11 @@ pub record KeepsAll (old new : Table) : Type 0 where
   pub names : Keeps (names_at old) (names_at new)
   pub terms : Keeps (terms_at old) (terms_at new)
   pub forms : Keeps (forms_at old) (forms_at new)
+
+-- the number is that of the name
+pub record IsName (t : Table) (i : ℕ) (x : Name) : Type 0 where
+  pub there : i < length (names_at t)
+  pub is : name_at t i ≡ x
 
 -- the number is that of the term
 pub record IsTerm (t : Table) (i : ℕ) (a : Term) : Type 0 where

@@ -5,6 +5,7 @@
 
 mod faults;
 mod heads;
+mod interning;
 mod rows;
 mod sets;
 mod tables;
