@@ -15,4 +15,14 @@ below_none (sum a b) = λ j. sum (below_none a j) (below_none b j)
 below_none (difference a b) = λ j. difference (below_none a j) (below_none b j)
 below_none (appended a b) = λ j. appended (below_none a j) (below_none b j)
 
+-- how many terms stand in a term, itself included
+abbrev pub subterms : Term → ℕ
+subterms (literal v) = 1
+subterms (variable x) = 1
+subterms (sum a b) = 1 + (subterms a + subterms b)
+subterms (difference a b) = 1 + (subterms a + subterms b)
+subterms (appended a b) = 1 + (subterms a + subterms b)
+
 pub ruleset name_rules = (names-here, names-there)
+
+pub ruleset term_rules = (names-prog, below_none)

@@ -37,6 +37,7 @@ impl Table {
     ghost use Rattle.formula_table.specs.Interning.{IsTerm, TermsGrow};
 
     /// The number of the term, which stands below no binder: the one that it has, or a new one.
+    #[tactic(auto, using(crate::proofs::Named::term_rules))]
     pub fn intern_term(&mut self, term: &Term) -> Result<u32, OutOfMemory>
         ensures grows { TermsGrow self.old self.new }
         ensures ok { IfOk result (λ number. IsTerm self.new number (term_of term.now)) }
@@ -46,6 +47,7 @@ impl Table {
 
     // the number of the term below the binders
     #[cycle(term_below)]
+    #[tactic(auto, using(crate::proofs::Named::term_rules, crate::proofs::KeptNumbers::growing_rules))]
     fn term_below(&mut self, term: &Term, over: &Binders) -> Result<u32, OutOfMemory>
         ensures grows { TermsGrow self.old self.new }
         ensures ok { IfOk result (λ number. IsTerm self.new number
@@ -97,6 +99,7 @@ impl Table {
 
     // the numbers of both terms below the binders
     #[cycle(term_below)]
+    #[tactic(auto, using(crate::proofs::Named::term_rules, crate::proofs::KeptNumbers::growing_rules))]
     fn terms_below(
         &mut self,
         left: &Term,
