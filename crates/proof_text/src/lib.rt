@@ -1,6 +1,6 @@
 //! Theories from tokens. Promises that a list of tokens is read as the theory that it spells by the
-//! grammar, each variable with the sort of its declaration, and refused exactly where it spells none,
-//! at the fault token. Stands on the readers of tokens, the types of theories, the readers of
+//! grammar, each variable with the sort of its declaration, and refused exactly where it spells
+//! none, at the fault token. Stands on the readers of tokens, the types of theories, the readers of
 //! formulas, the walk that sets sorts and the grammar.
 #![tactic(auto)]
 

@@ -22,7 +22,7 @@ use Rattle.proof_text.proofs.procedures.more_procedures.Goals.{then-are_settled,
 
 pub loop-init : goal.loop-init
 unfolding more_sorted_procedures_at
-loop-init g c =
+loop-init c =
     let p = procedure_settled (map logic_var_of c.args.logics.now) in
     let e : c.push.new.self ≡ c.args.first.procedure ∷ [] =
     c.in_ok-push.ensures.ok ∙ ap (λ z. z ++ c.args.first.procedure ∷ []) c.new-procedures.ensures in
@@ -36,7 +36,7 @@ loop-init g c =
     }
 
 pub returns-then-not-skip-clause-read : goal.returns-then-not-skip-clause-read
-returns-then-not-skip-clause-read g c =
+returns-then-not-skip-clause-read c =
     let no : c.skip.result ≡ false = cc in
     let p = MatchBool-at_false _ _ no c.skip.ensures in
     rw p.1 (many_done (the_terminal (codes "proc"))
@@ -45,7 +45,7 @@ returns-then-not-skip-clause-read g c =
     (first_after (codes "proc") (lexemes_in c.loop.tokens) None (sym p.0)) c.loop.invariant.read)
 
 pub returns-in_err-item-clause-read : goal.returns-in_err-item-clause-read
-returns-in_err-item-clause-read g c =
+returns-in_err-item-clause-read c =
     let p = err_from_is_err_and c.from_residual-in_err-item.result
     c.from_residual-in_err-item.ensures.1 in
     let yes : c.skip.result ≡ true = cc in
@@ -57,7 +57,7 @@ returns-in_err-item-clause-read g c =
     c.loop.invariant.read)
 
 pub loop-preserved : goal.loop-preserved
-loop-preserved g c =
+loop-preserved c =
     let e : map procedure_of c.push-in-loop.new.self ≡ map procedure_of c.loop.procedures
     ++ procedure_of c.in_ok-item.item.procedure ∷ [] =
     rw c.in_ok-push-2.ensures.ok

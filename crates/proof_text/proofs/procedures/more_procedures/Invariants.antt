@@ -12,7 +12,7 @@ use Rattle.proof_text.specs.SortedTheories.{sorted_procedure_tail, more_sorted_p
 use Rattle.proof_text.proofs.procedures.more_procedures.Given as goal
 
 abbrev pub invariant-loop : goal.invariant-loop
-invariant-loop g l = record {
+invariant-loop l = record {
   read : with_front (map procedure_of l.procedures) (many (the_terminal (codes "proc"))
       (λ x. sorted_procedure_tail (map logic_var_of l.logics) l.depth 4294967295)
       (4294967295 - l.counter) (lexemes_in l.tokens))

@@ -12,7 +12,7 @@ use Rattle.proof_text.specs.SortedTheories.{sorted_step_tail}
 use Rattle.proof_text.proofs.steps.steps.Given as goal
 
 abbrev pub invariant-loop : goal.invariant-loop
-invariant-loop g l = record {
+invariant-loop l = record {
   read : with_front (map step_of l.steps)
       (many leaf_step (sorted_step_tail (declared_of l.declared) l.depth 4294967295)
       (4294967295 - l.counter) (lexemes_in l.tokens))
