@@ -1,5 +1,6 @@
 pub mod BadPlaces
 pub mod Called
+pub mod HasRows
 pub mod Rows
 pub mod Sound
 pub mod Walks

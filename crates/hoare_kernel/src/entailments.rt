@@ -2,12 +2,13 @@
 ghost use Rattle.std.specs.Prelude.{◌≡◌, IfOk, map, true};
 ghost use Rattle.model_commands.specs.Theories.{Procedures, nameless_judgement};
 ghost use Rattle.rule_table.specs.Accepted.{written_at};
-ghost use Rattle.rule_table.specs.Table.{table};
+ghost use Rattle.rule_table.specs.Table.{table as rules_of};
 ghost use Rattle.rule_table.specs.Verdicts.{IsVerdict, readings_in};
 ghost use Rattle.model_files.specs.FileFaults.{judgement_sorted};
 ghost use Rattle.model_files.specs.Sizes.{JudgementIsSmall};
 ghost use Rattle.dom_terms.specs.Terms.{term_of};
 ghost use Rattle.formula_syntax.specs.Entailments.{entailment_of};
+ghost use Rattle.formula_table.specs.Interning.{KeepsAll};
 ghost use Rattle.theory_syntax.specs.Judgements.{entails_of};
 ghost use Rattle.row_patterns.specs.Verdicts.{verdict_in};
 ghost use Rattle.cited_steps.specs.Earlier.{AreCitable, steps_in};
@@ -15,6 +16,7 @@ ghost use Rattle.cited_steps.specs.Earlier.{AreCitable, steps_in};
 use dom_terms::{OutOfMemory, Term, Verdict};
 use entail_kernel::entailment_by;
 use formula_syntax::Entailment;
+use formula_table::Table;
 use rule_rows::rule_of;
 use std::alloc::Global;
 use theory_syntax::Step;
@@ -23,6 +25,7 @@ use theory_syntax::Step;
 /// than one of entailment it is that the conclusion doesn't fit.
 pub fn entailment_named(
     alloc: Global,
+    table: &mut Table,
     name: &str,
     earlier: &[Step],
     citations: &[u32],
@@ -32,13 +35,18 @@ pub fn entailment_named(
     requires earlier { AreCitable earlier.now }
     requires small { JudgementIsSmall (entails_of (entailment_of entailment.now)) }
     requires sorted { judgement_sorted (entails_of (entailment_of entailment.now)) ≡ true }
-    ensures { IfOk result (λ v. (procedures : Procedures)
-        → IsVerdict (readings_in (table procedures) name.now)
+    ensures exact { IfOk result (λ v. (procedures : Procedures)
+        → IsVerdict (readings_in (rules_of procedures) name.now)
         (written_at (steps_in earlier.now) citations.now (map term_of arguments.now)
         (nameless_judgement (entails_of (entailment_of entailment.now)))) (verdict_in v)) }
+    ensures kept { KeepsAll table.old table.new }
 {
     match rule_of(name) {
-        Some(rule) => entailment_by(alloc, rule, earlier, citations, arguments, entailment),
+        Some(rule) => {
+            entailment_by(
+                alloc, table, rule, earlier, citations, arguments, entailment,
+            )
+        }
         None => Ok(Verdict::Shape),
     }
 }

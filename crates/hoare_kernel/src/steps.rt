@@ -17,6 +17,7 @@ ghost use Rattle.hoare_kernel.specs.Walks.{AllSorted, StepRefused, StepsRefused}
 use crate::refusals::Refusal;
 use crate::verdicts::step_verdict;
 use dom_terms::Verdict;
+use formula_table::Table;
 use std::alloc::Global;
 use theory_syntax::{Reason, Step};
 use triple_rules::Callees;
@@ -42,6 +43,7 @@ fn judged(procedure: u32, step: u32, verdict: Verdict) -> Result<(), Refusal>
 // Whether the step, of the procedure of this number, is an instance.
 fn stands(
     alloc: Global,
+    table: &mut Table,
     callees: Callees,
     procedure: u32,
     earlier: &[Step],
@@ -66,7 +68,7 @@ fn stands(
             step: place,
         }),
         Reason::Rule { .. } => {
-            let verdict = step_verdict(alloc, callees, earlier, step)?;
+            let verdict = step_verdict(alloc, table, callees, earlier, step)?;
             judged(procedure, place, verdict)
         }
     }
@@ -76,6 +78,7 @@ fn stands(
 /// it names over the steps before it. The error tells the first that isn't, and why.
 pub(crate) fn check_steps(
     alloc: Global,
+    table: &mut Table,
     callees: Callees,
     procedure: u32,
     steps: &[Step],
@@ -90,7 +93,7 @@ pub(crate) fn check_steps(
         (StepsRefused (procedures_in callees.entry.procedures.now) procedure (steps_in steps.now)) }
 {
     for (place, step) in steps.iter().enumerate() {
-        stands(alloc, callees, procedure, &steps[..place], step)?;
+        stands(alloc, table, callees, procedure, &steps[..place], step)?;
     }
     Ok(())
 }

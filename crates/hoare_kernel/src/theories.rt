@@ -16,6 +16,7 @@ ghost use Rattle.hoare_kernel.specs.Walks.{ProcedureRefused, ProceduresRefused, 
 use crate::ends::ends_well;
 use crate::refusals::{Accepted, Refusal};
 use crate::steps::check_steps;
+use formula_table::Table;
 use std::alloc::Global;
 use theory_syntax::{Procedure, Theory};
 use triple_rules::{Callees, first_by_name};
@@ -23,6 +24,7 @@ use triple_rules::{Callees, first_by_name};
 // Whether the procedure, the one with this number, is proved.
 fn check_procedure(
     alloc: Global,
+    table: &mut Table,
     callees: Callees,
     procedure: &Procedure,
     number: u32,
@@ -37,7 +39,7 @@ fn check_procedure(
     ensures bad { IfErr result (ProcedureRefused (procedures_in callees.entry.procedures.now)
         number (nameless_procedure (procedure_of procedure.now))) }
 {
-    check_steps(alloc, callees, number, procedure.proof.as_slice())?;
+    check_steps(alloc, table, callees, number, procedure.proof.as_slice())?;
     if ends_well(alloc, procedure)? {
         Ok(())
     } else {
@@ -46,7 +48,7 @@ fn check_procedure(
 }
 
 // Whether each procedure is proved.
-fn check_procedures(alloc: Global, callees: Callees) -> Result<(), Refusal>
+fn check_procedures(alloc: Global, table: &mut Table, callees: Callees) -> Result<(), Refusal>
     requires callees { AreReady callees }
     requires few { length callees.procedures.now
         + step_count (map procedure_of callees.procedures.now) < 4294967295 }
@@ -60,7 +62,7 @@ fn check_procedures(alloc: Global, callees: Callees) -> Result<(), Refusal>
     let mut number = 0;
     for procedure in callees.procedures {
         number += 1;
-        check_procedure(alloc, callees, procedure, number)?;
+        check_procedure(alloc, table, callees, procedure, number)?;
     }
     Ok(())
 }
@@ -100,7 +102,8 @@ pub fn check_theory(alloc: Global, theory: &Theory) -> Result<Accepted, Refusal>
         procedures,
         names: Some(&names),
     };
-    check_procedures(alloc, callees)?;
+    let mut table = Table::new(alloc);
+    check_procedures(alloc, &mut table, callees)?;
     let steps = count_steps(procedures);
     let procedures = procedures.len() as u32;
     Ok(Accepted { procedures, steps })

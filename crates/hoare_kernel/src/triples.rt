@@ -1,8 +1,9 @@
 // The verdicts on triples, by the names of rules.
 ghost use Rattle.std.specs.Prelude.{[], ◌∷◌, IfOk};
 ghost use Rattle.rule_table.specs.Rules as rules;
-ghost use Rattle.rule_table.specs.Table.{table, triples};
+ghost use Rattle.rule_table.specs.Table.{table as rules_of, triples};
 ghost use Rattle.rule_table.specs.Verdicts.{IsVerdict, readings_in};
+ghost use Rattle.formula_table.specs.Interning.{KeepsAll};
 ghost use Rattle.row_patterns.specs.Verdicts.{verdict_in};
 ghost use Rattle.triple_rules.specs.Callees.{AreReady};
 ghost use Rattle.triple_rules.specs.Procedures.{procedures_in};
@@ -14,6 +15,7 @@ use crate::letters;
 use crate::names::{TripleRule, triple_rule_of};
 use dom_syntax::modified;
 use dom_terms::{OutOfMemory, Verdict};
+use formula_table::Table;
 use std::alloc::Global;
 use triple_rules::{Callees, Written};
 
@@ -30,15 +32,17 @@ fn frame(alloc: Global, written: &Written) -> Result<Verdict, OutOfMemory>
 // The verdict of the rule.
 fn verdict_of(
     alloc: Global,
+    table: &mut Table,
     rule: TripleRule,
     written: &Written,
     callees: Callees,
 ) -> Result<Verdict, OutOfMemory>
     requires written { IsReady written.now }
     requires callees { AreReady callees }
-    ensures { IfOk result (λ v. IsVerdict
+    ensures exact { IfOk result (λ v. IsVerdict
         (readings_in (triples (procedures_in callees.entry.procedures.now)) (name_of rule))
         (written_in written.now) (verdict_in v)) }
+    ensures kept { KeepsAll table.old table.new }
 {
     match rule {
         TripleRule::Skip => Ok(triple_rules::skip(alloc, written)),
@@ -50,7 +54,7 @@ fn verdict_of(
         TripleRule::Call => triple_rules::call(alloc, written, callees),
         TripleRule::Frame => frame(alloc, written),
         TripleRule::Consequence => Ok(triple_rules::consequence(alloc, written)),
-        TripleRule::Eliminate => letters::eliminate(alloc, written),
+        TripleRule::Eliminate => letters::eliminate(alloc, table, written),
         TripleRule::Disjunction => Ok(triple_rules::disjunction(alloc, written)),
         TripleRule::Absurd => Ok(triple_rules::absurd(written)),
         TripleRule::Instance => letters::instance(alloc, written),
@@ -60,18 +64,20 @@ fn verdict_of(
 // The verdict of the rule for triples, or of the axiom, of that name.
 fn verdict_named(
     alloc: Global,
+    table: &mut Table,
     name: &str,
     written: &Written,
     callees: Callees,
 ) -> Result<Verdict, OutOfMemory>
     requires written { IsReady written.now }
     requires callees { AreReady callees }
-    ensures { IfOk result (λ v. IsVerdict
+    ensures exact { IfOk result (λ v. IsVerdict
         (readings_in (triples (procedures_in callees.entry.procedures.now)) name.now)
         (written_in written.now) (verdict_in v)) }
+    ensures kept { KeepsAll table.old table.new }
 {
     match triple_rule_of(name) {
-        Some(rule) => verdict_of(alloc, rule, written, callees),
+        Some(rule) => verdict_of(alloc, table, rule, written, callees),
         None => Ok(axiom_by(name, written)),
     }
 }
@@ -80,15 +86,17 @@ fn verdict_named(
 /// of entailment, as by a name of no rule, it is that the conclusion doesn't fit.
 pub fn triple_by(
     alloc: Global,
+    table: &mut Table,
     name: &str,
     written: &Written,
     callees: Callees,
 ) -> Result<Verdict, OutOfMemory>
     requires written { IsReady written.now }
     requires callees { AreReady callees }
-    ensures { IfOk result (λ v. IsVerdict
-        (readings_in (table (procedures_in callees.entry.procedures.now)) name.now)
+    ensures exact { IfOk result (λ v. IsVerdict
+        (readings_in (rules_of (procedures_in callees.entry.procedures.now)) name.now)
         (written_in written.now) (verdict_in v)) }
+    ensures kept { KeepsAll table.old table.new }
 {
-    verdict_named(alloc, name, written, callees)
+    verdict_named(alloc, table, name, written, callees)
 }
