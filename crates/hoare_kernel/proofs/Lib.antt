@@ -1,7 +1,7 @@
 pub mod BadPlaces
 pub mod Called
 pub mod HasRows
-pub mod Rows
+pub mod RowsOfNames
 pub mod Sound
 pub mod Walks
 pub mod WellFormed

@@ -14,7 +14,7 @@ use Rattle.theory_syntax.specs.Judgements.{entails_of}
 use Rattle.row_patterns.specs.Verdicts.{verdict_in}
 use Rattle.rule_rows.specs.Names.{name_of}
 use Rattle.cited_steps.specs.Earlier.{steps_in}
-use Rattle.hoare_kernel.proofs.Rows.{entailment-by, entailment-misshapen}
+use Rattle.hoare_kernel.proofs.RowsOfNames.{entailment-by, entailment-misshapen}
 use Rattle.hoare_kernel.proofs.entailments.entailment_named.Goals as goal
 
 -- a test for none
@@ -31,18 +31,18 @@ entailment_by-requires-clause-sorted c =
     is_nothing (first_fault q s)
     (and_parts (is_judged_at s p) (is_judged_at s q) c.requires.sorted).1
 
-pub returns-in-Some : goal.returns-in-Some
-returns-in-Some c =
+pub returns-in-Some-clause-exact : goal.returns-in-Some-clause-exact
+returns-in-Some-clause-exact c =
     IfOk-weaker c.entailment_by.result _ _
     (λ v h procedures. entailment-by procedures c.args.name.now (name_of c.in-Some.rule)
     (written_at (steps_in c.args.earlier.now) c.args.citations.now
     (map term_of c.args.arguments.now)
     (nameless_judgement (entails_of (entailment_of c.args.entailment.now)))) (verdict_in v)
     (sym c.in-Some.ensures.known) ((c.in-Some.ensures.named c.in-Some.rule).0 refl) h)
-    c.entailment_by.ensures
+    c.entailment_by.ensures.exact
 
-pub returns-in-None : goal.returns-in-None
-returns-in-None c = λ procedures.
+pub returns-in-None-clause-exact : goal.returns-in-None-clause-exact
+returns-in-None-clause-exact c = λ procedures.
     entailment-misshapen procedures c.args.name.now
     (written_at (steps_in c.args.earlier.now) c.args.citations.now
     (map term_of c.args.arguments.now)
