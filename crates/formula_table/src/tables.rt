@@ -1,0 +1,153 @@
+// Tables of formulas.
+ghost use Rattle.std.specs.Prelude.{◌≡◌, ◌<◌, ◌≤◌, ◌↔◌, [], length, get_or, map, IsTrue, bytes_eq};
+ghost use Rattle.std.specs.String.{string_bytes};
+ghost use Rattle.model_shapes.specs.Values.{null};
+ghost use Rattle.model_terms.specs.Terms.{literal};
+ghost use Rattle.model_formulas.specs.Formulas.{truth};
+ghost use Rattle.model_formulas.specs.SameFormulas as tests;
+ghost use Rattle.formula_table.specs.Heads.{build, parts_used};
+ghost use Rattle.formula_table.specs.Rows.{bound_sort, read_term, TermWithin};
+ghost use Rattle.formula_table.specs.Tables.{IsTable};
+ghost use Rattle.formula_table.specs.OneProof.{table-prop};
+
+use crate::heads::Head;
+use crate::rows::{FormRow, TermRow};
+use indexmap::IndexSet;
+use std::alloc::Global;
+
+// How many formulas a table has at most, where nothing else is said.
+const MOST: u32 = 4_000_000;
+
+/// The number of a formula of a table.
+#[derive(Clone, Copy, Debug, PartialEq, Eq)]
+pub struct FormulaId {
+    /// The place of the formula's row.
+    pub place: u32,
+}
+
+/// Nameless formulas, each there once, and how many there may be. A number that the table doesn't
+/// have stands for `true`, among terms for `null`, and among names for the empty one.
+#[derive(Drop)]
+pub struct Table {
+    names: IndexSet<String>,
+    terms: IndexSet<TermRow>,
+    forms: IndexSet<FormRow>,
+    most: u32,
+    ghost whole: { IsTable (map string_bytes names.keys) terms.keys forms.keys }
+        by { table-prop (map string_bytes names.keys) terms.keys forms.keys },
+    ghost few: { length forms.keys ≤ most },
+}
+
+impl Table {
+    ghost use Rattle.formula_table.specs.Forms.{names_at, terms_at, forms_at, name_at, term_at, form_at};
+
+    /// The table with no formula, and room for as many as a proof may speak of. It takes memory
+    /// only when it grows.
+    pub fn new(alloc: Global) -> Table
+        ensures forms { forms_at result ≡ [] }
+        ensures most { result.most ≡ 4000000 }
+    {
+        Table::with_most(alloc, MOST)
+    }
+
+    /// The table with no formula, and so many at most.
+    #[tactic(auto, unfolding(crate::specs::Forms::forms_at))]
+    pub fn with_most(alloc: Global, most: u32) -> Table
+        ensures forms { forms_at result ≡ [] }
+        ensures most { result.most ≡ most }
+    {
+        Table {
+            names: IndexSet::new(alloc),
+            terms: IndexSet::new(alloc),
+            forms: IndexSet::new(alloc),
+            most,
+        }
+    }
+
+    /// How many formulas there are.
+    pub fn len(&self) -> usize
+        ensures { result ≡ length (forms_at self.now) }
+    {
+        self.forms.len()
+    }
+
+    /// The row of a number: what the number stands for is that of the row, whose parts have
+    /// smaller numbers.
+    pub fn form(&self, number: u32) -> FormRow
+        ensures row { form_at self.now number ≡ build bound_sort result.head
+            (term_at self.now result.first) (term_at self.now result.second)
+            (term_at self.now result.third) (form_at self.now result.left)
+            (form_at self.now result.right) }
+        ensures left { 0 < parts_used result.head → result.left < number }
+        ensures right { 1 < parts_used result.head → result.right < number }
+    {
+        match self.forms.get_index(number as usize) {
+            Some(row) => *row,
+            None => FormRow::of(Head::True),
+        }
+    }
+
+    /// The row of the number of a term: the same.
+    pub fn term(&self, number: u32) -> TermRow
+        ensures row { term_at self.now number
+            ≡ read_term (names_at self.now) (terms_at self.now) result }
+        ensures smaller { TermWithin (length (names_at self.now)) number result }
+    {
+        match self.terms.get_index(number as usize) {
+            Some(row) => *row,
+            None => TermRow::NullNode,
+        }
+    }
+
+    /// Whether the numbers stand for one formula.
+    pub fn same(&self, a: FormulaId, b: FormulaId) -> bool
+        ensures { IsTrue result ↔ (form_at self.now a.place ≡ form_at self.now b.place) }
+    {
+        self.same_forms(a.place, b.place)
+    }
+
+    /// Whether the numbers stand for one formula.
+    pub fn same_forms(&self, a: u32, b: u32) -> bool
+        ensures { result ≡ tests.same_formula (form_at self.now a) (form_at self.now b) }
+    {
+        a == b || (self.is_truth(a) && self.is_truth(b))
+    }
+
+    /// Whether the numbers stand for one term.
+    pub fn same_terms(&self, a: u32, b: u32) -> bool
+        ensures { result ≡ tests.same_term (term_at self.now a) (term_at self.now b) }
+    {
+        a == b || (self.is_null(a) && self.is_null(b))
+    }
+
+    /// Whether the numbers stand for one name.
+    pub fn same_names(&self, a: u32, b: u32) -> bool
+        ensures { result ≡ bytes_eq (name_at self.now a) (name_at self.now b) }
+    {
+        a == b || (self.is_nameless(a) && self.is_nameless(b))
+    }
+
+    // whether the number stands for `true`
+    fn is_truth(&self, number: u32) -> bool
+        ensures { result ≡ tests.same_formula (form_at self.now number) truth }
+    {
+        self.form(number).head == Head::True
+    }
+
+    // whether the number stands for `null`
+    fn is_null(&self, number: u32) -> bool
+        ensures { result ≡ tests.same_term (term_at self.now number) (literal null) }
+    {
+        self.term(number) == TermRow::NullNode
+    }
+
+    // whether the number stands for the empty name
+    fn is_nameless(&self, number: u32) -> bool
+        ensures { result ≡ bytes_eq (name_at self.now number) [] }
+    {
+        match self.names.get_index(number as usize) {
+            Some(name) => name.as_str().is_empty(),
+            None => true,
+        }
+    }
+}
