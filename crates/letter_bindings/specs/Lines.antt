@@ -13,7 +13,7 @@ use Rattle.rule_table.specs.Letters.{LogicVar, as_logic}
 use Rattle.rule_table.specs.Verdicts.{Written, Verdict, instance_verdict, shape_verdict, premises_verdict, side_verdict}
 use Rattle.rule_patterns.specs.Patterns.{ConditionPattern, not_free_p, pure_p, RequirementPattern, of_sort_p, x_of_sort_p, LinePattern}
 use Rattle.letter_bindings.specs.Known.{Known, nothing, place_in, term_in}
-use Rattle.letter_bindings.specs.Matching.{then, match_terms, match_judgement, match_judgements}
+use Rattle.letter_bindings.specs.Matching.{then, match_terms, match_judgement, match_judgements, judgement_binds_simply, each_binds_simply}
 use Rattle.letter_bindings.specs.Settled.{settle}
 use Rattle.letter_bindings.specs.Shifts.{is_free}
 
@@ -26,6 +26,10 @@ walk_conclusion p w =
 abbrev pub walk_premises : LinePattern → Option (List Judgement) → Known → Option Known
 walk_premises p None k = None
 walk_premises p (Some js) k = match_judgements p.premises js k
+
+-- each binder of the row has a simple form below it
+abbrev pub line_simple : LinePattern → Bool
+line_simple p = judgement_binds_simply p.conclusion && each_binds_simply p.premises
 
 -- WHAT IS ASKED of the sort of $x, and of an argument
 abbrev pub has_sort_at : Sort → Term → Bool
