@@ -1,11 +1,11 @@
--- Needn't be believed: what a walk over numbers knows, as the definitions have it, and what it means
--- that the walk is theirs.
+-- Needn't be believed: what a walk over numbers knows, as the definitions have it, and what it
+-- means that the walk is theirs.
 use Rattle.std.specs.Prelude.{◌≡◌, Bool, true, false, Option, Some, None}
 use Rattle.std.specs.Option.{option_map}
 use Rattle.dom_terms.specs.Sorts.{data_sort_of, sort_of}
 use Rattle.letter_bindings.specs.Known as known
 use Rattle.formula_table.specs.declared.tables.Table.{Table}
-use Rattle.formula_table.specs.Tables.{form_at, term_at}
+use Rattle.formula_table.specs.Forms.{form_at, term_at}
 use Rattle.numbered_formulas.specs.Variables.{variable_at}
 use Rattle.row_walks.specs.declared.known.Places.{Places}
 use Rattle.row_walks.specs.declared.known.Terms.{Terms}

@@ -4,7 +4,7 @@ ghost use Rattle.model_formulas.specs.Formulas.{same_as};
 ghost use Rattle.letter_bindings.specs.Matching.{match_below};
 ghost use Rattle.rule_patterns.specs.Patterns.{same_as_p, x_term};
 ghost use Rattle.row_patterns.specs.Views.{formula_in};
-ghost use Rattle.formula_table.specs.Tables.{form_at, term_at};
+ghost use Rattle.formula_table.specs.Forms.{form_at, term_at};
 ghost use Rattle.row_walks.specs.Views.{known_at, Walks};
 
 use crate::known::Known;

@@ -2,7 +2,7 @@
 ghost use Rattle.std.specs.Prelude.{◌≡◌, cond, None};
 ghost use Rattle.letter_bindings.specs.Matching.{match_formula};
 ghost use Rattle.row_patterns.specs.Views.{formula_in};
-ghost use Rattle.formula_table.specs.Tables.{form_at};
+ghost use Rattle.formula_table.specs.Forms.{form_at};
 ghost use Rattle.row_walks.specs.Views.{known_at, Walks};
 ghost use Rattle.row_walks.specs.Forms.{is_flat};
 
@@ -13,12 +13,7 @@ use formula_table::{Head, Table};
 use row_patterns::{Pattern, TermPattern};
 
 // the walk over a formula without parts
-pub(crate) fn walk_flat(
-    table: &Table,
-    pattern: &Pattern,
-    number: u32,
-    known: &mut Known,
-) -> bool
+pub(crate) fn walk_flat(table: &Table, pattern: &Pattern, number: u32, known: &mut Known) -> bool
     ensures { Walks result (known_at table.now known.new)
         (cond (is_flat pattern.now) (match_formula (formula_in pattern.now)
         (form_at table.now number) (known_at table.now known.old)) None) }

@@ -4,7 +4,7 @@ ghost use Rattle.model_formulas.specs.SameFormulas as tests;
 ghost use Rattle.letter_bindings.specs.Matching.{match_formula};
 ghost use Rattle.formula_syntax.specs.Formulas.{side_of};
 ghost use Rattle.row_patterns.specs.Views.{formula_in};
-ghost use Rattle.formula_table.specs.Tables.{form_at};
+ghost use Rattle.formula_table.specs.Forms.{form_at};
 ghost use Rattle.row_walks.specs.Views.{known_at, Walks};
 ghost use Rattle.row_walks.specs.Forms.{is_logical, is_shaped};
 

@@ -3,7 +3,7 @@ ghost use Rattle.std.specs.Prelude.{◌≡◌};
 ghost use Rattle.std.specs.Option.{option_map};
 ghost use Rattle.dom_terms.specs.Sorts.{data_sort_of};
 ghost use Rattle.formula_table.specs.declared.tables.Table as tables;
-ghost use Rattle.formula_table.specs.Tables.{form_at, term_at};
+ghost use Rattle.formula_table.specs.Forms.{form_at, term_at};
 ghost use Rattle.letter_bindings.specs.Known as known;
 ghost use Rattle.row_patterns.specs.Views.{letter_in, term_letter_in, data_letter_in};
 ghost use Rattle.row_walks.specs.Views.{places_at, terms_at, datas_of, known_at};
@@ -192,8 +192,8 @@ impl Datas {
     }
 }
 
-/// What a walk knows: what each letter is, and what stands for it below a binder of `$x`; `$x` and its
-/// sort; and the formula that `P with E for $x` is to be.
+/// What a walk knows: what each letter is, and what stands for it below a binder of `$x`; `$x` and
+/// its sort; and the formula that `P with E for $x` is to be.
 #[derive(Clone, Copy)]
 pub struct Known {
     /// The formulas.

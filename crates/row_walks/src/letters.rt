@@ -3,7 +3,7 @@ ghost use Rattle.std.specs.Prelude.{◌≡◌};
 ghost use Rattle.letter_bindings.specs.Matching.{match_below, match_formula};
 ghost use Rattle.rule_patterns.specs.Patterns.{some_formula, replaced};
 ghost use Rattle.row_patterns.specs.Views.{letter_in, term_letter_in};
-ghost use Rattle.formula_table.specs.Tables.{form_at};
+ghost use Rattle.formula_table.specs.Forms.{form_at};
 ghost use Rattle.row_walks.specs.Views.{known_at, Walks};
 
 use crate::known::Known;

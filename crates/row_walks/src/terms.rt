@@ -4,7 +4,7 @@ ghost use Rattle.letter_bindings.specs.Known as known;
 ghost use Rattle.letter_bindings.specs.Matching.{then, match_x_sort, match_variable, match_term};
 ghost use Rattle.rule_patterns.specs.Patterns.{some_term};
 ghost use Rattle.row_patterns.specs.Views.{term_letter_in, term_in};
-ghost use Rattle.formula_table.specs.Tables.{term_at};
+ghost use Rattle.formula_table.specs.Forms.{term_at};
 ghost use Rattle.numbered_formulas.specs.Variables.{variable_at};
 ghost use Rattle.row_walks.specs.Views.{known_at, Walks};
 
@@ -32,7 +32,12 @@ pub fn walk_variable(table: &Table, variable: Variable, known: &mut Known) -> bo
 }
 
 // the term of a letter
-fn walk_term_letter(table: &Table, letter: TermLetter, number: u32, known: &mut Known) -> bool
+pub(crate) fn walk_term_letter(
+    table: &Table,
+    letter: TermLetter,
+    number: u32,
+    known: &mut Known,
+) -> bool
     ensures { Walks result (known_at table.now known.new)
         (match_term (some_term (term_letter_in letter)) (term_at table.now number)
         (known_at table.now known.old)) }
