@@ -6,10 +6,12 @@
 
 mod finding;
 mod occurring;
+mod shifting;
 mod sorting;
 mod variables;
 
 pub use finding::bound_in;
 pub use occurring::{is_free, is_pure};
+pub use shifting::{Shift, is_shifted};
 pub use sorting::has_sort_at;
 pub use variables::{Variable, same_variables};

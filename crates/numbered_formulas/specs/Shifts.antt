@@ -1,0 +1,21 @@
+-- Needn't be believed: the program's promise doesn't speak of it. The shifts that the program's stand
+-- for, and terms below more binders.
+use Rattle.std.specs.Prelude.{ℕ, zero, suc}
+use Rattle.model_terms.specs.Terms.{Term, raised}
+use Rattle.letter_bindings.specs.Shifts as model
+use Rattle.formula_table.specs.Forms.{term_at}
+use Rattle.formula_table.specs.declared.tables.Table.{Table}
+use Rattle.numbered_formulas.specs.Variables.{variable_at}
+use Rattle.numbered_formulas.specs.declared.shifting.Shift.{Shift}
+use Rattle.numbered_formulas.specs.declared.shifting.Shift.TheVariants as s
+
+-- the shift
+abbrev pub shift_at : Table → Shift → model.Shift
+shift_at table (s.Close variable) = model.close (variable_at table variable)
+shift_at table s.Raise = model.raise
+shift_at table (s.Open term) = model.open_with (term_at table term)
+
+-- the term as it is written under so many more binders
+abbrev pub raised_by : ℕ → Term → Term
+raised_by zero a = a
+raised_by (suc n) a = raised (raised_by n a)
