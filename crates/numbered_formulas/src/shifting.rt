@@ -1,5 +1,5 @@
 // Whether one formula is another shifted: closed over a variable, raised, or opened.
-ghost use Rattle.std.specs.Prelude.{◌≡◌, ◌+◌, ◌<◌, ◌^◌};
+ghost use Rattle.std.specs.Prelude.{IfSome, IsNone, ◌≡◌, ◌+◌, ◌<◌, ◌^◌};
 ghost use Rattle.model_terms.specs.Variables.{bound};
 ghost use Rattle.model_terms.specs.Terms as terms;
 ghost use Rattle.model_formulas.specs.Substitution.{formula_with};
@@ -7,13 +7,15 @@ ghost use Rattle.model_formulas.specs.SameFormulas.{same_formula, same_term};
 ghost use Rattle.rule_table.specs.Letters.{as_logic};
 ghost use Rattle.letter_bindings.specs.Shifts.{shifted, shifting, under};
 ghost use Rattle.dom_terms.specs.Sorts.{sort_of};
+ghost use Rattle.formula_table.specs.Heads.{build};
+ghost use Rattle.formula_table.specs.Rows.{bound_sort};
 ghost use Rattle.formula_table.specs.Forms.{form_at, term_at};
 ghost use Rattle.numbered_formulas.specs.Variables.{variable_at};
-ghost use Rattle.numbered_formulas.specs.Shifts.{shift_at, raised_by};
+ghost use Rattle.numbered_formulas.specs.Shifts.{shift_at, raised_by, IsApart};
 
 use crate::variables::{Variable, same_variables};
 use dom_terms::{Sort, same_sort};
-use formula_table::{Head, Table, TermRow};
+use formula_table::{FormRow, Head, Table, TermRow};
 
 /// What becomes of the variables of a formula.
 #[derive(Clone, Copy)]
@@ -35,6 +37,7 @@ pub fn is_shifted(table: &Table, shift: Shift, from: u32, to: u32) -> bool
 }
 
 // whether the second formula is the first one shifted, both below so many more binders
+#[tactic(auto, using(crate::proofs::OneHead::same_rules))]
 fn is_shifted_below(table: &Table, shift: Shift, depth: u32, from: u32, to: u32) -> bool
     requires { depth + from < 2 ^ 32 }
     ensures { result ≡ same_formula
@@ -42,10 +45,9 @@ fn is_shifted_below(table: &Table, shift: Shift, depth: u32, from: u32, to: u32)
         (form_at table.now to) }
 {
     let row = table.form(from);
-    let other = table.form(to);
-    if row.head != other.head {
+    let Some(other) = row_of(table, row.head, to) else {
         return false;
-    }
+    };
     match row.head {
         Head::True | Head::False | Head::EmptyForest | Head::EmptyGrove | Head::Hole(_) => true,
         Head::Not | Head::One | Head::Root => {
@@ -74,6 +76,17 @@ fn is_shifted_below(table: &Table, shift: Shift, depth: u32, from: u32, to: u32)
                 && is_shifted_below(table, shift, depth, row.right, other.right)
         }
     }
+}
+
+// the row of the formula, where it has the form
+fn row_of(table: &Table, head: Head, number: u32) -> Option<FormRow>
+    ensures some { IfSome result (λ row. form_at table.now number ≡ build bound_sort head
+        (term_at table.now row.first) (term_at table.now row.second) (term_at table.now row.third)
+        (form_at table.now row.left) (form_at table.now row.right)) }
+    ensures none { IsNone result → IsApart head (form_at table.now number) }
+{
+    let row = table.form(number);
+    if row.head == head { Some(row) } else { None }
 }
 
 // the same of terms
