@@ -70,6 +70,4 @@ loop-preserved g c =
           (step_of c.in_ok-item.item.step) c.loop.are_judged c.in_ok-item.item.is_judged
           c.if-are_judged.are_judged (map step_of c.push.new.self) judged e
           c.loop.invariant.judged c.in_ok-item.ensures.judged;
-      instances = rw (c.in_ok-push.ensures.ok, sym c.as_slice.ensures)
-          c.still_instances-are_instances.ensures;
     }
