@@ -1,6 +1,6 @@
 -- Formulas of different forms are different.
 use Rattle.std.proofs.Common.{◌≡◌, Bool, true, false, sym, ap, refl, ◌∙◌}
-use Rattle.model_shapes.proofs.Truth.{false≢true, both_true}
+use Rattle.model_shapes.proofs.Truth.{both_true}
 use Rattle.model_shapes.proofs.Tests.{same_data_sort-refl, same_sort-refl}
 use Rattle.model_terms.specs.Terms.{Term, Substitution, under_binder, term_with}
 use Rattle.model_formulas.specs.Formulas.{Formula, Side, whole, hole_left, hole_right}

@@ -158,8 +158,15 @@ pub goes_up : (h : Shift) (n i : ℕ) (s : Sort) (b : Term) (r : Bool)
     → r ≡ same_term (under n (shifting h) (bound i s)) b
 goes_up h n i s b r o k q = q ∙ sym (ap (λ a. same_term a b) (goes-up h n i s o k))
 
-pub ruleset raised_rules = (raised-literal, raised-prog, raised-logic, raised-bound, raised-sum,
-    raised-difference, raised-appended)
+pub ruleset raised_rules = (
+  raised-literal,
+  raised-prog,
+  raised-logic,
+  raised-bound,
+  raised-sum,
+  raised-difference,
+  raised-appended,
+)
 
 -- a variable of the logic, where it is closed over, and where it isn't
 module _ (h : Shift) (n : ℕ) (x : Name) (s : Sort) (b : Term) (r : Bool) where

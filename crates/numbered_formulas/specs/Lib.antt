@@ -1,2 +1,3 @@
 pub mod Variables
 pub mod Shifts
+pub mod Parts

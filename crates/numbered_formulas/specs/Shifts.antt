@@ -1,5 +1,5 @@
--- Needn't be believed: the program's promise doesn't speak of it. The shifts that the program's stand
--- for, and terms below more binders.
+-- Needn't be believed: the program's promise doesn't speak of it. The shifts that those of the
+-- program stand for, and terms below more binders.
 use Rattle.std.specs.Prelude.{◌≡◌, false, ℕ, zero, suc}
 use Rattle.model_terms.specs.Terms.{Term, Substitution, raised}
 use Rattle.model_formulas.specs.Formulas.{Formula}

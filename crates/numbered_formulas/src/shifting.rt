@@ -1,7 +1,7 @@
 // Whether one formula is another shifted: closed over a variable, raised, or opened.
 ghost use Rattle.std.specs.Prelude.{IfSome, IsNone, ◌≡◌, ◌+◌, ◌<◌, ◌^◌};
 ghost use Rattle.model_terms.specs.Variables.{bound};
-ghost use Rattle.model_terms.specs.Terms as terms;
+ghost use Rattle.model_terms.specs.Terms.{term_with};
 ghost use Rattle.model_formulas.specs.Substitution.{formula_with};
 ghost use Rattle.model_formulas.specs.SameFormulas.{same_formula, same_term};
 ghost use Rattle.rule_table.specs.Letters.{as_logic};
@@ -13,8 +13,8 @@ ghost use Rattle.formula_table.specs.Forms.{form_at, term_at};
 ghost use Rattle.numbered_formulas.specs.Variables.{variable_at};
 ghost use Rattle.numbered_formulas.specs.Shifts.{shift_at, raised_by, IsApart};
 
-use crate::variables::{Variable, same_variables};
-use dom_terms::{Sort, same_sort};
+use crate::variables::{Variable, is_bound, is_logic, same_variables};
+use dom_terms::Sort;
 use formula_table::{FormRow, Head, Table, TermRow};
 
 /// What becomes of the variables of a formula.
@@ -93,7 +93,7 @@ fn row_of(table: &Table, head: Head, number: u32) -> Option<FormRow>
 #[tactic(auto, using(crate::proofs::Under::prog_stays))]
 fn is_term_shifted(table: &Table, shift: Shift, depth: u32, from: u32, to: u32) -> bool
     ensures { result ≡ same_term
-        (terms.term_with (under depth (shifting (shift_at table.now shift))) (term_at table.now from))
+        (term_with (under depth (shifting (shift_at table.now shift))) (term_at table.now from))
         (term_at table.now to) }
 {
     match (table.term(from), table.term(to)) {
@@ -163,26 +163,5 @@ fn is_raised(table: &Table, depth: u32, from: u32, to: u32) -> bool
             is_bound(table, u64::from(place) + u64::from(depth), sort, to)
         }
         _ => table.same_terms(from, to),
-    }
-}
-
-// whether the term is the bound variable
-fn is_bound(table: &Table, place: u64, sort: Sort, term: u32) -> bool
-    ensures { result ≡ same_term (terms.variable (bound place (sort_of sort))) (term_at table.now term) }
-{
-    match table.term(term) {
-        TermRow::Bound(own, own_sort) => u64::from(own) == place && same_sort(sort, own_sort),
-        _ => false,
-    }
-}
-
-// whether the term is the variable of the logic
-fn is_logic(table: &Table, variable: Variable, term: u32) -> bool
-    ensures { result ≡ same_term (terms.variable (as_logic (variable_at table.now variable)))
-        (term_at table.now term) }
-{
-    match table.term(term) {
-        TermRow::Logic(name, sort) => same_variables(table, variable, Variable { name, sort }),
-        _ => false,
     }
 }

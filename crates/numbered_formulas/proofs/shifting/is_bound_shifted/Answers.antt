@@ -1,6 +1,5 @@
 -- A bound variable below binders, by the shift.
 use Rattle.std.proofs.Common.{◌≡◌, ◌⊎◌, inl, inr, ap, arith, ◌∙◌}
-use Rattle.model_shapes.specs.Sorts as model
 use Rattle.model_terms.specs.Variables.{bound}
 use Rattle.model_terms.specs.Terms.{Term, variable}
 use Rattle.model_formulas.specs.SameFormulas.{same_term}

@@ -50,9 +50,10 @@ returns-in_default c = stays_free (shift_at c.args.table.now c.args.shift) c.arg
     (name_at c.args.table.now c.args.variable.name) (sort_of c.args.variable.sort)
     (term_at c.args.table.now c.args.to) c.is_logic.result
     (elim c.in_default.branch [
-    in_default-via-in-Close+else-same_variables w ↦ closes-other c.args.table.now c.args.shift
-        c.args.variable w.in-Close.closed w.in-Close.is
-        (sym w.same_variables.ensures ∙ w.if-same_variables.false)
-    | in_default-via-in_default w ↦ λ x o. absurd
-        (closes-not c.args.table.now c.args.shift w.in_default.not-Close x o) ])
+      | in_default-via-in-Close+else-same_variables w ↦ closes-other c.args.table.now c.args.shift
+          c.args.variable w.in-Close.closed w.in-Close.is
+          (sym w.same_variables.ensures ∙ w.if-same_variables.false)
+      | in_default-via-in_default w ↦ λ x o. absurd
+          (closes-not c.args.table.now c.args.shift w.in_default.not-Close x o)
+    ])
     c.is_logic.ensures

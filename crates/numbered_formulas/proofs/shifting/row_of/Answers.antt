@@ -1,5 +1,5 @@
 -- What the test of forms says of a row.
-use Rattle.std.proofs.Common.{◌≡◌, true, false, ap, sym, refl, ◌∙◌, subst}
+use Rattle.std.proofs.Common.{◌≡◌, true, false, ap, sym, ◌∙◌, subst}
 use Rattle.model_shapes.proofs.Truth.{false≢true}
 use Rattle.formula_table.specs.Heads.{build}
 use Rattle.formula_table.specs.Rows.{bound_sort}
