@@ -4,12 +4,10 @@
 #![tactic(auto)]
 
 mod below;
-mod closed;
 mod flat;
 mod formulas;
 mod known;
 mod letters;
-mod parts;
 mod sorts;
 mod steps;
 mod terms;
