@@ -1,26 +1,22 @@
 // Checks of a file, over its bytes.
 ghost use Rattle.std.specs.Prelude.{◌≡◌, ℕ, List, Some, IfOk};
-ghost use Rattle.std.specs.Bool.{OnTrue};
-ghost use Rattle.model_commands.specs.Theories.{auto, procedures_of};
+ghost use Rattle.model_commands.specs.Theories.{auto};
 ghost use Rattle.model_files.specs.FileFaults.{IsWellFormedTheory};
 ghost use Rattle.model_files.specs.Sizes.{TheoryIsSmall};
 ghost use Rattle.rule_table.specs.Accepted as bad;
 ghost use Rattle.row_patterns.specs.Verdicts.{verdict_in};
 ghost use Rattle.theory_syntax.specs.Judgements.{reason_of};
 ghost use Rattle.theory_syntax.specs.Theories.{theory_of};
-ghost use Rattle.cited_steps.specs.Held.{EachHolds};
 ghost use Rattle.domcheck_core.specs.Answers.{CheckAnswer, IsBadAt, CheckVerdict, item_numbered};
 ghost use Rattle.domcheck_core.specs.Clauses.{IsSoundFile};
 ghost use Rattle.domcheck_core.specs.Stands.{HasProcedure, HasStep, NamesRule};
 
 use crate::file::read_file;
-use crate::judging::Kernel;
 use crate::replies::{Reply, accepted, answered, reported};
 use crate::status::Status;
 use dom_terms::{Copied, OutOfMemory, Text};
 use fault_report::Report;
-use hoare_kernel::{Refusal, check_told_theory};
-use proof_text::ReadTheory;
+use hoare_kernel::{Refusal, check_theory};
 use std::alloc::Global;
 use std::mem;
 use theory_syntax::{Procedure, Reason, Step, Theory};
@@ -105,16 +101,13 @@ fn no_proof(alloc: Global, theory: &Theory, procedure: u32) -> Result<Reply, Out
     reported(alloc, Status::StepFails, Report::NoProof { procedure })
 }
 
-// The answer on the theory of a file. What reading it told of its steps isn't asked again.
-fn verdict(alloc: Global, read: &ReadTheory) -> Result<Reply, OutOfMemory>
-    requires small { TheoryIsSmall (theory_of read.now.theory) }
-    requires formed { IsWellFormedTheory (theory_of read.now.theory) }
-    requires told { OnTrue read.now.are_instances
-        (EachHolds (procedures_of (theory_of read.now.theory))) }
-    ensures { IfOk result (λ r. CheckVerdict (theory_of read.now.theory) r.status r.output) }
+// The answer on the theory of a file.
+fn verdict(alloc: Global, theory: &Theory) -> Result<Reply, OutOfMemory>
+    requires small { TheoryIsSmall (theory_of theory.now) }
+    requires formed { IsWellFormedTheory (theory_of theory.now) }
+    ensures { IfOk result (λ r. CheckVerdict (theory_of theory.now) r.status r.output) }
 {
-    let theory = &read.theory;
-    match check_told_theory(alloc, theory, read.are_instances) {
+    match check_theory(alloc, theory) {
         Ok(counts) => accepted(alloc, counts.procedures, counts.steps),
         Err(
             Refusal::Fails {
@@ -140,10 +133,10 @@ pub enum Ending {
 }
 
 // Gives the memory of a theory back, or leaves it.
-fn let_go(read: ReadTheory, ending: Ending) {
+fn let_go(theory: Theory, ending: Ending) {
     match ending {
-        Ending::GiveBack => drop(read),
-        Ending::Leave => mem::forget(read),
+        Ending::GiveBack => drop(theory),
+        Ending::Leave => mem::forget(theory),
     }
 }
 
@@ -152,10 +145,10 @@ fn let_go(read: ReadTheory, ending: Ending) {
 pub fn check_until(alloc: Global, bytes: &[u8], ending: Ending) -> Result<Reply, OutOfMemory>
     ensures { IfOk result (λ r. CheckAnswer bytes.now r.status r.output) }
 {
-    match read_file::<Kernel>(alloc, bytes) {
-        Ok(read) => {
-            let reply = verdict(alloc, &read);
-            let_go(read, ending);
+    match read_file(alloc, bytes) {
+        Ok(theory) => {
+            let reply = verdict(alloc, &theory);
+            let_go(theory, ending);
             reply
         }
         Err(why) => answered(alloc, why),

@@ -19,7 +19,6 @@ mod document;
 mod file;
 mod generated;
 mod groves;
-mod judging;
 mod limits;
 mod replies;
 mod runs;

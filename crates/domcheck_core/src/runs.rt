@@ -24,7 +24,6 @@ use fault_report::{Report, ended_text};
 use heap_runner::{HeapOutcome, run_heap};
 use logic_text::RawGrove;
 use node_heap::NodeHeap;
-use proof_text::NoJudge;
 use std::alloc::Global;
 use theory_syntax::Theory;
 
@@ -65,8 +64,8 @@ pub fn open_file(
 ) -> Result<Opened, OutOfMemory>
     ensures { IfOk result (IsOpened file.now procedure.now arguments.now) }
 {
-    match read_file::<NoJudge>(alloc, file) {
-        Ok(read) => open_theory(alloc, read.theory, procedure, arguments),
+    match read_file(alloc, file) {
+        Ok(theory) => open_theory(alloc, theory, procedure, arguments),
         Err(why) => Ok(Opened::Answered(answered(alloc, why)?)),
     }
 }

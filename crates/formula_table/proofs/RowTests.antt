@@ -1,6 +1,7 @@
 -- The test of rows says that they are one row.
-use Rattle.std.proofs.Common.{◌≡◌, ◌==◌, true, ◌&&◌, refl, ap}
+use Rattle.std.proofs.Common.{◌≡◌, ◌==◌, true, false, ◌&&◌, refl, ap}
 use Rattle.model_shapes.proofs.Truth.{false≢true, both_true}
+use Rattle.std.proofs.lemmas.Bool.Decides.{Decides-int_eq}
 use Rattle.model_shapes.proofs.Tests.{nat-is, nat-refl}
 use Rattle.dom_terms.specs.declared.sorts.ValueSort.{ValueSort}
 use Rattle.dom_terms.specs.declared.sorts.ValueSort.TheVariants as v
@@ -17,6 +18,9 @@ use Rattle.formula_syntax.specs.contracts.formulas.SidePartialEq.TheImpl as sk
 use Rattle.formula_table.specs.declared.heads.Head.{Head}
 use Rattle.formula_table.specs.declared.heads.Head.TheVariants as h
 use Rattle.formula_table.specs.contracts.heads.HeadPartialEq.TheImpl as hk
+use Rattle.formula_table.specs.declared.rows.TermRow.{TermRow}
+use Rattle.formula_table.specs.declared.rows.TermRow.TheVariants as t
+use Rattle.formula_table.specs.contracts.rows.TermRowPartialEq.TheImpl as tk
 use Rattle.formula_table.specs.declared.rows.FormRow.{FormRow}
 use Rattle.formula_table.specs.contracts.rows.FormRowPartialEq.TheImpl as rk
 
@@ -150,3 +154,45 @@ row-same r t e =
 pub row-refl : (r : FormRow) → rk.eq-value.it r r ≡ true
 row-refl r = λ j. head-refl r.head j && (nat-refl r.first j && (nat-refl r.second j
     && (nat-refl r.third j && (nat-refl r.left j && nat-refl r.right j))))
+
+-- ROWS OF TERMS
+pub term_row-same : (r s : TermRow) → tk.eq-value.it r s ≡ true → r ≡ s
+term_row-same t.NullNode t.NullNode e = refl
+term_row-same t.NullList t.NullList e = refl
+term_row-same (t.Int a) (t.Int b) e = ap t.Int ((Decides-int_eq a b).0 e)
+term_row-same (t.Str x) (t.Str y) e = ap t.Str (nat-is x y e)
+term_row-same (t.Bool true) (t.Bool true) e = refl
+term_row-same (t.Bool false) (t.Bool false) e = refl
+term_row-same (t.Prog x a) (t.Prog y b) e =
+    let p : ((x == y) ≡ true) × (vk.eq-value.it a b ≡ true) = both_true _ _ e in
+    λ j. t.Prog (nat-is x y p.0 j) (value-same a b p.1 j)
+term_row-same (t.Logic x a) (t.Logic y b) e =
+    let p : ((x == y) ≡ true) × (kk.eq-value.it a b ≡ true) = both_true _ _ e in
+    λ j. t.Logic (nat-is x y p.0 j) (kind-same a b p.1 j)
+term_row-same (t.Bound x a) (t.Bound y b) e =
+    let p : ((x == y) ≡ true) × (kk.eq-value.it a b ≡ true) = both_true _ _ e in
+    λ j. t.Bound (nat-is x y p.0 j) (kind-same a b p.1 j)
+term_row-same (t.Add a b) (t.Add c f) e =
+    let p : ((a == c) ≡ true) × ((b == f) ≡ true) = both_true _ _ e in
+    λ j. t.Add (nat-is a c p.0 j) (nat-is b f p.1 j)
+term_row-same (t.Sub a b) (t.Sub c f) e =
+    let p : ((a == c) ≡ true) × ((b == f) ≡ true) = both_true _ _ e in
+    λ j. t.Sub (nat-is a c p.0 j) (nat-is b f p.1 j)
+term_row-same (t.Cat a b) (t.Cat c f) e =
+    let p : ((a == c) ≡ true) × ((b == f) ≡ true) = both_true _ _ e in
+    λ j. t.Cat (nat-is a c p.0 j) (nat-is b f p.1 j)
+term_row-same r s e = false≢true e
+
+pub term_row-refl : (r : TermRow) → tk.eq-value.it r r ≡ true
+term_row-refl t.NullNode = refl
+term_row-refl t.NullList = refl
+term_row-refl (t.Int a) = (Decides-int_eq a a).1 refl
+term_row-refl (t.Str x) = nat-refl x
+term_row-refl (t.Bool true) = refl
+term_row-refl (t.Bool false) = refl
+term_row-refl (t.Prog x a) = λ j. nat-refl x j && value-refl a j
+term_row-refl (t.Logic x a) = λ j. nat-refl x j && kind-refl a j
+term_row-refl (t.Bound x a) = λ j. nat-refl x j && kind-refl a j
+term_row-refl (t.Add a b) = λ j. nat-refl a j && nat-refl b j
+term_row-refl (t.Sub a b) = λ j. nat-refl a j && nat-refl b j
+term_row-refl (t.Cat a b) = λ j. nat-refl a j && nat-refl b j

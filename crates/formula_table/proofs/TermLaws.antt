@@ -1,15 +1,15 @@
 -- Rows of terms: the same as of formulas, form by form.
-use Rattle.std.proofs.Common.{◌≡◌, ℕ, ◌<◌, ◌≤◌, sym, refl, ap, arith, List, [], length, get_or}
+use Rattle.std.proofs.Common.{◌≡◌, ℕ, suc, ◌<◌, ◌≤◌, sym, refl, ap, ◌∙◌, subst, arith, List, [], ◌∷◌, ◌++◌, length, get_or}
 use Rattle.model_shapes.specs.Values.{Name, null, int, str, boolean}
-use Rattle.model_terms.specs.Terms.{Term, literal, sum, difference, appended}
+use Rattle.model_terms.specs.Terms.{Term, literal, variable, sum, difference, appended}
 use Rattle.model_terms.specs.Variables.{prog, logic, bound}
-use Rattle.formula_table.specs.Growing.{Different, Keeps}
+use Rattle.formula_table.specs.Growing.{grow, EachWithin, Different, Keeps}
 use Rattle.dom_terms.specs.Sorts.{value_sort_of, sort_of}
 use Rattle.formula_table.specs.Rows.{read_term, TermWithin}
 use Rattle.formula_table.specs.declared.rows.TermRow.{TermRow}
 use Rattle.formula_table.specs.declared.rows.TermRow.TheVariants as t
 use Rattle.formula_table.proofs.BuiltAlike.{value_sort-one, sort-one}
-use Rattle.formula_table.proofs.Growing.{keeps-at}
+use Rattle.formula_table.proofs.Growing.{keeps-at, one-more}
 
 pub term-wider : (names m n : ℕ) (r : TermRow) → m ≤ n → TermWithin names m r
     → TermWithin names n r
@@ -88,3 +88,50 @@ term-one names n all (t.Cat a b) (t.Cat c d) h w v e =
     let q : get_or all b (literal null) ≡ get_or all d (literal null) = cc in
     λ j. t.Cat (h a c (literal null) w.0 v.0 p j) (h b d (literal null) w.1 v.1 q j)
 term-one names n all r s h w v e = absurd cc
+
+-- NAMES THAT ARE ADDED LEAVE THE TERMS
+pub names-stay : (old new : List Name) (done : List Term) (r : TermRow) → Keeps old new
+    → TermWithin (length old) (length done) r → read_term old done r ≡ read_term new done r
+names-stay old new done (t.Str x) k w = λ j. literal (str (sym (keeps-at old new x [] k w) j))
+names-stay old new done (t.Prog x s) k w =
+    λ j. variable (prog (sym (keeps-at old new x [] k w) j) (value_sort_of s))
+names-stay old new done (t.Logic x s) k w =
+    λ j. variable (logic (sym (keeps-at old new x [] k w) j) (sort_of s))
+names-stay old new done (t.Add a b) k w = refl
+names-stay old new done (t.Sub a b) k w = refl
+names-stay old new done (t.Cat a b) k w = refl
+names-stay old new done t.NullNode k w = refl
+names-stay old new done t.NullList k w = refl
+names-stay old new done (t.Int i) k w = refl
+names-stay old new done (t.Bool b) k w = refl
+names-stay old new done (t.Bound i s) k w = refl
+
+pub term-wider-names : (m n size : ℕ) (r : TermRow) → m ≤ n → TermWithin m size r
+    → TermWithin n size r
+term-wider-names m n size (t.Str x) h w = let v : x < m = w in omega (arith, h, v)
+term-wider-names m n size (t.Prog x s) h w = let v : x < m = w in omega (arith, h, v)
+term-wider-names m n size (t.Logic x s) h w = let v : x < m = w in omega (arith, h, v)
+term-wider-names m n size (t.Add a b) h w = w
+term-wider-names m n size (t.Sub a b) h w = w
+term-wider-names m n size (t.Cat a b) h w = w
+term-wider-names m n size t.NullNode h w = w
+term-wider-names m n size t.NullList h w = w
+term-wider-names m n size (t.Int i) h w = w
+term-wider-names m n size (t.Bool b) h w = w
+term-wider-names m n size (t.Bound i s) h w = w
+
+pub each-wider-names : (m n size : ℕ) (rows : List TermRow) → m ≤ n
+    → EachWithin (TermWithin m) size rows → EachWithin (TermWithin n) size rows
+each-wider-names m n size [] h w = tt
+each-wider-names m n size (r ∷ rows) h w =
+    (term-wider-names m n size r h w.0, each-wider-names m n (suc size) rows h w.1)
+
+pub terms-stay-named : (old new : List Name) (done : List Term) (rows : List TermRow) → Keeps old new
+    → EachWithin (TermWithin (length old)) (length done) rows
+    → grow (read_term old) done rows ≡ grow (read_term new) done rows
+terms-stay-named old new done [] k w = refl
+terms-stay-named old new done (r ∷ rows) k w =
+    terms-stay-named old new (done ++ read_term old done r ∷ []) rows k
+    (subst (λ n. EachWithin (TermWithin (length old)) n rows)
+    (sym (one-more done (read_term old done r))) w.1)
+    ∙ ap (λ p. grow (read_term new) (done ++ p ∷ []) rows) (names-stay old new done r k w.0)

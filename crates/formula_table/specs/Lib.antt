@@ -5,3 +5,4 @@ pub mod Sets
 pub mod Tables
 pub mod OneProof
 pub mod Forms
+pub mod Interning

@@ -3,11 +3,14 @@
 //! Stands on the definitions of formulas and on the kit's indexmap.
 #![tactic(auto)]
 
+mod faults;
 mod heads;
+mod interning;
 mod rows;
 mod sets;
 mod tables;
 
+pub use faults::TableFault;
 pub use heads::Head;
 pub use rows::{FormRow, TermRow};
 pub use tables::{FormulaId, Table};

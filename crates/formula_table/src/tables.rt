@@ -1,17 +1,20 @@
 // Tables of formulas.
-ghost use Rattle.std.specs.Prelude.{◌≡◌, ◌<◌, ◌≤◌, ◌↔◌, [], length, get_or, map, IsTrue, bytes_eq};
+ghost use Rattle.std.specs.Prelude.{◌≡◌, ◌<◌, ◌≤◌, ◌↔◌, [], ◌∷◌, length, map, IsTrue, IfOk, bytes_eq};
 ghost use Rattle.std.specs.String.{string_bytes};
 ghost use Rattle.model_shapes.specs.Values.{null};
 ghost use Rattle.model_terms.specs.Terms.{literal};
 ghost use Rattle.model_formulas.specs.Formulas.{truth};
 ghost use Rattle.model_formulas.specs.SameFormulas as tests;
 ghost use Rattle.formula_table.specs.Heads.{build, parts_used};
-ghost use Rattle.formula_table.specs.Rows.{bound_sort, read_term, TermWithin};
+ghost use Rattle.formula_table.specs.Rows.{bound_sort, read_term, TermWithin, read_form, FormWithin};
 ghost use Rattle.formula_table.specs.Tables.{IsTable};
 ghost use Rattle.formula_table.specs.OneProof.{table-prop};
 
+use crate::faults::TableFault;
 use crate::heads::Head;
 use crate::rows::{FormRow, TermRow};
+use crate::sets;
+use dom_terms::OutOfMemory;
 use indexmap::IndexSet;
 use std::alloc::Global;
 
@@ -40,6 +43,7 @@ pub struct Table {
 
 impl Table {
     ghost use Rattle.formula_table.specs.Forms.{names_at, terms_at, forms_at, name_at, term_at, form_at};
+    ghost use Rattle.formula_table.specs.Interning.{IsName, IsTerm, TermsGrow, Ends};
 
     /// The table with no formula, and room for as many as a proof may speak of. It takes memory
     /// only when it grows.
@@ -125,6 +129,35 @@ impl Table {
         ensures { result ≡ bytes_eq (name_at self.now a) (name_at self.now b) }
     {
         a == b || (self.is_nameless(a) && self.is_nameless(b))
+    }
+
+    /// The number of the name, which is added where it isn't there.
+    pub(crate) fn add_name(&mut self, name: &str) -> Result<u32, OutOfMemory>
+        ensures grows { TermsGrow self.old self.new }
+        ensures ok { IfOk result (λ number. IsName self.new number name.now) }
+    {
+        sets::add_name(&mut self.names, name)
+    }
+
+    /// The number of the term of a row, whose parts are in the table: the same.
+    pub(crate) fn add_term(&mut self, row: TermRow) -> Result<u32, OutOfMemory>
+        requires { TermWithin (length (names_at self.old)) (length (terms_at self.old)) row }
+        ensures grows { TermsGrow self.old self.new }
+        ensures ok { IfOk result (λ number. IsTerm self.new number
+            (read_term (names_at self.old) (terms_at self.old) row)) }
+    {
+        sets::add_term(&mut self.terms, row)
+    }
+
+    /// The number of the formula of a row, whose parts are in the table: the same, where there is
+    /// room.
+    pub(crate) fn add_form(&mut self, row: FormRow) -> Result<u32, TableFault>
+        requires { FormWithin (length (terms_at self.old)) (length (forms_at self.old)) row }
+        ensures { Ends self.old self.new
+            (read_form (terms_at self.old) (forms_at self.old) row ∷ [])
+            (read_form (terms_at self.old) (forms_at self.old) row) result }
+    {
+        sets::add_form(&mut self.forms, row, self.most)
     }
 
     // whether the number stands for `true`

@@ -15,7 +15,6 @@ use Rattle.theory_syntax.specs.declared.steps.Step as rust_step
 use Rattle.theory_syntax.specs.declared.theories.Procedure as rust_procedure
 use Rattle.theory_syntax.specs.declared.theories.Theory.{Theory}
 use Rattle.cited_steps.specs.Earlier.{steps_in}
-use Rattle.cited_steps.specs.Held.{HoldsBy, AllHold}
 use Rattle.hoare_kernel.specs.declared.refusals.Refusal.{Refusal}
 use Rattle.hoare_kernel.specs.declared.refusals.Refusal.TheVariants as r
 use Rattle.hoare_kernel.specs.Refusals.{Refuses}
@@ -297,21 +296,6 @@ pub sorted_at : (steps : List rust_step.Step) (d : rust_step.Step) (k : ℕ) →
 sorted_at [] d k lt h = absurd (omega arith)
 sorted_at (s ∷ steps) d zero lt h = h.0
 sorted_at (s ∷ steps) d (suc k) lt h = sorted_at steps d k (omega arith) h.1
-
--- what is told of the steps is told of each
-pub held_at : (earlier : List Step) (steps : List rust_step.Step) (d : rust_step.Step) (k : ℕ)
-    → k < length steps → AllHold earlier (steps_in steps)
-    → HoldsBy (step_of (get_or steps k d)).reason (earlier ++ steps_in (take k steps))
-    (nameless_judgement (step_of (get_or steps k d)).judgement)
-held_at earlier [] d k lt h = absurd (omega arith)
-held_at earlier (s ∷ steps) d zero lt h =
-    subst (λ z. HoldsBy (step_of s).reason z (nameless_judgement (step_of s).judgement))
-    (sym (append-nil earlier)) h.0
-held_at earlier (s ∷ steps) d (suc k) lt h =
-    subst (λ z. HoldsBy (step_of (get_or steps k d)).reason z
-    (nameless_judgement (step_of (get_or steps k d)).judgement))
-    (append_assoc earlier (nameless_step (step_of s) ∷ []) (steps_in (take k steps)))
-    (held_at (earlier ++ nameless_step (step_of s) ∷ []) steps d k (omega arith) h.1)
 
 some_same : {A : Type 0} (a b : A) → Some a ≡ Some b → a ≡ b
 some_same a b e = cc

@@ -1,7 +1,6 @@
 //! The verdict on each step of a well-formed theory, and which theories are accepted: each step an
 //! instance of the rule that it names, each proof ending in its procedure's own triple. Of another
 //! theory the first bad place, and why it is bad.
-//! What is told of entailments isn't asked again.
 //! Promises to answer exactly that, by the table of rules.
 //! Stands on the kernel of entailments and on the rules for triples.
 #![tactic(auto)]
@@ -9,7 +8,6 @@
 mod axioms;
 mod ends;
 mod entailments;
-mod holding;
 mod letters;
 mod names;
 mod refusals;
@@ -18,7 +16,6 @@ mod theories;
 mod triples;
 mod verdicts;
 
-pub use holding::entailment_holds;
 pub use refusals::{Accepted, Refusal};
-pub use theories::{check_theory, check_told_theory};
+pub use theories::check_theory;
 pub use verdicts::check_step;

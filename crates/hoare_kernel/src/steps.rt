@@ -1,7 +1,6 @@
 // Which steps are instances of the rule that they name, and why the first other one is bad.
 ghost use Rattle.std.specs.Prelude.{◌≡◌, ◌≢◌, ◌<◌, ◌+◌, length, true, []};
 ghost use Rattle.std.specs.Prelude.{IfErr, OnOk};
-ghost use Rattle.std.specs.Bool.{OnTrue};
 ghost use Rattle.model_commands.specs.Theories.{nameless_judgement};
 ghost use Rattle.model_files.specs.FileFaults.{judgement_sorted};
 ghost use Rattle.model_files.specs.Sizes.{JudgementIsSmall};
@@ -10,7 +9,6 @@ ghost use Rattle.rule_table.specs.Verdicts.{instance_verdict};
 ghost use Rattle.row_patterns.specs.Verdicts.{verdict_in};
 ghost use Rattle.theory_syntax.specs.Judgements.{judgement_of, reason_of};
 ghost use Rattle.cited_steps.specs.Earlier.{AreCitable, steps_in};
-ghost use Rattle.cited_steps.specs.Held.{AllHold, HoldsBy};
 ghost use Rattle.triple_rules.specs.Callees.{AreReady};
 ghost use Rattle.triple_rules.specs.Procedures.{procedures_in};
 ghost use Rattle.hoare_kernel.specs.declared.refusals.Refusal.TheVariants as r;
@@ -20,7 +18,7 @@ use crate::refusals::Refusal;
 use crate::verdicts::step_verdict;
 use dom_terms::Verdict;
 use std::alloc::Global;
-use theory_syntax::{Judgement, Reason, Step};
+use theory_syntax::{Reason, Step};
 use triple_rules::Callees;
 
 // What the verdict on the step, of the procedure of this number, tells.
@@ -41,23 +39,19 @@ fn judged(procedure: u32, step: u32, verdict: Verdict) -> Result<(), Refusal>
     }
 }
 
-// Whether the step, of the procedure of this number, is an instance. Where it judges an entailment,
-// that may be told: its formulas aren't fetched again.
+// Whether the step, of the procedure of this number, is an instance.
 fn stands(
     alloc: Global,
     callees: Callees,
     procedure: u32,
     earlier: &[Step],
     step: &Step,
-    is_told: bool,
 ) -> Result<(), Refusal>
     requires callees { AreReady callees }
     requires earlier { AreCitable earlier.now }
     requires few { length earlier.now < 4294967295 }
     requires small { JudgementIsSmall (judgement_of step.now.judgement) }
     requires sorted { judgement_sorted (judgement_of step.now.judgement) ≡ true }
-    requires told { OnTrue is_told (HoldsBy (reason_of step.now.reason) (steps_in earlier.now)
-        (nameless_judgement (judgement_of step.now.judgement))) }
     ensures fine { OnOk result (InstanceBy (procedures_in callees.entry.procedures.now)
         (reason_of step.now.reason) (steps_in earlier.now)
         (nameless_judgement (judgement_of step.now.judgement))) }
@@ -65,9 +59,6 @@ fn stands(
         (length earlier.now + 1) (steps_in earlier.now) (reason_of step.now.reason)
         (nameless_judgement (judgement_of step.now.judgement))) }
 {
-    if is_told && matches!(step.judgement, Judgement::Entails(_)) {
-        return Ok(());
-    }
     let place = earlier.len() as u32 + 1;
     match &step.reason {
         Reason::Auto => Err(Refusal::Gap {
@@ -82,34 +73,24 @@ fn stands(
 }
 
 /// Whether each step, of the proof of the procedure of this number, is an instance of the rule that
-/// it names over the steps before it. The error tells the first that isn't, and why. It may be told
-/// that the entailments are, which aren't asked again.
+/// it names over the steps before it. The error tells the first that isn't, and why.
 pub(crate) fn check_steps(
     alloc: Global,
     callees: Callees,
     procedure: u32,
     steps: &[Step],
-    are_instances: bool,
 ) -> Result<(), Refusal>
     requires callees { AreReady callees }
     requires citable { AreCitable steps.now }
     requires few { length steps.now < 4294967295 }
     requires sorted { AllSorted steps.now }
-    requires told { OnTrue are_instances (AllHold [] (steps_in steps.now)) }
     ensures fine { OnOk result
         (AllInstances (procedures_in callees.entry.procedures.now) [] (steps_in steps.now)) }
     ensures bad { IfErr result
         (StepsRefused (procedures_in callees.entry.procedures.now) procedure (steps_in steps.now)) }
 {
     for (place, step) in steps.iter().enumerate() {
-        stands(
-            alloc,
-            callees,
-            procedure,
-            &steps[..place],
-            step,
-            are_instances,
-        )?;
+        stands(alloc, callees, procedure, &steps[..place], step)?;
     }
     Ok(())
 }

@@ -1,6 +1,5 @@
 // Which procedures are proved, and so which theories are accepted; why another one is refused.
-ghost use Rattle.std.specs.Prelude.{◌≡◌, ◌+◌, ◌<◌, IfErr, IfOk, OnOk, [], length, map};
-ghost use Rattle.std.specs.Bool.{OnTrue};
+ghost use Rattle.std.specs.Prelude.{◌≡◌, ◌+◌, ◌<◌, IfErr, IfOk, OnOk, length, map};
 ghost use Rattle.model_commands.specs.Theories.{nameless_procedure, procedures_of};
 ghost use Rattle.model_files.specs.FileFaults.{IsWellFormedTheory};
 ghost use Rattle.model_files.specs.FileLimits.{step_count};
@@ -8,8 +7,6 @@ ghost use Rattle.model_files.specs.Sizes.{ProcedureIsSmall, TheoryIsSmall};
 ghost use Rattle.model_machine.specs.LocalTriples.{MeetsItsSpecification};
 ghost use Rattle.rule_table.specs.Accepted.{Each, IsAccepted, IsProved};
 ghost use Rattle.theory_syntax.specs.Theories.{procedure_of, theory_of};
-ghost use Rattle.cited_steps.specs.Earlier.{steps_in};
-ghost use Rattle.cited_steps.specs.Held.{AllHold, EachHolds};
 ghost use Rattle.triple_rules.specs.Callees.{AreReady};
 ghost use Rattle.triple_rules.specs.Procedures.{procedures_in};
 ghost use Rattle.hoare_kernel.specs.Refusals.{Refuses};
@@ -23,33 +20,24 @@ use std::alloc::Global;
 use theory_syntax::{Procedure, Theory};
 use triple_rules::{Callees, first_by_name};
 
-// Whether the procedure, the one with this number, is proved. It may be told that the entailments
-// of its proof are instances.
+// Whether the procedure, the one with this number, is proved.
 fn check_procedure(
     alloc: Global,
     callees: Callees,
     procedure: &Procedure,
     number: u32,
-    are_instances: bool,
 ) -> Result<(), Refusal>
     requires callees { AreReady callees }
     requires small { ProcedureIsSmall (procedure_of procedure.now) }
     requires numbered { ProofIsNumbered procedure.now }
     requires few { length procedure.now.proof < 4294967295 }
     requires sorted { AllSorted procedure.now.proof }
-    requires told { OnTrue are_instances (AllHold [] (steps_in procedure.now.proof)) }
     ensures fine { OnOk result (IsProved (procedures_in callees.entry.procedures.now)
         (nameless_procedure (procedure_of procedure.now))) }
     ensures bad { IfErr result (ProcedureRefused (procedures_in callees.entry.procedures.now)
         number (nameless_procedure (procedure_of procedure.now))) }
 {
-    check_steps(
-        alloc,
-        callees,
-        number,
-        procedure.proof.as_slice(),
-        are_instances,
-    )?;
+    check_steps(alloc, callees, number, procedure.proof.as_slice())?;
     if ends_well(alloc, procedure)? {
         Ok(())
     } else {
@@ -57,14 +45,13 @@ fn check_procedure(
     }
 }
 
-// Whether each procedure is proved. It may be told that the entailments in them are instances.
-fn check_procedures(alloc: Global, callees: Callees, are_instances: bool) -> Result<(), Refusal>
+// Whether each procedure is proved.
+fn check_procedures(alloc: Global, callees: Callees) -> Result<(), Refusal>
     requires callees { AreReady callees }
     requires few { length callees.procedures.now
         + step_count (map procedure_of callees.procedures.now) < 4294967295 }
     requires numbered { AreNumbered callees.procedures.now }
     requires sorted { EachSorted callees.procedures.now }
-    requires told { OnTrue are_instances (EachHolds (procedures_in callees.procedures.now)) }
     ensures fine { OnOk result (Each (IsProved (procedures_in callees.entry.procedures.now))
         (procedures_in callees.entry.procedures.now)) }
     ensures bad { IfErr result (ProceduresRefused (procedures_in callees.entry.procedures.now)
@@ -73,7 +60,7 @@ fn check_procedures(alloc: Global, callees: Callees, are_instances: bool) -> Res
     let mut number = 0;
     for procedure in callees.procedures {
         number += 1;
-        check_procedure(alloc, callees, procedure, number, are_instances)?;
+        check_procedure(alloc, callees, procedure, number)?;
     }
     Ok(())
 }
@@ -107,35 +94,13 @@ pub fn check_theory(alloc: Global, theory: &Theory) -> Result<Accepted, Refusal>
         × (counts.steps ≡ step_count (theory_of theory.now).procedures)) }
     ensures refused { IfErr result (Refuses theory.now) }
 {
-    check_told_theory(alloc, theory, false)
-}
-
-/// The same for a theory of which it may be told that each entailment in it is an instance of the
-/// rule that its step names. Those steps aren't asked again.
-pub fn check_told_theory(
-    alloc: Global,
-    theory: &Theory,
-    are_instances: bool,
-) -> Result<Accepted, Refusal>
-    requires small { TheoryIsSmall (theory_of theory.now) }
-    requires formed { IsWellFormedTheory (theory_of theory.now) }
-    requires told { OnTrue are_instances (EachHolds (procedures_of (theory_of theory.now))) }
-    ensures accepted { OnOk result (IsAccepted (theory_of theory.now)) }
-    ensures sound { OnOk result
-        (Each (MeetsItsSpecification (procedures_of (theory_of theory.now)))
-        (procedures_of (theory_of theory.now))) }
-    ensures counts { IfOk result (λ counts.
-        (counts.procedures ≡ length theory.now.procedures)
-        × (counts.steps ≡ step_count (theory_of theory.now).procedures)) }
-    ensures refused { IfErr result (Refuses theory.now) }
-{
     let procedures = theory.procedures.as_slice();
     let names = first_by_name(alloc, procedures)?;
     let callees = Callees {
         procedures,
         names: Some(&names),
     };
-    check_procedures(alloc, callees, are_instances)?;
+    check_procedures(alloc, callees)?;
     let steps = count_steps(procedures);
     let procedures = procedures.len() as u32;
     Ok(Accepted { procedures, steps })

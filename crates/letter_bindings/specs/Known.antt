@@ -1,10 +1,10 @@
 -- Needn't be believed: what a walk over a row knows of the choice of the letters, and what it means
 -- that a choice agrees with it.
-use Rattle.std.specs.Prelude.{◌≡◌, List, [], ◌∷◌, Option, Some, None}
+use Rattle.std.specs.Prelude.{◌≡◌, Option, Some, None}
 use Rattle.model_shapes.specs.Sorts.{Sort, DataSort}
 use Rattle.model_terms.specs.Terms.{Term}
 use Rattle.model_formulas.specs.Formulas.{Formula}
-use Rattle.model_formulas.specs.Substitution.{FreeIn, closing, formula_with}
+use Rattle.model_formulas.specs.Substitution.{closing, formula_with}
 use Rattle.rule_table.specs.Letters.{Letters, LogicVar, as_logic}
 use Rattle.rule_table.specs.Notation.{instead}
 use Rattle.rule_patterns.specs.Letter.{FormulaLetter, P', Q', R', A', B', K', H', TermLetter, E', F', S', I', L', T', J', M', DataLetter, h', k', j', formula_at, term_at, data_at}

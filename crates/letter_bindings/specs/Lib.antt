@@ -3,3 +3,5 @@ pub mod Matching
 pub mod Shifts
 pub mod Settled
 pub mod Lines
+pub mod Choices
+pub mod Bodies

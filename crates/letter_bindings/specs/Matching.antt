@@ -1,16 +1,14 @@
 -- Needn't be believed: a pattern of a row against what is written, in one walk from the left to the
 -- right: at its first place a letter is learnt, and at each other one it is compared.
 use Rattle.std.specs.Prelude.{List, [], ◌∷◌, Option, Some, None, Bool, true, false, ◌&&◌, cond}
-use Rattle.std.specs.Option.{option_or}
 use Rattle.model_shapes.specs.Sorts.{Sort, shape, context, DataSort}
 use Rattle.model_shapes.specs.Tests.{same_sort, same_data_sort, same_value}
 use Rattle.model_terms.specs.Variables.{logic, bound}
 use Rattle.std.specs.Prelude.{zero}
 use Rattle.model_terms.specs.VariableTests.{same_var}
-use Rattle.model_terms.specs.Terms.{Term, literal, variable, sum, difference, appended, raised_var}
+use Rattle.model_terms.specs.Terms.{Term, literal, variable, sum, difference, appended}
 use Rattle.model_formulas.specs.Formulas.{Formula, truth, falsity, conjunction, disjunction, implication, negation, existential, universal, equality, at_most, empty, bare_hole, node_formula, one_tree, one_root, concatenation, grove_sum, grove_sum_hole, application, hole_adjoint, context_adjoint, same_as, length_is, value_meets}
 use Rattle.model_formulas.specs.SameFormulas.{same_term, same_formula, same_side}
-use Rattle.model_formulas.specs.Substitution.{closing, formula_with}
 use Rattle.model_commands.specs.Theories.{Judgement, entails}
 use Rattle.rule_table.specs.Letters.{LogicVar, as_logic}
 use Rattle.rule_patterns.specs.Constant.{constant_formula}
@@ -101,9 +99,12 @@ match_formula (replaced E' P') p k = meet same_formula k.put p (record k { put =
 match_formula (closed_p c) p k = if_so (same_formula (constant_formula c) p) k
 match_formula truth_p truth k = Some k
 match_formula falsity_p falsity k = Some k
-match_formula (conjunction_p p q) (conjunction r s) k = then (match_formula p r k) (match_formula q s)
-match_formula (disjunction_p p q) (disjunction r s) k = then (match_formula p r k) (match_formula q s)
-match_formula (implication_p p q) (implication r s) k = then (match_formula p r k) (match_formula q s)
+match_formula (conjunction_p p q) (conjunction r s) k =
+    then (match_formula p r k) (match_formula q s)
+match_formula (disjunction_p p q) (disjunction r s) k =
+    then (match_formula p r k) (match_formula q s)
+match_formula (implication_p p q) (implication r s) k =
+    then (match_formula p r k) (match_formula q s)
 match_formula (negation_p p) (negation r) k = match_formula p r k
 match_formula (exists_p p) (existential s r) k = then (match_x_sort s k) (match_below p r)
 match_formula (forall_p p) (universal s r) k = then (match_x_sort s k) (match_below p r)
@@ -118,11 +119,14 @@ match_formula (tree_p p) (one_tree r) k = match_formula p r k
 match_formula (root_p p) (one_root r) k = match_formula p r k
 match_formula (concatenation_p d p q) (concatenation e r s) k =
     then (if_so (same_side d e) k) (λ n. then (match_formula p r n) (match_formula q s))
-match_formula (sum_of_groves_p p q) (grove_sum r s) k = then (match_formula p r k) (match_formula q s)
-match_formula (sum_hole_p p q) (grove_sum_hole r s) k = then (match_formula p r k) (match_formula q s)
+match_formula (sum_of_groves_p p q) (grove_sum r s) k =
+    then (match_formula p r k) (match_formula q s)
+match_formula (sum_hole_p p q) (grove_sum_hole r s) k =
+    then (match_formula p r k) (match_formula q s)
 match_formula (application_p h p q) (application j r s) k =
     then (match_data h j k) (λ n. then (match_formula p r n) (match_formula q s))
-match_formula (hole_adjoint_p p q) (hole_adjoint r s) k = then (match_formula p r k) (match_formula q s)
+match_formula (hole_adjoint_p p q) (hole_adjoint r s) k =
+    then (match_formula p r k) (match_formula q s)
 match_formula (context_adjoint_p h p q) (context_adjoint j r s) k =
     then (match_data h j k) (λ n. then (match_formula p r n) (match_formula q s))
 match_formula (same_as_p p) (same_as a) k = match_term p a k

@@ -13,7 +13,7 @@ use Rattle.letter_bindings.specs.Known.{FormulaPlaces, Known}
 use Rattle.letter_bindings.specs.Shifts.{close, raise, open_with, shifted, is_free}
 
 -- WHAT $x IS
--- the logic variable at the first place where the one has a logic variable and the other a bound one
+-- the logic variable at the first place where the one has a logic variable, the other a bound one
 abbrev pub bound_in_term : Term → Term → Option LogicVar
 bound_in_term (variable (logic n s)) (variable (bound i u)) = Some (record { name = n; sort = s })
 bound_in_term (sum a b) (sum c d) = option_or (bound_in_term a c) (bound_in_term b d)

@@ -7,4 +7,3 @@ pub mod TheoryReader
 pub mod Exact
 pub mod SortedReader
 pub mod JudgedLoops
-pub mod HeldLoops

@@ -3,4 +3,3 @@ pub mod Lists
 pub mod Commands
 pub mod Theories
 pub mod SortedTheories
-pub mod Judged

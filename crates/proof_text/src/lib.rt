@@ -1,8 +1,7 @@
 //! Theories from tokens. Promises that a list of tokens is read as the theory that it spells by the
-//! grammar, each variable with the sort of its declaration, and refused exactly where it spells none,
-//! at the fault token. Reading also hands on what a judge tells of each step while it is at hand.
-//! Stands on the readers of tokens, the types of theories, the readers of formulas, the walk that
-//! sets sorts, the grammar, what is said of cited steps and the table of rules.
+//! grammar, each variable with the sort of its declaration, and refused exactly where it spells
+//! none, at the fault token. Stands on the readers of tokens, the types of theories, the readers of
+//! formulas, the walk that sets sorts and the grammar.
 #![tactic(auto)]
 
 mod bracketed;
@@ -10,12 +9,10 @@ mod commands;
 mod conditions;
 mod declarations;
 mod judgements;
-mod judging;
 mod logics;
 mod procedures;
 mod sorts;
 mod steps;
 mod theories;
 
-pub use judging::{NoJudge, StepJudge};
 pub use theories::{MOST_DEPTH, ReadTheory, one_theory, read_theory, theory_from};

@@ -3,14 +3,12 @@ ghost use Rattle.std.specs.Prelude.{◌≡◌, ◌&&◌, [], ◌∷◌, ◌++◌
 ghost use Rattle.std.specs.Bool.{OnTrue};
 ghost use Rattle.std.specs.List.{list_all};
 ghost use Rattle.model_commands.specs.CommandParts.{variables_of, variables_of_command};
-ghost use Rattle.model_commands.specs.Theories.{nameless_procedure};
 ghost use Rattle.model_files.specs.FileFaults.{is_judged_at};
 ghost use Rattle.dom_terms.specs.Sorts.{data_sort_of, sort_of};
 ghost use Rattle.dom_terms.specs.Terms.{logic_var_of, prog_var_of};
 ghost use Rattle.formula_syntax.specs.Formulas.{formula_of};
 ghost use Rattle.theory_syntax.specs.Commands.{command_of};
 ghost use Rattle.theory_syntax.specs.Theories.{procedure_of};
-ghost use Rattle.cited_steps.specs.Held.{AllHold, EachHolds};
 ghost use Rattle.declared_sorts.specs.Declarations.{declared_of, scope_in};
 ghost use Rattle.declared_sorts.specs.Judged.{procedure_judged};
 ghost use Rattle.declared_sorts.specs.Known.{Knows};
@@ -23,7 +21,6 @@ ghost use Rattle.proof_text.specs.SortedTheories.{command_sorted, formula_sorted
 
 use crate::commands::command;
 use crate::declarations::declarations;
-use crate::judging::StepJudge;
 use crate::sorts::data_sort;
 use crate::steps::{ReadSteps, steps};
 use declared_sorts::{Declared, Names, Sorted, Told, declared_in, names_of, set_formulas};
@@ -54,9 +51,6 @@ struct ReadProcedure {
     // the formulas of its header and of each step may be judged at their sorts; where false, that
     // isn't known
     is_judged: bool,
-    // each entailment in it is an instance of the rule that its step names; where false, that isn't
-    // known
-    are_instances: bool,
 }
 
 // The procedure of these parts, before its proof is read.
@@ -136,7 +130,7 @@ fn told_of(head: Told, proof: &ReadSteps) -> Told
 // What stands behind the header. The variables of the requires, the ensures and the body get their
 // sorts once the body tells which local variables there are, and those of the proof step by step.
 #[tactic(auto, unfolding(crate::specs::SortedTheories::sorted_contents_at))]
-fn contents<J: StepJudge>(
+fn contents(
     alloc: Global,
     header: Header,
     depth: u32,
@@ -153,8 +147,6 @@ fn contents<J: StepJudge>(
         ≡ procedure_settled (map logic_var_of logics.now) (procedure_of found.procedure)) }
     ensures judged { IfOk result (λ found.
         OnTrue found.is_judged (procedure_judged (procedure_of found.procedure) ≡ true)) }
-    ensures instances { IfOk result (λ found. OnTrue found.are_instances
-        (AllHold [] (nameless_procedure (procedure_of found.procedure)).proof)) }
 {
     let header = followed_by(header, tokens, "requires")?;
     let begun = with(header, formula(alloc, depth, tokens))?;
@@ -176,7 +168,7 @@ fn contents<J: StepJudge>(
         sort,
         &declared,
     );
-    let proof = steps::<J>(alloc, depth, &declared, tokens)?;
+    let proof = steps(alloc, depth, &declared, tokens)?;
     expect(tokens, "end")?;
     let told = told_of(head, &proof);
     found.proof = proof.steps;
@@ -184,13 +176,12 @@ fn contents<J: StepJudge>(
         procedure: found,
         is_settled: told.is_settled,
         is_judged: told.is_judged,
-        are_instances: proof.are_instances,
     })
 }
 
 // What stands behind the word `proc`.
 #[tactic(auto, unfolding(crate::specs::SortedTheories::sorted_procedure_tail))]
-fn procedure<J: StepJudge>(
+fn procedure(
     alloc: Global,
     depth: u32,
     logics: &[LogicVar],
@@ -205,8 +196,6 @@ fn procedure<J: StepJudge>(
         ≡ procedure_settled (map logic_var_of logics.now) (procedure_of found.procedure)) }
     ensures judged { IfOk result (λ found.
         OnTrue found.is_judged (procedure_judged (procedure_of found.procedure) ≡ true)) }
-    ensures instances { IfOk result (λ found. OnTrue found.are_instances
-        (AllHold [] (nameless_procedure (procedure_of found.procedure)).proof)) }
 {
     let name = name(alloc, tokens)?;
     let params = declarations(alloc, tokens)?;
@@ -220,10 +209,10 @@ fn procedure<J: StepJudge>(
         results,
         sort,
     };
-    contents::<J>(alloc, header, depth, logics, logic_names, tokens)
+    contents(alloc, header, depth, logics, logic_names, tokens)
 }
 
-/// The procedures that were read, and what is told of their variables and of their proofs.
+/// The procedures that were read, and what is told of their variables and of their formulas.
 #[derive(Drop)]
 pub struct ReadProcedures {
     /// The procedures, each variable with the sort of its declaration.
@@ -233,13 +222,10 @@ pub struct ReadProcedures {
     /// The formulas of each header and of each step may be judged at their sorts; where false, that
     /// isn't known.
     pub are_judged: bool,
-    /// Each entailment in them is an instance of the rule that its step names; where false, that
-    /// isn't known.
-    pub are_instances: bool,
 }
 
 // The procedures behind the first, as long as one begins.
-fn more_procedures<J: StepJudge>(
+fn more_procedures(
     alloc: Global,
     first: ReadProcedure,
     depth: u32,
@@ -252,8 +238,6 @@ fn more_procedures<J: StepJudge>(
         ≡ procedure_settled (map logic_var_of logics.now) (procedure_of first.procedure) }
     requires judged { OnTrue first.is_judged
         (procedure_judged (procedure_of first.procedure) ≡ true) }
-    requires instances { OnTrue first.are_instances
-        (AllHold [] (nameless_procedure (procedure_of first.procedure)).proof) }
     ensures read { Gives (λ found. (map procedure_of found.procedures, lexemes_in tokens.new))
         result (with_front (procedure_of first.procedure ∷ [])
         (more_sorted_procedures_at (map logic_var_of logics.now) depth u32.MAX
@@ -262,13 +246,10 @@ fn more_procedures<J: StepJudge>(
         (procedure_settled (map logic_var_of logics.now)) (map procedure_of found.procedures)) }
     ensures judged { IfOk result (λ found. OnTrue found.are_judged
         (list_all procedure_judged (map procedure_of found.procedures) ≡ true)) }
-    ensures instances { IfOk result (λ found. OnTrue found.are_instances
-        (EachHolds (map nameless_procedure (map procedure_of found.procedures)))) }
 {
     let mut procedures = Procedures::new(alloc);
     let mut are_settled = first.is_settled;
     let mut are_judged = first.is_judged;
-    let mut are_instances = first.are_instances;
     procedures.push(first.procedure)?;
     for _ in 0..u32::MAX {
         if !skip(tokens, "proc") {
@@ -276,13 +257,11 @@ fn more_procedures<J: StepJudge>(
                 procedures,
                 are_settled,
                 are_judged,
-                are_instances,
             });
         }
-        let item = procedure::<J>(alloc, depth, logics, logic_names, tokens)?;
+        let item = procedure(alloc, depth, logics, logic_names, tokens)?;
         are_settled = are_settled && item.is_settled;
         are_judged = are_judged && item.is_judged;
-        are_instances = are_instances && item.are_instances;
         procedures.push(item.procedure)?;
     }
     Err(ReadFault::Memory)
@@ -290,7 +269,7 @@ fn more_procedures<J: StepJudge>(
 
 /// One procedure or more, with the sorts of what they and the file declare; moves behind them.
 #[tactic(auto, unfolding(crate::specs::SortedTheories::sorted_procedures_at))]
-pub fn procedures<J: StepJudge>(
+pub fn procedures(
     alloc: Global,
     depth: u32,
     logics: &[LogicVar],
@@ -305,10 +284,8 @@ pub fn procedures<J: StepJudge>(
         (procedure_settled (map logic_var_of logics.now)) (map procedure_of found.procedures)) }
     ensures judged { IfOk result (λ found. OnTrue found.are_judged
         (list_all procedure_judged (map procedure_of found.procedures) ≡ true)) }
-    ensures instances { IfOk result (λ found. OnTrue found.are_instances
-        (EachHolds (map nameless_procedure (map procedure_of found.procedures)))) }
 {
     expect(tokens, "proc")?;
-    let first = procedure::<J>(alloc, depth, logics, logic_names, tokens)?;
-    more_procedures::<J>(alloc, first, depth, logics, logic_names, tokens)
+    let first = procedure(alloc, depth, logics, logic_names, tokens)?;
+    more_procedures(alloc, first, depth, logics, logic_names, tokens)
 }

@@ -1,13 +1,10 @@
 // Steps of proofs.
-ghost use Rattle.std.specs.Prelude.{◌≡◌, [], ◌∷◌, ◌++◌, IfOk, map, true};
+ghost use Rattle.std.specs.Prelude.{◌≡◌, IfOk, map, true};
 ghost use Rattle.std.specs.Bool.{OnTrue};
 ghost use Rattle.std.specs.List.{list_all};
 ghost use Rattle.model_files.specs.FileFaults.{judgement_sorted};
-ghost use Rattle.model_files.specs.Sizes.{JudgementIsSmall};
 ghost use Rattle.dom_terms.specs.Terms.{term_of};
 ghost use Rattle.theory_syntax.specs.Judgements.{reason_of, step_of};
-ghost use Rattle.cited_steps.specs.Earlier.{steps_in};
-ghost use Rattle.cited_steps.specs.Held.{AllHold};
 ghost use Rattle.declared_sorts.specs.Declarations.{declared_of, scope_in};
 ghost use Rattle.declared_sorts.specs.Judged.{steps_judged};
 ghost use Rattle.declared_sorts.specs.Known.{Knows};
@@ -15,14 +12,12 @@ ghost use Rattle.declared_sorts.specs.Settled.{step_settled};
 ghost use Rattle.token_readers.specs.Reading.{leaf};
 ghost use Rattle.token_readers.specs.Giving.{Gives};
 ghost use Rattle.token_readers.specs.Leaves.{lexemes_in, leaf_number};
-ghost use Rattle.proof_text.specs.Judged.{AreInstances};
 ghost use Rattle.proof_text.specs.Lists.{bracketed_at};
 ghost use Rattle.proof_text.specs.Theories.{arguments_at, reason_at, step_tail};
 ghost use Rattle.proof_text.specs.SortedTheories.{sorted_step_tail, sorted_steps_at};
 
 use crate::bracketed::{bracketed, listed_terms};
 use crate::judgements::judgement;
-use crate::judging::StepJudge;
 use declared_sorts::{Declared, set_step};
 use dom_terms::{Numbers, Terms, with};
 use logic_text::Place;
@@ -124,8 +119,7 @@ struct ReadStep {
     step: Step,
     // each of them is declared, first with the sort that it has
     is_settled: bool,
-    // the formulas of its judgement are small and may be judged at its sort; where false, that
-    // isn't known
+    // the formulas of its judgement may be judged at its sort; where false, that isn't known
     is_judged: bool,
 }
 
@@ -146,8 +140,6 @@ fn sorted_step(
         found.is_settled ≡ step_settled (scope_in declared.now) (step_of found.step)) }
     ensures judged { IfOk result (λ found.
         OnTrue found.is_judged (judgement_sorted (step_of found.step).judgement ≡ true)) }
-    ensures small { IfOk result (λ found.
-        OnTrue found.is_judged (JudgementIsSmall (step_of found.step).judgement)) }
 {
     let mut step = step(alloc, depth, line, tokens)?;
     let told = set_step(&mut step, declared);
@@ -158,8 +150,7 @@ fn sorted_step(
     })
 }
 
-/// The steps of a proof that were read, and what is told of their variables, their formulas and
-/// their reasons.
+/// The steps of a proof that were read, and what is told of their variables and of their formulas.
 #[derive(Drop)]
 pub struct ReadSteps {
     /// The steps, each variable with the sort of its declaration.
@@ -168,35 +159,11 @@ pub struct ReadSteps {
     pub are_settled: bool,
     /// The formulas of each step may be judged at its sort; where false, that isn't known.
     pub are_judged: bool,
-    /// Each entailment in them is an instance of the rule that its step names; where false, that
-    /// isn't known.
-    pub are_instances: bool,
-}
-
-// Whether each entailment among these steps and the one behind them is known to be an instance.
-// Each step is numbered by its place, so that it can be cited.
-fn still_instances<J: StepJudge>(
-    alloc: Global,
-    are_instances: bool,
-    earlier: &[Step],
-    read: &ReadStep,
-) -> bool
-    requires before { OnTrue are_instances (AreInstances earlier.now) }
-    requires judged { OnTrue read.now.is_judged
-        (judgement_sorted (step_of read.now.step).judgement ≡ true) }
-    requires small { OnTrue read.now.is_judged
-        (JudgementIsSmall (step_of read.now.step).judgement) }
-    ensures { OnTrue result (AreInstances (earlier.now ++ read.now.step ∷ [])) }
-{
-    are_instances
-        && read.is_judged
-        && read.step.number as usize == earlier.len() + 1
-        && J::holds(alloc, earlier, &read.step)
 }
 
 /// The steps of a proof, as long as one begins, with the sorts of what is declared; moves behind
 /// them.
-pub fn steps<J: StepJudge>(
+pub fn steps(
     alloc: Global,
     depth: u32,
     declared: &Declared,
@@ -209,26 +176,21 @@ pub fn steps<J: StepJudge>(
         ≡ list_all (step_settled (scope_in declared.now)) (map step_of found.steps)) }
     ensures judged { IfOk result (λ found.
         OnTrue found.are_judged (steps_judged (map step_of found.steps) ≡ true)) }
-    ensures instances { IfOk result (λ found.
-        OnTrue found.are_instances (AllHold [] (steps_in found.steps))) }
 {
     let mut steps = Steps::new(alloc);
     let mut are_settled = true;
     let mut are_judged = true;
-    let mut are_instances = true;
     for _ in 0..u32::MAX {
         let Some(line) = step_line(tokens) else {
             return Ok(ReadSteps {
                 steps,
                 are_settled,
                 are_judged,
-                are_instances,
             });
         };
         let item = sorted_step(alloc, depth, line, declared, tokens)?;
         are_settled = are_settled && item.is_settled;
         are_judged = are_judged && item.is_judged;
-        are_instances = still_instances::<J>(alloc, are_instances, steps.as_slice(), &item);
         steps.push(item.step)?;
     }
     Err(ReadFault::Memory)

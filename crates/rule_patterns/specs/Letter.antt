@@ -1,4 +1,6 @@
--- Needn't be believed: the names of the letters, by kind, and what a choice gives to each.
+-- Needn't be believed: the names of the letters, by kind, what a choice gives to each, and whether
+-- two are the same.
+use Rattle.std.specs.Prelude.{Bool, true, false}
 use Rattle.model_shapes.specs.Sorts.{DataSort}
 use Rattle.model_terms.specs.Terms.{Term}
 use Rattle.model_formulas.specs.Formulas.{Formula}
@@ -40,3 +42,31 @@ abbrev pub data_at : Letters → DataLetter → DataSort
 data_at l h' = l.h
 data_at l k' = l.k
 data_at l j' = l.j
+
+-- whether they are the same letter
+abbrev pub same_formula_letter : FormulaLetter → FormulaLetter → Bool
+same_formula_letter P' P' = true
+same_formula_letter Q' Q' = true
+same_formula_letter R' R' = true
+same_formula_letter A' A' = true
+same_formula_letter B' B' = true
+same_formula_letter K' K' = true
+same_formula_letter H' H' = true
+same_formula_letter a b = false
+
+abbrev pub same_term_letter : TermLetter → TermLetter → Bool
+same_term_letter E' E' = true
+same_term_letter F' F' = true
+same_term_letter S' S' = true
+same_term_letter I' I' = true
+same_term_letter L' L' = true
+same_term_letter T' T' = true
+same_term_letter J' J' = true
+same_term_letter M' M' = true
+same_term_letter a b = false
+
+abbrev pub same_data_letter : DataLetter → DataLetter → Bool
+same_data_letter h' h' = true
+same_data_letter k' k' = true
+same_data_letter j' j' = true
+same_data_letter a b = false

@@ -7,8 +7,3 @@ pub mod StructureRows
 pub mod ContextRows
 pub mod NodeRows
 pub mod Ways
-pub mod Trees
-pub mod TreePatterns
-pub mod Finding
-pub mod Candidates
-pub mod Stages

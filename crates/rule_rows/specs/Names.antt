@@ -4,8 +4,8 @@ use Rattle.std.specs.Prelude.{codes}
 use Rattle.model_shapes.specs.Values.{Name}
 use Rattle.rule_rows.specs.declared.names.EntailRule.{EntailRule}
 use Rattle.rule_rows.specs.declared.names.EntailRule.TheVariants as r
-use Rattle.rule_rows.specs.declared.rows.Computed.{Computed}
-use Rattle.rule_rows.specs.declared.rows.Computed.TheVariants as c
+use Rattle.rule_rows.specs.declared.ways.Computed.{Computed}
+use Rattle.rule_rows.specs.declared.ways.Computed.TheVariants as c
 
 abbrev pub name_of : EntailRule → Name
 name_of r.Id = codes "id"

@@ -9,11 +9,9 @@ mod monotony;
 mod names;
 mod nodes;
 mod notation;
-mod rows;
 mod structure;
 mod ways;
 
 pub use names::{EntailRule, rule_of};
 pub use notation::Rows;
-pub use rows::{Computed, Way};
-pub use ways::way_of;
+pub use ways::{Computed, Way, way_of};

@@ -13,7 +13,6 @@ use Rattle.dom_terms.specs.Sorts.{data_sort_of}
 use Rattle.formula_syntax.specs.Formulas.{formula_of}
 use Rattle.formula_syntax.specs.FreeVariables.{is_among, occurrences, variables_of_term}
 use Rattle.formula_syntax.specs.declared.formulas.Formula.{Formula}
-use Rattle.opened_formulas.proofs.Occurrences.{occurs-free}
 use Rattle.theory_syntax.specs.Commands.{command_of}
 use Rattle.theory_syntax.specs.declared.judgements.Triple.{Triple}
 use Rattle.rule_table.specs.Entries.{Row}
@@ -25,6 +24,7 @@ use Rattle.small_axioms.specs.Readings.{new_name, read_create}
 use Rattle.small_axioms.specs.Steps.{judgement_of, written}
 use Rattle.small_axioms.specs.Tests.{concludes, verdict_by, sets_one_of, creates_one_of}
 use Rattle.small_axioms.proofs.Exact.{ReadOff, exact-two}
+use Rattle.small_axioms.proofs.Listed.{occurs-free}
 use Rattle.small_axioms.proofs.Assigned.{sets, exact-node, exact-new, exact-bare}
 
 -- a variable of a term stands in it

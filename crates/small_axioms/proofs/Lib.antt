@@ -1,7 +1,7 @@
 pub mod Exact
 pub mod Rows
 pub mod Assigned
-pub mod BelowOne
+pub mod Below
 pub mod Listed
 pub mod Fits
 pub mod InsertFits

@@ -11,9 +11,10 @@ ghost use Rattle.dom_terms.specs.Sorts.{data_sort_of};
 ghost use Rattle.formula_syntax.specs.Formulas.{formula_of};
 ghost use Rattle.small_axioms.specs.Forms.{before_post, before_pre, joined_children, joined_node, last_pre, plain, taken_before, whole_node, written_family};
 
-use crate::matching::{is_empty, is_only, same, same_term};
+use crate::matching::{is_empty, is_only};
 use crate::moving::{is_append_pre, is_beside, is_equation, is_family_in, is_moved};
 use crate::parts::{Appended, Inserted};
+use crate::same::{same, same_term};
 use dom_terms::{DataSort, Term, same_data_sort};
 use formula_syntax::{Formula, Side};
 

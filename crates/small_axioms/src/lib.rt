@@ -14,6 +14,7 @@ mod names;
 mod new_roots;
 mod occurring;
 mod parts;
+mod same;
 mod verdicts;
 
 pub use instances::axiom_instance;

@@ -12,28 +12,9 @@ ghost use Rattle.small_axioms.specs.Forms.{asked, asked_term, is_shape, plain, w
 use crate::forms::{Form, TermForm};
 use crate::new_roots::is_new_root;
 use crate::parts::{Family, Node};
+use crate::same::{same, same_term};
 use dom_terms::{DataSort, Term, same_data_sort, same_prog_var};
 use formula_syntax::{Formula, Side};
-use opened_formulas::{Reading, Scope, same_below, same_opened_term};
-
-/// Whether the formulas are the same.
-pub(crate) fn same(left: &Formula, right: &Formula) -> bool
-    ensures { result ≡ tests.same_formula (nameless (formula_of left.now))
-        (nameless (formula_of right.now)) }
-{
-    let as_written = Reading {
-        opened: None,
-        put: None,
-    };
-    same_below(left, right, &Scope::Outside(as_written, None))
-}
-
-/// Whether the terms are the same.
-pub(crate) fn same_term(left: &Term, right: &Term) -> bool
-    ensures { result ≡ tests.same_term (plain left.now) (plain right.now) }
-{
-    same_opened_term(None, left, None, right)
-}
 
 // whether the term is the one that is asked for
 fn is_asked_term(form: TermForm, a: &Term) -> bool

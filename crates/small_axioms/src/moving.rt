@@ -9,8 +9,9 @@ ghost use Rattle.formula_syntax.specs.Formulas.{formula_of};
 ghost use Rattle.small_axioms.specs.Forms.{append_post, append_pre, grown_node, moved, plain, remove_post, remove_pre, shrunk_node, taken_away, whole_node, written_family};
 
 use crate::forms::Form;
-use crate::matching::{is_empty, is_family, is_only, is_whole, same, same_term};
+use crate::matching::{is_empty, is_family, is_only, is_whole};
 use crate::parts::{Appended, Family, Node};
+use crate::same::{same, same_term};
 use dom_terms::{DataSort, Term, same_data_sort};
 use formula_syntax::{Formula, Side};
 

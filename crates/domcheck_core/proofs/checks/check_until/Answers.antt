@@ -7,7 +7,7 @@ use Rattle.domcheck_core.proofs.checks.check_until.Goals as goal
 pub returns-in-Ok : goal.returns-in-Ok
 returns-in-Ok c =
     IfOk-weaker c.verdict-reply.result _ _
-    (λ r h. judged (theory_of c.in-Ok.read.theory) c.in-Ok.ensures.is h) c.verdict-reply.ensures
+    (λ r h. judged (theory_of c.in-Ok.theory) c.in-Ok.ensures.is h) c.verdict-reply.ensures
 
 pub returns-in-Err : goal.returns-in-Err
 returns-in-Err c =

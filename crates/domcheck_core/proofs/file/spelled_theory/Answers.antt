@@ -19,7 +19,7 @@ spelled_good : (t : Theory) (s : List Lexeme) → SpellsTheory t s → (place : 
 spelled_good t s l = none_at s (theory_good l)
 
 pub returns-in_err-source-clause-told : goal.returns-in_err-source-clause-told
-returns-in_err-source-clause-told g c =
+returns-in_err-source-clause-told c =
     let p = err_from_is_err_and c.from_residual.result c.from_residual.ensures.1 in
     handed_on (λ e. IfAnswer e (Unread SpellsTheory standard_limits.file_nesting bad_text_line
     c.args.bytes.now)) c.from_residual.result p.0 c.in_err-source.field-0.0 p.1 p.2
@@ -27,19 +27,19 @@ returns-in_err-source-clause-told g c =
     c.in_err-source.field-0.0 c.in_err-source.ensures.told)
 
 pub returns-in-Ok-clause-reads : goal.returns-in-Ok-clause-reads
-returns-in-Ok-clause-reads g c =
+returns-in-Ok-clause-reads c =
     (read_whole SpellsTheory spelled_good standard_limits.file_nesting c.args.bytes.now _ _
     c.front.ensures c.in_ok-source.ensures.passes c.in_ok-source.ensures.whole
     (theory_of c.in-Ok.read.theory) c.in-Ok.ensures.found).passes
 
 pub returns-in-Ok-clause-spelled : goal.returns-in-Ok-clause-spelled
-returns-in-Ok-clause-spelled g c =
+returns-in-Ok-clause-spelled c =
     (read_whole SpellsTheory spelled_good standard_limits.file_nesting c.args.bytes.now _ _
     c.front.ensures c.in_ok-source.ensures.passes c.in_ok-source.ensures.whole
     (theory_of c.in-Ok.read.theory) c.in-Ok.ensures.found).spelled
 
 pub returns-in-Ok-clause-small : goal.returns-in-Ok-clause-small
-returns-in-Ok-clause-small g c =
+returns-in-Ok-clause-small c =
     theory_small (read_whole SpellsTheory spelled_good standard_limits.file_nesting
     c.args.bytes.now _ _ c.front.ensures c.in_ok-source.ensures.passes c.in_ok-source.ensures.whole
     (theory_of c.in-Ok.read.theory) c.in-Ok.ensures.found).spelled
@@ -47,7 +47,7 @@ returns-in-Ok-clause-small g c =
 
 pub returns-in_err-pass_no_limit-in-Err-clause-told :
     goal.returns-in_err-pass_no_limit-in-Err-clause-told
-returns-in_err-pass_no_limit-in-Err-clause-told g c =
+returns-in_err-pass_no_limit-in-Err-clause-told c =
     let p = err_from_is_err_and c.from_residual-in_err-pass_no_limit-in-Err.result
     c.from_residual-in_err-pass_no_limit-in-Err.ensures.1 in
     handed_on (λ e. IfAnswer e (Unread SpellsTheory standard_limits.file_nesting bad_text_line
@@ -57,7 +57,7 @@ returns-in_err-pass_no_limit-in-Err-clause-told g c =
     c.in_err-pass_no_limit-in-Err.field-0.0 c.in_err-pass_no_limit-in-Err.ensures.told)
 
 pub returns-in-BadText-clause-told : goal.returns-in-BadText-clause-told
-returns-in-BadText-clause-told g c =
+returns-in-BadText-clause-told c =
     nothing SpellsTheory standard_limits.file_nesting bad_text_line c.args.bytes.now _
     c.in-BadText.token
     (c.front.ensures ∙ c.in_ok-source.ensures.whole c.in_ok-pass_no_limit-in-Err.ensures.passes)

@@ -1,20 +1,16 @@
 -- A step that is an instance, and the first that is none.
-use Rattle.std.proofs.Common.{◌≡◌, ◌+◌, sym, refl, ap, subst, arith, true, [], take, length}
-use Rattle.std.specs.Bool.{OnTrue}
-use Rattle.std.proofs.lemmas.Bool.{OnTrue_at, OnTrue_from}
+use Rattle.std.proofs.Common.{◌≡◌, ◌+◌, sym, refl, ap, subst, arith, true, take, length}
 use Rattle.std.proofs.lemmas.List.{length-take-le}
-use Rattle.model_commands.specs.Theories.{nameless_judgement}
 use Rattle.model_files.specs.FileFaults.{judgement_sorted}
 use Rattle.model_files.specs.Sizes.{JudgementIsSmall}
 use Rattle.theory_syntax.specs.declared.steps.Step.{Step}
-use Rattle.theory_syntax.specs.Judgements.{judgement_of, reason_of}
+use Rattle.theory_syntax.specs.Judgements.{judgement_of}
 use Rattle.cited_steps.specs.Earlier.{steps_in}
-use Rattle.cited_steps.specs.Held.{HoldsBy}
 use Rattle.cited_steps.proofs.Numbers.{citable_before}
 use Rattle.triple_rules.specs.Procedures.{procedures_in}
 use Rattle.hoare_kernel.specs.Walks.{StepsRefused}
 use Rattle.hoare_kernel.proofs.Walks.{handed_out, passed_step, refused_step}
-use Rattle.hoare_kernel.proofs.Walks.{held_at, small_at, sorted_at}
+use Rattle.hoare_kernel.proofs.Walks.{small_at, sorted_at}
 use Rattle.hoare_kernel.proofs.steps.check_steps.Goals as goal
 
 pub stands-requires-clause-earlier : goal.stands-requires-clause-earlier
@@ -33,15 +29,6 @@ stands-requires-clause-sorted c =
     (sym c.index-steps-place.is)
     (sorted_at c.args.steps.now c.index-steps-place.result c.loop-place.place
     (omega (arith, c.loop-place-test.true)) c.requires.sorted)
-
-pub stands-requires-clause-told : goal.stands-requires-clause-told
-stands-requires-clause-told c =
-    subst (λ (z : Step). OnTrue c.args.are_instances (HoldsBy (reason_of z.reason)
-    (steps_in (take c.loop-place.place c.args.steps.now))
-    (nameless_judgement (judgement_of z.judgement)))) (sym c.index-steps-place.is)
-    (OnTrue_from c.args.are_instances _ (λ e.
-    held_at [] c.args.steps.now c.index-steps-place.result c.loop-place.place
-    (omega (arith, c.loop-place-test.true)) (OnTrue_at e c.requires.told)))
 
 pub returns-in_err-stands-clause-bad : goal.returns-in_err-stands-clause-bad
 returns-in_err-stands-clause-bad c =

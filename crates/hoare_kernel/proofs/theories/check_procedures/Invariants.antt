@@ -1,11 +1,9 @@
 use Rattle.std.proofs.Common.{◌≡◌, ◌<◌, drop, take, map}
-use Rattle.std.specs.Bool.{OnTrue}
 use Rattle.model_commands.specs.Theories.{nameless_procedure}
 use Rattle.model_files.specs.FileLimits.{step_count}
 use Rattle.model_files.specs.Sizes.{ProceduresAreSmall}
 use Rattle.rule_table.specs.Accepted.{Each, IsProved}
 use Rattle.theory_syntax.specs.Theories.{procedure_of}
-use Rattle.cited_steps.specs.Held.{EachHolds}
 use Rattle.triple_rules.specs.Procedures.{procedures_in}
 use Rattle.hoare_kernel.specs.Walks.{AreNumbered, EachSorted}
 use Rattle.hoare_kernel.proofs.theories.check_procedures.Given as goal
@@ -17,8 +15,6 @@ invariant-loop-procedure l = record {
   small : ProceduresAreSmall (map procedure_of (drop l.procedure-index l.callees.procedures.now));
   numbered : AreNumbered (drop l.procedure-index l.callees.procedures.now);
   sorted : EachSorted (drop l.procedure-index l.callees.procedures.now);
-  told : OnTrue l.are_instances
-      (EachHolds (procedures_in (drop l.procedure-index l.callees.procedures.now)));
   at : l.number ≡ l.procedure-index;
   few : step_count (map procedure_of (drop l.procedure-index l.callees.procedures.now))
       < 4294967295;

@@ -33,7 +33,7 @@ told_in_scope logics f scope same told head proof both h k =
 
 pub returns-clause-settled : goal.returns-clause-settled
 unfolding scope_in command_sorted
-returns-clause-settled g c =
+returns-clause-settled c =
     let declared = c.new-declared.result in
     let logics = map logic_var_of c.args.logics.now in
     let sorted = with_parts (procedure_of c.unproved-found.result)
@@ -52,6 +52,6 @@ returns-clause-settled g c =
     c.set_head-head.ensures.settled c.in_ok-proof.ensures.settled
 
 pub returns-clause-judged : goal.returns-clause-judged
-returns-clause-judged g c =
+returns-clause-judged c =
     both_judged _ _ c.set_head-head.result.is_judged c.in_ok-proof.proof.are_judged _
     c.told_of-told.ensures.judged c.set_head-head.ensures.judged c.in_ok-proof.ensures.judged

@@ -15,15 +15,14 @@ use Rattle.declared_sorts.proofs.Loops.{then_both, else_both}
 use Rattle.token_readers.specs.Reading.{the_terminal}
 use Rattle.token_readers.specs.Leaves.{lexemes_in}
 use Rattle.token_readers.proofs.Lists.{many_goes_on, many_breaks, many_done, first_after}
-use Rattle.proof_text.proofs.HeldLoops.{one_held}
 use Rattle.proof_text.proofs.JudgedLoops.{one_judged}
 use Rattle.proof_text.specs.SortedTheories.{sorted_procedure_tail, more_sorted_procedures_at}
 use Rattle.proof_text.proofs.procedures.more_procedures.Goals as goal
-use Rattle.proof_text.proofs.procedures.more_procedures.Goals.{then-are_settled, else-are_settled, then-are_judged, else-are_judged, then-are_instances, else-are_instances}
+use Rattle.proof_text.proofs.procedures.more_procedures.Goals.{then-are_settled, else-are_settled, then-are_judged, else-are_judged}
 
 pub loop-init : goal.loop-init
 unfolding more_sorted_procedures_at
-loop-init g c =
+loop-init c =
     let p = procedure_settled (map logic_var_of c.args.logics.now) in
     let e : c.push.new.self ≡ c.args.first.procedure ∷ [] =
     c.in_ok-push.ensures.ok ∙ ap (λ z. z ++ c.args.first.procedure ∷ []) c.new-procedures.ensures in
@@ -34,14 +33,10 @@ loop-init g c =
       judged = one_judged procedure_judged [] (procedure_of c.args.first.procedure)
           true c.args.first.is_judged c.args.first.is_judged (map procedure_of c.push.new.self)
           refl (ap (map procedure_of) e) refl c.requires.judged;
-      instances = one_held [] (procedure_of c.args.first.procedure) true
-          c.args.first.are_instances c.args.first.are_instances
-          (map procedure_of c.push.new.self) refl (ap (map procedure_of) e) tt
-          c.requires.instances;
     }
 
 pub returns-then-not-skip-clause-read : goal.returns-then-not-skip-clause-read
-returns-then-not-skip-clause-read g c =
+returns-then-not-skip-clause-read c =
     let no : c.skip.result ≡ false = cc in
     let p = MatchBool-at_false _ _ no c.skip.ensures in
     rw p.1 (many_done (the_terminal (codes "proc"))
@@ -50,7 +45,7 @@ returns-then-not-skip-clause-read g c =
     (first_after (codes "proc") (lexemes_in c.loop.tokens) None (sym p.0)) c.loop.invariant.read)
 
 pub returns-in_err-item-clause-read : goal.returns-in_err-item-clause-read
-returns-in_err-item-clause-read g c =
+returns-in_err-item-clause-read c =
     let p = err_from_is_err_and c.from_residual-in_err-item.result
     c.from_residual-in_err-item.ensures.1 in
     let yes : c.skip.result ≡ true = cc in
@@ -62,7 +57,7 @@ returns-in_err-item-clause-read g c =
     c.loop.invariant.read)
 
 pub loop-preserved : goal.loop-preserved
-loop-preserved g c =
+loop-preserved c =
     let e : map procedure_of c.push-in-loop.new.self ≡ map procedure_of c.loop.procedures
     ++ procedure_of c.in_ok-item.item.procedure ∷ [] =
     rw c.in_ok-push-2.ensures.ok
@@ -80,12 +75,6 @@ loop-preserved g c =
     elim c.if-are_judged.branch [
       | then-are_judged w ↦ then_both _ _ _ w.if-are_judged.true w.are_judged-is
       | else-are_judged w ↦ else_both _ _ _ w.if-are_judged.false w.are_judged-is
-    ] in
-    let held : c.if-are_instances.are_instances
-    ≡ (c.loop.are_instances && c.in_ok-item.item.are_instances) =
-    elim c.if-are_instances.branch [
-      | then-are_instances w ↦ then_both _ _ _ w.if-are_instances.true w.are_instances-is
-      | else-are_instances w ↦ else_both _ _ _ w.if-are_instances.false w.are_instances-is
     ] in
     record {
       read = rw e (many_goes_on (the_terminal (codes "proc"))
@@ -105,9 +94,4 @@ loop-preserved g c =
           c.in_ok-item.item.is_judged c.if-are_judged.are_judged
           (map procedure_of c.push-in-loop.new.self) judged e c.loop.invariant.judged
           c.in_ok-item.ensures.judged;
-      instances = one_held (map procedure_of c.loop.procedures)
-          (procedure_of c.in_ok-item.item.procedure) c.loop.are_instances
-          c.in_ok-item.item.are_instances c.if-are_instances.are_instances
-          (map procedure_of c.push-in-loop.new.self) held e c.loop.invariant.instances
-          c.in_ok-item.ensures.instances;
     }

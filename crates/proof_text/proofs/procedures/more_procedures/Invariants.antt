@@ -2,10 +2,8 @@
 use Rattle.std.proofs.Common.{◌≡◌, ◌-◌, ◌∷◌, [], codes, map, true}
 use Rattle.std.specs.Bool.{OnTrue}
 use Rattle.std.specs.List.{list_all}
-use Rattle.model_commands.specs.Theories.{nameless_procedure}
 use Rattle.dom_terms.specs.Terms.{logic_var_of}
 use Rattle.theory_syntax.specs.Theories.{procedure_of}
-use Rattle.cited_steps.specs.Held.{EachHolds}
 use Rattle.declared_sorts.specs.Judged.{procedure_judged}
 use Rattle.declared_sorts.specs.Settled.{procedure_settled}
 use Rattle.token_readers.specs.Reading.{many, the_terminal, with_front}
@@ -14,7 +12,7 @@ use Rattle.proof_text.specs.SortedTheories.{sorted_procedure_tail, more_sorted_p
 use Rattle.proof_text.proofs.procedures.more_procedures.Given as goal
 
 abbrev pub invariant-loop : goal.invariant-loop
-invariant-loop g l = record {
+invariant-loop l = record {
   read : with_front (map procedure_of l.procedures) (many (the_terminal (codes "proc"))
       (λ x. sorted_procedure_tail (map logic_var_of l.logics) l.depth 4294967295)
       (4294967295 - l.counter) (lexemes_in l.tokens))
@@ -25,6 +23,4 @@ invariant-loop g l = record {
       (map procedure_of l.procedures);
   judged : OnTrue l.are_judged
       (list_all procedure_judged (map procedure_of l.procedures) ≡ true);
-  instances : OnTrue l.are_instances
-      (EachHolds (map nameless_procedure (map procedure_of l.procedures)));
 }

@@ -20,7 +20,7 @@ use Rattle.proof_text.proofs.steps.steps.Goals.{then-are_settled, else-are_settl
 
 pub returns-in_err-item-clause-read : goal.returns-in_err-item-clause-read
 unfolding sorted_steps_at
-returns-in_err-item-clause-read g c =
+returns-in_err-item-clause-read c =
     let p = err_from_is_err_and c.from_residual.result c.from_residual.ensures.1 in
     rw (p.1, p.2) (many_breaks leaf_step
     (sorted_step_tail (declared_of c.args.declared.now) c.args.depth 4294967295)
@@ -29,7 +29,7 @@ returns-in_err-item-clause-read g c =
 
 pub returns-in_default-clause-read : goal.returns-in_default-clause-read
 unfolding sorted_steps_at
-returns-in_default-clause-read g c =
+returns-in_default-clause-read c =
     let none : c.step_line.result ≡ None = cc in
     let p = MatchOption-at_none _ _ none c.step_line.ensures in
     rw p.1 (many_done leaf_step
@@ -38,7 +38,7 @@ returns-in_default-clause-read g c =
     c.loop.invariant.read)
 
 pub loop-preserved : goal.loop-preserved
-loop-preserved g c =
+loop-preserved c =
     let e : map step_of c.push.new.self ≡ map step_of c.loop.steps ++ step_of
     c.in_ok-item.item.step ∷ [] =
     rw c.in_ok-push.ensures.ok (map_push _ c.loop.steps c.in_ok-item.item.step) in
@@ -70,6 +70,4 @@ loop-preserved g c =
           (step_of c.in_ok-item.item.step) c.loop.are_judged c.in_ok-item.item.is_judged
           c.if-are_judged.are_judged (map step_of c.push.new.self) judged e
           c.loop.invariant.judged c.in_ok-item.ensures.judged;
-      instances = rw (c.in_ok-push.ensures.ok, sym c.as_slice.ensures)
-          c.still_instances-are_instances.ensures;
     }

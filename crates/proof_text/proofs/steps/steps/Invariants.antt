@@ -8,12 +8,11 @@ use Rattle.declared_sorts.specs.Judged.{steps_judged}
 use Rattle.declared_sorts.specs.Settled.{step_settled}
 use Rattle.token_readers.specs.Reading.{many, with_front}
 use Rattle.token_readers.specs.Leaves.{lexemes_in, leaf_step}
-use Rattle.proof_text.specs.Judged.{AreInstances}
 use Rattle.proof_text.specs.SortedTheories.{sorted_step_tail}
 use Rattle.proof_text.proofs.steps.steps.Given as goal
 
 abbrev pub invariant-loop : goal.invariant-loop
-invariant-loop g l = record {
+invariant-loop l = record {
   read : with_front (map step_of l.steps)
       (many leaf_step (sorted_step_tail (declared_of l.declared) l.depth 4294967295)
       (4294967295 - l.counter) (lexemes_in l.tokens))
@@ -21,5 +20,4 @@ invariant-loop g l = record {
       (lexemes_in l.fn.tokens);
   told : l.are_settled ≡ list_all (step_settled (scope_in l.declared)) (map step_of l.steps);
   judged : OnTrue l.are_judged (steps_judged (map step_of l.steps) ≡ true);
-  instances : OnTrue l.are_instances (AreInstances l.steps);
 }

@@ -28,12 +28,12 @@ fails-seen fault own seen same e =
     (fails-raw fault own e)
 
 pub of_whole-requires : goal.of_whole-requires
-of_whole-requires g c =
+of_whole-requires c =
     within 128 _ _ (fails-seen _ _ _ c.in_its_version.ensures c.in-Err.ensures.read) _
     (version_length _ ∙ sym c.count.ensures)
 
 pub returns-in-Ok-clause-found : goal.returns-in-Ok-clause-found
-returns-in-Ok-clause-found g c =
+returns-in-Ok-clause-found c =
     let read = read-raw 128 4294967295 _ _ c.in-Ok.ensures.read in record {
       raw = read.0;
       spelled = subst (SpellsRaw read.0) c.in_its_version.ensures (found 128 _ _ read.1);
@@ -41,11 +41,11 @@ returns-in-Ok-clause-found g c =
     }
 
 pub returns-in-Err-clause-bad_text : goal.returns-in-Err-clause-bad_text
-returns-in-Err-clause-bad_text g c =
+returns-in-Err-clause-bad_text c =
     none 128 _ _ (fails-seen _ _ _ c.in_its_version.ensures c.in-Err.ensures.read) _ _
     c.of_whole.ensures
 
 pub returns-in-Err-clause-fault_token : goal.returns-in-Err-clause-fault_token
-returns-in-Err-clause-fault_token g c each =
+returns-in-Err-clause-fault_token c each =
     fault_token 128 _ _ (fails-seen _ _ _ c.in_its_version.ensures c.in-Err.ensures.read) _
     (sym c.count.ensures) _ c.of_whole.ensures each
