@@ -1,0 +1,109 @@
+-- How the steps of interning a formula follow one another.
+use Rattle.std.proofs.Common.{◌≡◌, ℕ, zero, ◌<◌, ◌≤◌, Bool, true, false, nat_lt, cond, sym, refl, ap, ◌∙◌, subst, arith, List, [], ◌∷◌, ◌++◌, length, get_or, Result, Ok, Err}
+use Rattle.model_shapes.specs.Values.{null}
+use Rattle.model_terms.specs.Terms.{Term, literal}
+use Rattle.model_formulas.specs.Formulas.{Formula, truth}
+use Rattle.formula_table.specs.Heads.{build, terms_used, parts_used}
+use Rattle.formula_table.specs.Rows.{bound_sort, used_at, read_form, IsPlace, FormWithin}
+use Rattle.formula_table.specs.Forms.{terms_at, forms_at}
+use Rattle.formula_table.specs.Interning.{KeepsAll, TermsGrow, IsTerm, StandsFor, TermPlace, PartPlace, IsRow, Fills, Ends, filled, overfull}
+use Rattle.formula_table.specs.declared.faults.TableFault.{TableFault}
+use Rattle.formula_table.specs.declared.faults.TableFault.TheVariants as f
+use Rattle.formula_table.specs.declared.rows.FormRow.{FormRow}
+use Rattle.formula_table.specs.declared.tables.Table.{Table}
+use Rattle.formula_table.proofs.Filling.{filled-more, filled-stop}
+use Rattle.formula_table.proofs.KeptNumbers.{keeps_all-trans}
+
+-- ROWS
+term-place : (t : Table) (b : Bool) (i : ℕ) (a : Term)
+    → cond b (IsTerm t i a) ((i ≡ zero) × (a ≡ literal null))
+    → (cond b (get_or (terms_at t) i (literal null)) (literal null) ≡ a)
+    × cond b (i < length (terms_at t)) (i ≡ zero)
+term-place t true i a h = (h.is, h.there)
+term-place t false i a h = (sym h.1, h.0)
+
+part-place : (t : Table) (b : Bool) (i : ℕ) (p : Formula)
+    → cond b (StandsFor t i p) ((i ≡ zero) × (p ≡ truth))
+    → (cond b (get_or (forms_at t) i truth) truth ≡ p)
+    × cond b (i < length (forms_at t)) (i ≡ zero)
+part-place t true i p h = (h.is, h.there)
+part-place t false i p h = (sym h.1, h.0)
+
+module _ (t : Table) (row : FormRow) (a b c : Term) (p q : Formula) (h : IsRow t row a b c p q) where
+  pub row_reads : read_form (terms_at t) (forms_at t) row ≡ build bound_sort row.head a b c p q
+  row_reads =
+      let x : used_at (terms_used row.head) 0 (literal null) (terms_at t) row.first ≡ a =
+      (term-place t (nat_lt 0 (terms_used row.head)) row.first a h.first).0 in
+      let y : used_at (terms_used row.head) 1 (literal null) (terms_at t) row.second ≡ b =
+      (term-place t (nat_lt 1 (terms_used row.head)) row.second b h.second).0 in
+      let z : used_at (terms_used row.head) 2 (literal null) (terms_at t) row.third ≡ c =
+      (term-place t (nat_lt 2 (terms_used row.head)) row.third c h.third).0 in
+      let u : used_at (parts_used row.head) 0 truth (forms_at t) row.left ≡ p =
+      (part-place t (nat_lt 0 (parts_used row.head)) row.left p h.left).0 in
+      let v : used_at (parts_used row.head) 1 truth (forms_at t) row.right ≡ q =
+      (part-place t (nat_lt 1 (parts_used row.head)) row.right q h.right).0 in
+      λ j. build bound_sort row.head (x j) (y j) (z j) (u j) (v j)
+
+  pub row_within : FormWithin (length (terms_at t)) (length (forms_at t)) row
+  row_within = record {
+    first = (term-place t (nat_lt 0 (terms_used row.head)) row.first a h.first).1;
+    second = (term-place t (nat_lt 1 (terms_used row.head)) row.second b h.second).1;
+    third = (term-place t (nat_lt 2 (terms_used row.head)) row.third c h.third).1;
+    left = (part-place t (nat_lt 0 (parts_used row.head)) row.left p h.left).1;
+    right = (part-place t (nat_lt 1 (parts_used row.head)) row.right q h.right).1;
+  }
+
+-- what a row's number is that of
+pub row_ends : (t new : Table) (row : FormRow) (a b c : Term) (p q : Formula)
+    → IsRow t row a b c p q → (r : Result ℕ TableFault)
+    → Ends t new (read_form (terms_at t) (forms_at t) row ∷ [])
+    (read_form (terms_at t) (forms_at t) row) r
+    → Ends t new (build bound_sort row.head a b c p q ∷ []) (build bound_sort row.head a b c p q) r
+row_ends t new row a b c p q h r e =
+    subst (λ x. Ends t new (x ∷ []) x r) (row_reads t row a b c p q h) e
+
+-- STEPS
+module _ (old mid new : Table) (ps qs : List Formula) (k : Fills old mid ps false) where
+  more : (stops : Bool) → Fills mid new qs stops → Fills old new (ps ++ qs) stops
+  more stops l =
+      let h : (filled old.most (forms_at old) (ps ++ qs)
+      ≡ filled old.most (filled old.most (forms_at old) ps) qs)
+      × (overfull old.most (forms_at old) (ps ++ qs)
+      ≡ overfull old.most (filled old.most (forms_at old) ps) qs) =
+      filled-more old.most (forms_at old) ps qs k.overfull in record {
+        keeps = keeps_all-trans old mid new k.keeps l.keeps;
+        filled = l.filled ∙ ((λ j. filled (k.keeps.most j) (k.filled j) qs) ∙ sym h.0);
+        overfull = h.1 ∙ (sym (λ j. overfull (k.keeps.most j) (k.filled j) qs) ∙ l.overfull);
+      }
+
+  -- one list of formulas and then another
+  pub then_ends : (p : Formula) (r : Result ℕ TableFault) → Ends mid new qs p r
+      → Ends old new (ps ++ qs) p r
+  then_ends p (Ok i) e = (more false e.0, e.1)
+  then_ends p (Err f.Full) e = more true e
+  then_ends p (Err f.OutOfMemory) e = keeps_all-trans old mid new k.keeps e
+
+-- where the first stops nothing follows
+pub stop_ends : (old new : Table) (ps qs : List Formula) (p q : Formula) (e : TableFault)
+    → Ends old new ps p (Err e) → Ends old new (ps ++ qs) q (Err e)
+stop_ends old new ps qs p q f.Full k =
+    let h : (filled old.most (forms_at old) (ps ++ qs) ≡ filled old.most (forms_at old) ps)
+    × (overfull old.most (forms_at old) (ps ++ qs) ≡ true) =
+    filled-stop old.most (forms_at old) ps qs k.overfull in
+    record { keeps = k.keeps; filled = k.filled ∙ sym h.0; overfull = h.1 }
+stop_ends old new ps qs p q f.OutOfMemory k = k
+
+-- terms that were added first change nothing
+module _ (old mid new : Table) (g : TermsGrow old mid) (ps : List Formula) where
+  grown : (stops : Bool) → Fills mid new ps stops → Fills old new ps stops
+  grown stops k = record {
+    keeps = keeps_all-trans old mid new g.keeps k.keeps;
+    filled = k.filled ∙ (λ j. filled (g.keeps.most j) (g.forms j) ps);
+    overfull = sym (λ j. overfull (g.keeps.most j) (g.forms j) ps) ∙ k.overfull;
+  }
+
+  pub grown_ends : (p : Formula) (r : Result ℕ TableFault) → Ends mid new ps p r
+      → Ends old new ps p r
+  grown_ends p (Ok i) e = (grown false e.0, e.1)
+  grown_ends p (Err f.Full) e = grown true e
+  grown_ends p (Err f.OutOfMemory) e = keeps_all-trans old mid new g.keeps e
