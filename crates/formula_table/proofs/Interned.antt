@@ -7,6 +7,9 @@ use Rattle.formula_table.specs.Heads.{build, terms_used, parts_used}
 use Rattle.formula_table.specs.Rows.{bound_sort, used_at, read_form, IsPlace, FormWithin}
 use Rattle.formula_table.specs.Forms.{terms_at, forms_at}
 use Rattle.formula_table.specs.Interning.{KeepsAll, TermsGrow, IsTerm, StandsFor, TermPlace, PartPlace, IsRow, Fills, Ends, filled, overfull}
+use Rattle.dom_terms.specs.declared.sorts.Sort.{Sort}
+use Rattle.formula_table.specs.declared.heads.Head.{Head}
+use Rattle.formula_table.specs.declared.heads.Head.TheVariants as h
 use Rattle.formula_table.specs.declared.faults.TableFault.{TableFault}
 use Rattle.formula_table.specs.declared.faults.TableFault.TheVariants as f
 use Rattle.formula_table.specs.declared.rows.FormRow.{FormRow}
@@ -107,3 +110,76 @@ module _ (old mid new : Table) (g : TermsGrow old mid) (ps : List Formula) where
   grown_ends p (Ok i) e = (grown false e.0, e.1)
   grown_ends p (Err f.Full) e = grown true e
   grown_ends p (Err f.OutOfMemory) e = keeps_all-trans old mid new g.keeps e
+
+-- THE ROWS OF THE FORMS
+module _ (t : Table) (m : Head) where
+  pub leaf_row : terms_used m ≡ 0 → parts_used m ≡ 0
+      → IsRow t (record { head = m; first = 0; second = 0; third = 0; left = 0; right = 0 })
+      (literal null) (literal null) (literal null) truth truth
+  leaf_row e f = record {
+    first = subst (λ u. TermPlace u 0 t 0 (literal null)) (sym e) (refl, refl);
+    second = subst (λ u. TermPlace u 1 t 0 (literal null)) (sym e) (refl, refl);
+    third = subst (λ u. TermPlace u 2 t 0 (literal null)) (sym e) (refl, refl);
+    left = subst (λ u. PartPlace u 0 t 0 truth) (sym f) (refl, refl);
+    right = subst (λ u. PartPlace u 1 t 0 truth) (sym f) (refl, refl);
+  }
+
+  pub about_row : (i : ℕ) (a : Term) → terms_used m ≡ 1 → parts_used m ≡ 0 → IsTerm t i a
+      → IsRow t (record { head = m; first = i; second = 0; third = 0; left = 0; right = 0 })
+      a (literal null) (literal null) truth truth
+  about_row i a e f h = record {
+    first = subst (λ u. TermPlace u 0 t i a) (sym e) h;
+    second = subst (λ u. TermPlace u 1 t 0 (literal null)) (sym e) (refl, refl);
+    third = subst (λ u. TermPlace u 2 t 0 (literal null)) (sym e) (refl, refl);
+    left = subst (λ u. PartPlace u 0 t 0 truth) (sym f) (refl, refl);
+    right = subst (λ u. PartPlace u 1 t 0 truth) (sym f) (refl, refl);
+  }
+
+  pub comparing_row : (i j : ℕ) (a b : Term) → terms_used m ≡ 2 → parts_used m ≡ 0
+      → IsTerm t i a → IsTerm t j b
+      → IsRow t (record { head = m; first = i; second = j; third = 0; left = 0; right = 0 })
+      a b (literal null) truth truth
+  comparing_row i j a b e f h k = record {
+    first = subst (λ u. TermPlace u 0 t i a) (sym e) h;
+    second = subst (λ u. TermPlace u 1 t j b) (sym e) k;
+    third = subst (λ u. TermPlace u 2 t 0 (literal null)) (sym e) (refl, refl);
+    left = subst (λ u. PartPlace u 0 t 0 truth) (sym f) (refl, refl);
+    right = subst (λ u. PartPlace u 1 t 0 truth) (sym f) (refl, refl);
+  }
+
+  pub above_row : (i : ℕ) (p : Formula) → terms_used m ≡ 0 → parts_used m ≡ 1 → StandsFor t i p
+      → IsRow t (record { head = m; first = 0; second = 0; third = 0; left = i; right = 0 })
+      (literal null) (literal null) (literal null) p truth
+  above_row i p e f h = record {
+    first = subst (λ u. TermPlace u 0 t 0 (literal null)) (sym e) (refl, refl);
+    second = subst (λ u. TermPlace u 1 t 0 (literal null)) (sym e) (refl, refl);
+    third = subst (λ u. TermPlace u 2 t 0 (literal null)) (sym e) (refl, refl);
+    left = subst (λ u. PartPlace u 0 t i p) (sym f) h;
+    right = subst (λ u. PartPlace u 1 t 0 truth) (sym f) (refl, refl);
+  }
+
+  pub joining_row : (i j : ℕ) (p q : Formula) → terms_used m ≡ 0 → parts_used m ≡ 2
+      → StandsFor t i p → StandsFor t j q
+      → IsRow t (record { head = m; first = 0; second = 0; third = 0; left = i; right = j })
+      (literal null) (literal null) (literal null) p q
+  joining_row i j p q e f h k = record {
+    first = subst (λ u. TermPlace u 0 t 0 (literal null)) (sym e) (refl, refl);
+    second = subst (λ u. TermPlace u 1 t 0 (literal null)) (sym e) (refl, refl);
+    third = subst (λ u. TermPlace u 2 t 0 (literal null)) (sym e) (refl, refl);
+    left = subst (λ u. PartPlace u 0 t i p) (sym f) h;
+    right = subst (λ u. PartPlace u 1 t j q) (sym f) k;
+  }
+
+pub meeting_row : (t : Table) (s : Sort) (i j : ℕ) (a : Term) (p : Formula) → IsTerm t i a
+    → StandsFor t j p
+    → IsRow t (record { head = h.Is s; first = i; second = 0; third = 0; left = j; right = 0 })
+    a (literal null) (literal null) p truth
+meeting_row t s i j a p x y =
+    record { first = x; second = (refl, refl); third = (refl, refl); left = y; right = (refl, refl) }
+
+pub node_row : (t : Table) (i j k l : ℕ) (a b c : Term) (p : Formula) → IsTerm t i a → IsTerm t j b
+    → IsTerm t k c → StandsFor t l p
+    → IsRow t (record { head = h.Node; first = i; second = j; third = k; left = l; right = 0 })
+    a b c p truth
+node_row t i j k l a b c p x y z u =
+    record { first = x; second = y; third = z; left = u; right = (refl, refl) }

@@ -6,7 +6,9 @@ use Rattle.model_terms.specs.Terms.{Term, literal}
 use Rattle.model_formulas.specs.Formulas.{Formula, truth, falsity, conjunction, disjunction, implication, negation, existential, universal, equality, at_most, empty, bare_hole, node_formula, one_tree, one_root, concatenation, grove_sum, grove_sum_hole, application, hole_adjoint, context_adjoint, same_as, length_is, value_meets}
 use Rattle.model_formulas.specs.SameFormulas.{same_formula}
 use Rattle.formula_table.specs.Growing.{Keeps}
-use Rattle.formula_table.specs.Heads.{terms_used, parts_used}
+use Rattle.formula_table.specs.Heads.{build, terms_used, parts_used}
+use Rattle.formula_table.specs.Rows.{bound_sort}
+use Rattle.formula_table.specs.declared.heads.Head.{Head}
 use Rattle.formula_table.specs.Forms.{names_at, terms_at, forms_at, name_at, term_at, form_at}
 use Rattle.formula_table.specs.declared.faults.TableFault.{TableFault}
 use Rattle.formula_table.specs.declared.faults.TableFault.TheVariants as t
@@ -111,3 +113,19 @@ abbrev pub Ends : Table → Table → List Formula → Formula → Result ℕ Ta
 Ends old new ps p (Ok i) = Fills old new ps false × StandsFor new i p
 Ends old new ps p (Err t.Full) = Fills old new ps true
 Ends old new ps p (Err t.OutOfMemory) = KeepsAll old new
+
+-- the formula of a form with no term and no part; with two parts, with one; of one term, of two
+abbrev pub leaf : Head → Formula
+leaf m = build bound_sort m (literal null) (literal null) (literal null) truth truth
+
+abbrev pub joining : Head → Formula → Formula → Formula
+joining m p q = build bound_sort m (literal null) (literal null) (literal null) p q
+
+abbrev pub above : Head → Formula → Formula
+above m p = build bound_sort m (literal null) (literal null) (literal null) p truth
+
+abbrev pub about : Head → Term → Formula
+about m a = build bound_sort m a (literal null) (literal null) truth truth
+
+abbrev pub comparing : Head → Term → Term → Formula
+comparing m a b = build bound_sort m a b (literal null) truth truth
