@@ -1,10 +1,10 @@
 -- How the steps of interning a formula follow one another.
-use Rattle.std.proofs.Common.{◌≡◌, ℕ, zero, ◌<◌, ◌≤◌, Bool, true, false, nat_lt, cond, sym, refl, ap, ◌∙◌, subst, arith, List, [], ◌∷◌, ◌++◌, length, get_or, Result, Ok, Err}
+use Rattle.std.proofs.Common.{◌≡◌, ℕ, zero, ◌<◌, ◌≤◌, Bool, true, false, nat_lt, cond, sym, refl, ap, ◌∙◌, subst, arith, List, [], ◌∷◌, ◌++◌, length, get_or, Result, Ok, Err, IsErrAnd}
 use Rattle.model_shapes.specs.Values.{null}
 use Rattle.model_terms.specs.Terms.{Term, literal}
 use Rattle.model_formulas.specs.Formulas.{Formula, truth}
 use Rattle.formula_table.specs.Heads.{build, terms_used, parts_used}
-use Rattle.formula_table.specs.Rows.{bound_sort, used_at, read_form, IsPlace, FormWithin}
+use Rattle.formula_table.specs.Rows.{bound_sort, used_at, read_form, FormWithin}
 use Rattle.formula_table.specs.Forms.{terms_at, forms_at}
 use Rattle.formula_table.specs.Interning.{KeepsAll, TermsGrow, IsTerm, StandsFor, TermPlace, PartPlace, IsRow, Fills, Ends, filled, overfull}
 use Rattle.dom_terms.specs.declared.sorts.Sort.{Sort}
@@ -14,7 +14,8 @@ use Rattle.formula_table.specs.declared.faults.TableFault.{TableFault}
 use Rattle.formula_table.specs.declared.faults.TableFault.TheVariants as f
 use Rattle.formula_table.specs.declared.rows.FormRow.{FormRow}
 use Rattle.formula_table.specs.declared.tables.Table.{Table}
-use Rattle.formula_table.proofs.Filling.{filled-more, filled-stop}
+use Rattle.formula_table.proofs.Filling.{filled-more, filled-stop, full-length}
+use Rattle.formula_table.proofs.ReadRows.{form_count}
 use Rattle.formula_table.proofs.KeptNumbers.{keeps_all-trans}
 
 -- ROWS
@@ -95,6 +96,32 @@ stop_ends old new ps qs p q f.Full k =
     filled-stop old.most (forms_at old) ps qs k.overfull in
     record { keeps = k.keeps; filled = k.filled ∙ sym h.0; overfull = h.1 }
 stop_ends old new ps qs p q f.OutOfMemory k = k
+
+-- the same at a `?`
+pub stop_at : (old new : Table) (ps qs : List Formula) (p q : Formula) (e : TableFault)
+    (r : Result ℕ TableFault) → IsErrAnd r (λ f. f ≡ e) → Ends old new ps p (Err e)
+    → Ends old new (ps ++ qs) q r
+stop_at old new ps qs p q e (Ok i) h k = absurd h
+stop_at old new ps qs p q e (Err f) h k =
+    subst (λ g. Ends old new (ps ++ qs) q (Err g)) (sym h) (stop_ends old new ps qs p q e k)
+
+-- and where memory is refused
+pub refused_at : (old new : Table) (ps : List Formula) (p : Formula) (r : Result ℕ TableFault)
+    → IsErrAnd r (λ g. g ≡ f.OutOfMemory) → KeepsAll old new → Ends old new ps p r
+refused_at old new ps p (Ok i) h k = absurd h
+refused_at old new ps p (Err e) h k = subst (λ g. Ends old new ps p (Err g)) (sym h) k
+
+-- a table that is full has as many formulas as it may have
+pub full_at : {A : Type 0} (old new : Table) (ps : List Formula) (p : Formula) (e : TableFault)
+    (r : Result A TableFault) → IsErrAnd r (λ g. g ≡ e) → Ends old new ps p (Err e)
+    → r ≡ Err f.Full → length (forms_at new) ≡ new.most
+full_at old new ps p e (Ok i) h k q = absurd h
+full_at old new ps p f.Full (Err g) h k q =
+    let few : length old.forms.keys ≤ old.most = old.few in
+    let count : length old.forms.keys ≡ length (forms_at old) = form_count old in
+    ap length k.filled ∙ (full-length old.most (forms_at old) ps (omega (arith, few, count)) k.overfull
+    ∙ sym k.keeps.most)
+full_at old new ps p f.OutOfMemory (Err g) h k q = absurd cc
 
 -- terms that were added first change nothing
 module _ (old mid new : Table) (g : TermsGrow old mid) (ps : List Formula) where
