@@ -97,7 +97,8 @@ module _ (s : Sort) (before behind : Formula) where
           by_settled None f e = false≢true e
           by_settled (Some None) f e =
               let found = settled-new known bodies f [] in bound-of (choice known found.0) found.1
-          by_settled (Some (Some v)) f e = bound-of (choice known v) (settled-agrees known v bodies f)
+          by_settled (Some (Some v)) f e =
+              bound-of (choice known v) (settled-agrees known v bodies f)
 
   -- WHERE THEY DO, it is settled
   module _ (p q : Formula) (b : Bound pre post p q) where

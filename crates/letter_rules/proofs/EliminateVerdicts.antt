@@ -16,7 +16,7 @@ use Rattle.rule_table.specs.Notation.{for_some, hoare}
 use Rattle.rule_table.specs.Rules.{eliminate_rule}
 use Rattle.rule_table.specs.Verdicts.{Written, Concludes, Follows, Verdict, instance_verdict, premises_verdict, IsVerdict}
 use Rattle.rule_table.proofs.SomeLetters.{plain_letters}
-use Rattle.letter_bindings.specs.Bodies.{IsWellBound}
+use Rattle.letter_bindings.specs.Bodies.{BindsSorted}
 use Rattle.letter_bindings.specs.Choices.{IsBody}
 use Rattle.triple_rules.specs.Tests.{no_items}
 use Rattle.triple_rules.proofs.Stages.{by_shape, by_premises, founded}
@@ -194,12 +194,12 @@ module _ (steps : List Step) (ns : List ℕ) (arguments : List Term) (c : Comman
       (subst (λ u. same_sort s u ≡ true) sort (same_sort-refl s)))
     where
       found : (u : Sort) → s ≡ u → Found s before behind u
-      found u e =
-          subst (Found s before behind) e (λ g h. both-exact s before behind f g c k steps ns arguments h)
+      found u e = subst (Found s before behind) e
+          (λ g h. both-exact s before behind f g c k steps ns arguments h)
 
-  pub eliminate-exact : (p q : Formula) → IsWellBound p → IsWellBound q
+  pub eliminate-exact : (p q : Formula) → BindsSorted p → BindsSorted q
       → IsVerdict (eliminate_rule ∷ []) (on p q) (verdict_on p q)
-  eliminate-exact (existential s p) (existential t q) f g = two-exact s t p q f.0 g.0
+  eliminate-exact (existential s p) (existential t q) f g = two-exact s t p q f g
   eliminate-exact (existential s p) q f g =
       by_shape eliminate_rule (on (existential s p) q) (no_items arguments && false) _
       (λ e. no-binders (no_items arguments) e)

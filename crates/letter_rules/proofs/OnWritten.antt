@@ -8,7 +8,7 @@ use Rattle.formula_syntax.specs.Formulas.{formula_of}
 use Rattle.theory_syntax.specs.Commands.{command_of}
 use Rattle.theory_syntax.specs.Judgements.{triple_of}
 use Rattle.cited_steps.specs.Earlier.{steps_in}
-use Rattle.letter_bindings.proofs.WellBound.{nameless-well}
+use Rattle.letter_bindings.proofs.KeptBodies.{nameless-sorted}
 use Rattle.rule_table.specs.Rules.{eliminate_rule}
 use Rattle.rule_table.specs.Verdicts.{Verdict, IsVerdict}
 use Rattle.triple_rules.specs.declared.written.Written.{Written}
@@ -25,4 +25,5 @@ module _ (w : Written) (v : Verdict) where
       (eliminate-exact (steps_in w.earlier.now) w.citations.now (map term_of w.arguments.now)
       (command_of w.triple.now.command) (data_sort_of w.triple.now.sort)
       (nameless (formula_of w.triple.now.pre)) (nameless (formula_of w.triple.now.post))
-      (nameless-well (formula_of w.triple.now.pre)) (nameless-well (formula_of w.triple.now.post)))
+      (nameless-sorted (formula_of w.triple.now.pre))
+      (nameless-sorted (formula_of w.triple.now.post)))

@@ -13,8 +13,8 @@ use Rattle.rule_table.specs.Accepted.{judgement_numbered}
 use Rattle.rule_table.specs.Verdicts.{Verdict, instance_verdict, shape_verdict}
 use Rattle.triple_rules.specs.Tests.{no_items, staged}
 
--- what is known of $x, P and Q where P and Q are these formulas, and where these stand below binders
--- of $x of the sort for them
+-- what is known of $x, P and Q where P and Q are these formulas, and the other two stand for them
+-- below binders of $x, which has the sort
 abbrev pub known_of : Sort → Formula → Formula → Formula → Formula → Known
 known_of s p q before behind = record nothing {
   formulas = record no_formulas { P = Some p; Q = Some q };

@@ -50,8 +50,8 @@ fn number_both(table: &mut Table, triple: &Triple) -> Result<Numbered, TableFaul
     })
 }
 
-// What is known of $x, P and Q where P and Q are the formulas of the premise, and where these stand
-// below binders of $x of the sort for them.
+// What is known of $x, P and Q where P and Q are the formulas of the premise, and the others stand
+// for them below binders of $x, which has the sort.
 fn known_of(sort: Sort, premise: Numbered, below: Numbered) -> Known
     ensures { (table : tables) → known_at table result ≡ test.known_of (sort_of sort)
         (form_at table premise.pre) (form_at table premise.post) (form_at table below.pre)
