@@ -1,16 +1,15 @@
 -- A table to which a name, a term or a formula is added.
-use Rattle.std.proofs.Common.{◌≡◌, ℕ, zero, suc, ◌+◌, ◌<◌, ◌≤◌, Bool, true, false, nat_lt, if◌then◌else◌, sym, refl, ap, ◌∙◌, subst, arith, inl, inr, List, [], ◌∷◌, ◌++◌, length, map, get_or, append-nil, Result, Ok, Err, IfOk, OnErr}
+use Rattle.std.proofs.Common.{◌≡◌, ℕ, ◌<◌, ◌≤◌, sym, ap, ◌∙◌, subst, arith, inl, inr, List, [], ◌∷◌, length, map, get_or, append-nil, Result, Ok, Err, IfOk, OnErr}
 use Rattle.std.specs.String.{string_bytes}
-use Rattle.std.proofs.lemmas.Bool.{lt-ltb}
 use Rattle.model_shapes.specs.Values.{Name, null}
-use Rattle.model_terms.specs.Terms.{Term, literal}
+use Rattle.model_terms.specs.Terms.{literal}
 use Rattle.model_formulas.specs.Formulas.{Formula, truth}
 use Rattle.formula_table.specs.Growing.{Different, IsNew, Keeps}
 use Rattle.formula_table.specs.Sets.{Follows, Finds, Adds}
 use Rattle.formula_table.specs.Rows.{read_term, read_form, TermWithin, FormWithin}
 use Rattle.formula_table.specs.Tables.{IsGrown, Interns, IsTable, terms_of, forms_of}
 use Rattle.formula_table.specs.Forms.{names_at, terms_at, forms_at, form_at}
-use Rattle.formula_table.specs.Interning.{KeepsAll, TermsGrow, IsName, IsTerm, StandsFor, Fills, Ends, filled, overfull, is_one_of}
+use Rattle.formula_table.specs.Interning.{KeepsAll, TermsGrow, IsName, IsTerm, Ends}
 use Rattle.formula_table.specs.declared.faults.TableFault.{TableFault}
 use Rattle.formula_table.specs.declared.faults.TableFault.TheVariants as f
 use Rattle.formula_table.specs.declared.rows.TermRow.{TermRow}

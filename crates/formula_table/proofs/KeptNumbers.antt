@@ -1,5 +1,5 @@
 -- Each number keeps its meaning, step after step.
-use Rattle.std.proofs.Common.{◌≡◌, ℕ, ◌<◌, ◌≤◌, ◌∙◌, refl, arith, [], length}
+use Rattle.std.proofs.Common.{ℕ, ◌<◌, ◌≤◌, ◌∙◌, refl, arith, [], length}
 use Rattle.model_shapes.specs.Values.{Name, null}
 use Rattle.model_terms.specs.Terms.{Term, literal}
 use Rattle.model_formulas.specs.Formulas.{Formula, truth}

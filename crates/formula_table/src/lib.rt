@@ -6,6 +6,7 @@
 mod faults;
 mod heads;
 mod interning;
+mod interning_terms;
 mod rows;
 mod sets;
 mod tables;
