@@ -23,8 +23,9 @@ is-there : (p : Formula) (have : List Formula) (i : ℕ) (d : Formula) → i < l
 is-there p [] i d h e = absurd (omega (arith, h))
 is-there p (q ∷ qs) zero d h e =
     let f : q ≡ p = e in
-    let g : same_formula p q ≡ true = subst (λ z. same_formula p z ≡ true) (sym f) (same_formula-refl p)
-    in ap (λ b. b || is_one_of p qs) g
+    let g : same_formula p q ≡ true =
+    subst (λ z. same_formula p z ≡ true) (sym f) (same_formula-refl p) in
+    let more : Bool → Bool = λ b. b || is_one_of p qs in ap more g
 is-there p (q ∷ qs) (suc i) d h e = or-right (same_formula p q) (is_one_of p qs)
     (is-there p qs i d (omega (arith, h)) e)
 
@@ -56,7 +57,8 @@ pub filled-one : (most : ℕ) (have now : List Formula) (p : Formula) → Follow
 unfolding filled overfull
 filled-one most have now p (inl e) few i h q =
     let a : is_one_of p have ≡ true =
-    is-there p have i truth (subst (λ l. i < length l) e h) (ap (λ l. get_or l i truth) (sym e) ∙ q) in (
+    is-there p have i truth (subst (λ l. i < length l) e h)
+    (ap (λ l. get_or l i truth) (sym e) ∙ q) in (
       e ∙ sym (ap (λ b. if b then have else (if nat_lt (length have) most then have ++ p ∷ []
           else have)) a),
       ap (λ b. if b then false else (if nat_lt (length have) most then false else true)) a,
@@ -92,7 +94,8 @@ module _ (most : ℕ) (have next ps : List Formula) where
       → (if b then overfull most have ps else (if l then overfull most next ps else true)) ≡ false
       → ((if b then filled most have (ps ++ qs) else
       (if l then filled most next (ps ++ qs) else have))
-      ≡ filled most (if b then filled most have ps else (if l then filled most next ps else have)) qs)
+      ≡ filled most (if b then filled most have ps else (if l then filled most next ps else have))
+      qs)
       × ((if b then overfull most have (ps ++ qs) else
       (if l then overfull most next (ps ++ qs) else true))
       ≡ overfull most (if b then filled most have ps else (if l then filled most next ps else have))

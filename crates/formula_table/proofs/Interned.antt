@@ -33,29 +33,30 @@ part-place : (t : Table) (b : Bool) (i : ℕ) (p : Formula)
 part-place t true i p h = (h.is, h.there)
 part-place t false i p h = (sym h.1, h.0)
 
-module _ (t : Table) (row : FormRow) (a b c : Term) (p q : Formula) (h : IsRow t row a b c p q) where
-  pub row_reads : read_form (terms_at t) (forms_at t) row ≡ build bound_sort row.head a b c p q
-  row_reads =
-      let x : used_at (terms_used row.head) 0 (literal null) (terms_at t) row.first ≡ a =
-      (term-place t (nat_lt 0 (terms_used row.head)) row.first a h.first).0 in
-      let y : used_at (terms_used row.head) 1 (literal null) (terms_at t) row.second ≡ b =
-      (term-place t (nat_lt 1 (terms_used row.head)) row.second b h.second).0 in
-      let z : used_at (terms_used row.head) 2 (literal null) (terms_at t) row.third ≡ c =
-      (term-place t (nat_lt 2 (terms_used row.head)) row.third c h.third).0 in
-      let u : used_at (parts_used row.head) 0 truth (forms_at t) row.left ≡ p =
-      (part-place t (nat_lt 0 (parts_used row.head)) row.left p h.left).0 in
-      let v : used_at (parts_used row.head) 1 truth (forms_at t) row.right ≡ q =
-      (part-place t (nat_lt 1 (parts_used row.head)) row.right q h.right).0 in
-      λ j. build bound_sort row.head (x j) (y j) (z j) (u j) (v j)
+module _ (t : Table) (row : FormRow) (a b c : Term) (p q : Formula) (h : IsRow t row a b c p q)
+  where
+    pub row_reads : read_form (terms_at t) (forms_at t) row ≡ build bound_sort row.head a b c p q
+    row_reads =
+        let x : used_at (terms_used row.head) 0 (literal null) (terms_at t) row.first ≡ a =
+        (term-place t (nat_lt 0 (terms_used row.head)) row.first a h.first).0 in
+        let y : used_at (terms_used row.head) 1 (literal null) (terms_at t) row.second ≡ b =
+        (term-place t (nat_lt 1 (terms_used row.head)) row.second b h.second).0 in
+        let z : used_at (terms_used row.head) 2 (literal null) (terms_at t) row.third ≡ c =
+        (term-place t (nat_lt 2 (terms_used row.head)) row.third c h.third).0 in
+        let u : used_at (parts_used row.head) 0 truth (forms_at t) row.left ≡ p =
+        (part-place t (nat_lt 0 (parts_used row.head)) row.left p h.left).0 in
+        let v : used_at (parts_used row.head) 1 truth (forms_at t) row.right ≡ q =
+        (part-place t (nat_lt 1 (parts_used row.head)) row.right q h.right).0 in
+        λ j. build bound_sort row.head (x j) (y j) (z j) (u j) (v j)
 
-  pub row_within : FormWithin (length (terms_at t)) (length (forms_at t)) row
-  row_within = record {
-    first = (term-place t (nat_lt 0 (terms_used row.head)) row.first a h.first).1;
-    second = (term-place t (nat_lt 1 (terms_used row.head)) row.second b h.second).1;
-    third = (term-place t (nat_lt 2 (terms_used row.head)) row.third c h.third).1;
-    left = (part-place t (nat_lt 0 (parts_used row.head)) row.left p h.left).1;
-    right = (part-place t (nat_lt 1 (parts_used row.head)) row.right q h.right).1;
-  }
+    pub row_within : FormWithin (length (terms_at t)) (length (forms_at t)) row
+    row_within = record {
+      first = (term-place t (nat_lt 0 (terms_used row.head)) row.first a h.first).1;
+      second = (term-place t (nat_lt 1 (terms_used row.head)) row.second b h.second).1;
+      third = (term-place t (nat_lt 2 (terms_used row.head)) row.third c h.third).1;
+      left = (part-place t (nat_lt 0 (parts_used row.head)) row.left p h.left).1;
+      right = (part-place t (nat_lt 1 (parts_used row.head)) row.right q h.right).1;
+    }
 
 -- what a row's number is that of
 pub row_ends : (t new : Table) (row : FormRow) (a b c : Term) (p q : Formula)
@@ -119,8 +120,9 @@ full_at old new ps p e (Ok i) h k q = absurd h
 full_at old new ps p f.Full (Err g) h k q =
     let few : length old.forms.keys ≤ old.most = old.few in
     let count : length old.forms.keys ≡ length (forms_at old) = form_count old in
-    ap length k.filled ∙ (full-length old.most (forms_at old) ps (omega (arith, few, count)) k.overfull
-    ∙ sym k.keeps.most)
+    let full : length (filled old.most (forms_at old) ps) ≡ old.most =
+    full-length old.most (forms_at old) ps (omega (arith, few, count)) k.overfull in
+    ap length k.filled ∙ (full ∙ sym k.keeps.most)
 full_at old new ps p f.OutOfMemory (Err g) h k q = absurd cc
 
 -- terms that were added first change nothing
@@ -202,7 +204,13 @@ pub meeting_row : (t : Table) (s : Sort) (i j : ℕ) (a : Term) (p : Formula) �
     → IsRow t (record { head = h.Is s; first = i; second = 0; third = 0; left = j; right = 0 })
     a (literal null) (literal null) p truth
 meeting_row t s i j a p x y =
-    record { first = x; second = (refl, refl); third = (refl, refl); left = y; right = (refl, refl) }
+    record {
+      first = x;
+      second = (refl, refl);
+      third = (refl, refl);
+      left = y;
+      right = (refl, refl);
+    }
 
 pub node_row : (t : Table) (i j k l : ℕ) (a b c : Term) (p : Formula) → IsTerm t i a → IsTerm t j b
     → IsTerm t k c → StandsFor t l p

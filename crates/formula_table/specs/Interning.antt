@@ -46,8 +46,8 @@ parts_up (value_meets s a p) = parts_up p ++ value_meets s a p ∷ []
 abbrev pub is_one_of : Formula → List Formula → Bool
 is_one_of p have = list_any (same_formula p) have
 
--- What those that are there become, one formula after another: one that is there is passed, one that
--- isn't goes behind them while there is room, and at the first that has none it stops.
+-- What those that are there become, one formula after another: one that is there is passed, one
+-- that isn't goes behind them while there is room, and at the first that has none it stops.
 unfoldable pub filled : ℕ → List Formula → List Formula → List Formula
 filled most have [] = have
 filled most have (p ∷ ps) = if is_one_of p have then filled most have ps else
@@ -81,7 +81,8 @@ pub record StandsFor (t : Table) (i : ℕ) (p : Formula) : Type 0 where
   pub there : i < length (forms_at t)
   pub is : form_at t i ≡ p
 
--- the number is that of a term or a part of a row, where the row's form uses the place; else it is 0
+-- the number is that of a term or a part of a row, where the row's form uses the place; else it
+-- is 0
 abbrev pub TermPlace : ℕ → ℕ → Table → ℕ → Term → Type 0
 TermPlace used place t i a =
     cond (nat_lt place used) (IsTerm t i a) ((i ≡ zero) × (a ≡ literal null))

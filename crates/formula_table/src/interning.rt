@@ -1,5 +1,5 @@
 // The numbers of formulas, which are added to a table, part by part, where they aren't there.
-ghost use Rattle.std.specs.Prelude.{◌≡◌, ◌<◌, [], ◌∷◌, ◌++◌, true, false, length, IfOk, Err};
+ghost use Rattle.std.specs.Prelude.{◌≡◌, ◌<◌, [], ◌∷◌, ◌++◌, true, false, length, IfOk, OnOk, Err};
 ghost use Rattle.model_terms.specs.Terms.{variable, term_with};
 ghost use Rattle.model_formulas.specs.Formulas as model;
 ghost use Rattle.model_formulas.specs.Nameless.{nameless, names, naming, walked};
@@ -19,23 +19,20 @@ use formula_syntax::{Binders, Formula};
 
 impl Table {
     ghost use Rattle.formula_table.specs.Forms.{terms_at, forms_at, term_at};
-    ghost use Rattle.formula_table.specs.Interning.{parts_up, filled, overfull};
+    ghost use Rattle.formula_table.specs.Interning.{parts_up, Fills};
     ghost use Rattle.formula_table.specs.Interning.{KeepsAll, StandsFor, Ends};
     ghost use Rattle.formula_table.specs.Interning.{leaf, joining, above, about, comparing};
 
-    /// The number of the formula: the one that it has, or a new one, which it gets behind its parts.
+    /// The number of the formula: the one that it has, or a new one, which it gets behind its
+    /// parts. Where there is no room for a part that is new, those before it stay.
     pub fn intern(&mut self, formula: &Formula) -> Result<FormulaId, TableFault>
         ensures keeps { KeepsAll self.old self.new }
         ensures stands { IfOk result (λ id. StandsFor self.new id.place
             (nameless (formula_of formula.now))) }
-        ensures filled { IfOk result (λ _. forms_at self.new ≡ filled self.old.most
-            (forms_at self.old) (parts_up (nameless (formula_of formula.now)))) }
-        ensures room { IfOk result (λ _. overfull self.old.most (forms_at self.old)
-            (parts_up (nameless (formula_of formula.now))) ≡ false) }
-        ensures full { result ≡ Err t.Full → overfull self.old.most (forms_at self.old)
-            (parts_up (nameless (formula_of formula.now))) ≡ true }
-        ensures full_of { result ≡ Err t.Full → forms_at self.new ≡ filled self.old.most
-            (forms_at self.old) (parts_up (nameless (formula_of formula.now))) }
+        ensures ok { OnOk result (Fills self.old self.new
+            (parts_up (nameless (formula_of formula.now))) false) }
+        ensures full { result ≡ Err t.Full → Fills self.old self.new
+            (parts_up (nameless (formula_of formula.now))) true }
         ensures no_room { result ≡ Err t.Full → length (forms_at self.new) ≡ self.new.most }
     {
         let place = self.formula_below(formula, &Binders::Empty)?;
@@ -210,12 +207,7 @@ impl Table {
 
     // the number of what the value of the variable meets
     #[cycle(formula_below)]
-    fn meeting(
-        &mut self,
-        var: &LogicVar,
-        part: &Formula,
-        over: &Binders,
-    ) -> Result<u32, TableFault>
+    fn meeting(&mut self, var: &LogicVar, part: &Formula, over: &Binders) -> Result<u32, TableFault>
         ensures { Ends self.old self.new
             (parts_up (walked (bound_by over.now) (formula_of part.now))
             ++ model.value_meets (sort_of var.now.sort)

@@ -45,7 +45,7 @@ impl Table {
 
     /// The number of the term below the binders.
     #[cycle(term_below)]
-    #[tactic(auto, using(crate::proofs::Named::term_rules, crate::proofs::KeptNumbers::growing_rules))]
+    #[tactic(auto, using(crate::proofs::KeptNumbers::growing_rules))]
     pub(crate) fn term_below(&mut self, term: &Term, over: &Binders) -> Result<u32, OutOfMemory>
         ensures grows { TermsGrow self.old self.new }
         ensures ok { IfOk result (λ number. IsTerm self.new number
@@ -81,7 +81,11 @@ impl Table {
     }
 
     /// The number of the variable below the binders.
-    pub(crate) fn variable_below(&mut self, var: &LogicVar, over: &Binders) -> Result<u32, OutOfMemory>
+    pub(crate) fn variable_below(
+        &mut self,
+        var: &LogicVar,
+        over: &Binders,
+    ) -> Result<u32, OutOfMemory>
         ensures grows { TermsGrow self.old self.new }
         ensures ok { IfOk result (λ number. IsTerm self.new number
             (variable (names (bound_by over.now) (logic_var_of var.now)))) }
@@ -97,7 +101,7 @@ impl Table {
 
     /// The numbers of both terms below the binders.
     #[cycle(term_below)]
-    #[tactic(auto, using(crate::proofs::Named::term_rules, crate::proofs::KeptNumbers::growing_rules))]
+    #[tactic(auto, using(crate::proofs::KeptNumbers::growing_rules))]
     pub(crate) fn terms_below(
         &mut self,
         left: &Term,

@@ -1,14 +1,13 @@
 // Tables of formulas.
-ghost use Rattle.std.specs.Prelude.{◌≡◌, ◌<◌, ◌≤◌, ◌↔◌, [], ◌∷◌, length, map, IsTrue, IfOk, bytes_eq};
-ghost use Rattle.std.specs.String.{string_bytes};
+ghost use Rattle.std.specs.Prelude.{◌≡◌, ◌<◌, ◌≤◌, ◌↔◌, [], ◌∷◌, length, IsTrue, IfOk, bytes_eq};
 ghost use Rattle.model_shapes.specs.Values.{null};
 ghost use Rattle.model_terms.specs.Terms.{Term, literal};
 ghost use Rattle.model_formulas.specs.Formulas.{Formula, truth};
 ghost use Rattle.model_formulas.specs.SameFormulas as tests;
 ghost use Rattle.formula_table.specs.Heads.{build, parts_used};
 ghost use Rattle.formula_table.specs.Rows.{bound_sort, read_term, TermWithin, FormWithin};
-ghost use Rattle.formula_table.specs.Tables.{IsTable};
-ghost use Rattle.formula_table.specs.OneProof.{table-prop};
+ghost use Rattle.formula_table.specs.Tables.{HasRows};
+ghost use Rattle.formula_table.specs.OneProof.{rows-prop};
 
 use crate::faults::TableFault;
 use crate::heads::Head;
@@ -36,8 +35,7 @@ pub struct Table {
     terms: IndexSet<TermRow>,
     forms: IndexSet<FormRow>,
     most: u32,
-    ghost whole: { IsTable (map string_bytes names.keys) terms.keys forms.keys }
-        by { table-prop (map string_bytes names.keys) terms.keys forms.keys },
+    ghost whole: { HasRows names.keys terms.keys forms.keys } by { rows-prop _ _ _ },
     ghost few: { length forms.keys ≤ most },
 }
 
