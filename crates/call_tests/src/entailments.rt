@@ -24,7 +24,7 @@ fn grove_variable(alloc: Global) -> Result<LogicVar, OutOfMemory>
 }
 
 // `true entails (exists $g . ($g and true)) at g`
-fn something(alloc: Global) -> Result<Entailment, OutOfMemory>
+pub(crate) fn something(alloc: Global) -> Result<Entailment, OutOfMemory>
     ensures small { IfOk result IsSmallEntailment }
     ensures sorted { IfOk result IsWellSorted }
 {
@@ -71,7 +71,7 @@ fn an_entailment_has_the_verdict_of_its_rule(rt: HostRuntime) -> Result<(), Fail
 }
 
 // The first step, by the rule `some`.
-fn first_step(alloc: Global, conclusion: Entailment) -> Result<Step, OutOfMemory>
+pub(crate) fn first_step(alloc: Global, conclusion: Entailment) -> Result<Step, OutOfMemory>
     requires small { IsSmallEntailment conclusion }
     requires sorted { IsWellSorted conclusion }
     ensures { IfOk result IsEntailmentStep }

@@ -65,7 +65,7 @@ fn equated(alloc: Global, bound: &str, left: Term, right: Term) -> Result<Formul
 }
 
 // `(exists BOUND . a = BOUND)`
-fn is_a(alloc: Global, bound: &str) -> Result<Formula, OutOfMemory>
+pub(crate) fn is_a(alloc: Global, bound: &str) -> Result<Formula, OutOfMemory>
     ensures { IfOk result (λ p. parts (formula_of p) < 4294967295) }
 {
     let (left, right) = with(program(alloc, "a")?, logic(alloc, bound))?;

@@ -100,7 +100,7 @@ fn a_step_is_tested_by_itself(rt: HostRuntime) -> Result<(), Fail> {
 }
 
 // A step whose command does nothing, by the rule of that name.
-fn skip_step(alloc: Global, rule: &str) -> Result<Step, OutOfMemory>
+pub(crate) fn skip_step(alloc: Global, rule: &str) -> Result<Step, OutOfMemory>
     ensures small { IfOk result (λ s. JudgementIsSmall (judgement_of s.judgement)) }
     ensures sorted { IfOk result (λ s. judgement_sorted (judgement_of s.judgement) ≡ true) }
     ensures reason { IfOk result (λ s. reason_of s.reason ≡ auto → ⊥) }
@@ -128,7 +128,7 @@ fn skip_step(alloc: Global, rule: &str) -> Result<Step, OutOfMemory>
 }
 
 // A theory of one procedure, which does nothing and is proved.
-fn idle_theory(alloc: Global) -> Result<Theory, OutOfMemory>
+pub(crate) fn idle_theory(alloc: Global) -> Result<Theory, OutOfMemory>
     ensures { IfOk result (λ t. TheoryIsSmall (theory_of t)) }
 {
     let mut proof = Steps::new(alloc);
@@ -179,7 +179,7 @@ fn check_accepted(rt: &impl Abort, alloc: Global, theory: &Theory) -> Result<(),
 }
 
 #[test]
-fn a_theory_is_accepted_of_which_nothing_is_told(rt: HostRuntime) -> Result<(), Fail> {
+fn a_theory_made_by_hand_is_accepted(rt: HostRuntime) -> Result<(), Fail> {
     let theory = idle_theory(rt.alloc())?;
     let answer = check_accepted(&rt, rt.alloc(), &theory);
     drop(theory);

@@ -6,7 +6,7 @@ use Rattle.model_commands.specs.Theories.{Judgement, entails, triple}
 use Rattle.rule_table.specs.Accepted as accepted
 use Rattle.rule_table.specs.Accepted.{in_front, judgement_numbered}
 use Rattle.theory_syntax.specs.declared.steps.Step.{Step}
-use Rattle.row_matching.specs.declared.source.Cited.{Cited}
+use Rattle.entail_rules.specs.declared.cited.Cited.{Cited}
 use Rattle.cited_steps.specs.Earlier.{steps_in}
 use Rattle.entail_rules.specs.Premises.{are_few, Cites}
 use Rattle.entail_kernel.specs.Citing.{CitesOne, is_entailment}

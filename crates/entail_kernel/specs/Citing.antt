@@ -5,7 +5,7 @@ use Rattle.model_commands.specs.Theories.{Judgement, entails, triple}
 use Rattle.rule_table.specs.Accepted.{judgement_numbered}
 use Rattle.formula_syntax.specs.declared.entailments.Entailment.{Entailment}
 use Rattle.theory_syntax.specs.declared.steps.Step.{Step}
-use Rattle.row_matching.specs.Choices.{judged}
+use Rattle.entail_rules.specs.Judged.{judged}
 use Rattle.cited_steps.specs.Earlier.{steps_in}
 
 abbrev pub is_entailment : Judgement → Bool

@@ -6,4 +6,4 @@
 mod steps;
 
 pub use entail_rules::{EntailRule, rule_of};
-pub use steps::{check_entailment, entailment_by};
+pub use steps::{check_entailment, check_entailment_in, entailment_by};

@@ -1,7 +1,3 @@
-pub mod Coverage
-pub mod EnoughTried
-pub mod PlainRows
-pub mod Reached
-pub mod RowsLeft
+pub mod Numbers
 pub mod RuleVerdicts
 pub mod VerdictLaws

@@ -1,3 +1,3 @@
+pub mod Judged
+pub mod Numbers
 pub mod Premises
-pub mod Steps
-pub mod Tried

@@ -10,8 +10,8 @@ use Rattle.dom_terms.specs.declared.terms.Term.{Term}
 use Rattle.formula_syntax.specs.Formulas.{formula_of}
 use Rattle.formula_syntax.specs.declared.entailments.Entailment.{Entailment}
 use Rattle.rule_table.specs.Verdicts.{Written, Verdict, instance_verdict, shape_verdict, premises_verdict, side_verdict}
-use Rattle.row_matching.specs.Choices.{judged, all_cited}
-use Rattle.row_matching.specs.declared.source.Cited.{Cited}
+use Rattle.entail_rules.specs.Judged.{judged, all_cited}
+use Rattle.entail_rules.specs.declared.cited.Cited.{Cited}
 
 -- two entailments at most, as many as a rule of entailment may have for premises
 abbrev pub are_few : List Judgement → Bool

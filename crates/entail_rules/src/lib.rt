@@ -1,15 +1,13 @@
-//! The verdict on a step by a rule of entailment: one matcher for the rows of all rules but the
-//! four that compute. Promises the verdict that the table of rules gives.
-//! Stands on the rows as constants, on how far each goes along with a step, and on the four rules.
+//! The verdict on a step by a rule of entailment, over the numbers that what is written has in a
+//! table of formulas. Promises the verdict that the table of rules gives, and that each number
+//! keeps its meaning. Stands on the rows as constants, on the walks over them, and on the four
+//! rules that compute.
 #![tactic(auto)]
 
+mod cited;
 mod matching;
-mod plain;
-mod reaching;
-mod steps;
-mod variables;
-mod verdicts;
+mod numbering;
 
-pub use matching::{matches, verdict_on};
-pub use row_matching::Cited;
+pub use cited::Cited;
+pub use matching::{matches, matches_in, verdict_on};
 pub use rule_rows::{EntailRule, rule_of};

@@ -1,16 +1,15 @@
 -- A table to which a name, a term or a formula is added.
-use Rattle.std.proofs.Common.{◌≡◌, ℕ, zero, suc, ◌+◌, ◌<◌, ◌≤◌, Bool, true, false, nat_lt, if◌then◌else◌, sym, refl, ap, ◌∙◌, subst, arith, inl, inr, List, [], ◌∷◌, ◌++◌, length, map, get_or, append-nil, Result, Ok, Err, IfOk, OnErr}
+use Rattle.std.proofs.Common.{◌≡◌, ℕ, ◌<◌, ◌≤◌, sym, ap, ◌∙◌, subst, arith, inl, inr, List, [], ◌∷◌, length, map, get_or, append-nil, Result, Ok, Err, IfOk, OnErr}
 use Rattle.std.specs.String.{string_bytes}
-use Rattle.std.proofs.lemmas.Bool.{lt-ltb}
 use Rattle.model_shapes.specs.Values.{Name, null}
-use Rattle.model_terms.specs.Terms.{Term, literal}
+use Rattle.model_terms.specs.Terms.{literal}
 use Rattle.model_formulas.specs.Formulas.{Formula, truth}
 use Rattle.formula_table.specs.Growing.{Different, IsNew, Keeps}
 use Rattle.formula_table.specs.Sets.{Follows, Finds, Adds}
 use Rattle.formula_table.specs.Rows.{read_term, read_form, TermWithin, FormWithin}
 use Rattle.formula_table.specs.Tables.{IsGrown, Interns, IsTable, terms_of, forms_of}
 use Rattle.formula_table.specs.Forms.{names_at, terms_at, forms_at, form_at}
-use Rattle.formula_table.specs.Interning.{KeepsAll, TermsGrow, IsName, IsTerm, StandsFor, Fills, Ends, filled, overfull, is_one_of}
+use Rattle.formula_table.specs.Interning.{KeepsAll, TermsGrow, IsName, IsTerm, Ends}
 use Rattle.formula_table.specs.declared.faults.TableFault.{TableFault}
 use Rattle.formula_table.specs.declared.faults.TableFault.TheVariants as f
 use Rattle.formula_table.specs.declared.rows.TermRow.{TermRow}
@@ -69,8 +68,8 @@ pub names_table : {E : Type 0} (x : Name) (old new : List Name) (terms : List Te
 names_table x old new terms forms r a b t = (with-names old new terms forms t
     (names_differ x old new r a b t.one_name) (names_keep x old new r a b)).2
 
-module _ (old new : Table) (e : new.terms.keys ≡ old.terms.keys) (f : new.forms.keys ≡ old.forms.keys)
-    (m : new.most ≡ old.most) where
+module _ (old new : Table) (e : new.terms.keys ≡ old.terms.keys)
+    (f : new.forms.keys ≡ old.forms.keys) (m : new.most ≡ old.most) where
   names_grow : Different (map string_bytes new.names.keys)
       → Keeps (map string_bytes old.names.keys) (map string_bytes new.names.keys)
       → TermsGrow old new
@@ -93,16 +92,17 @@ module _ (old new : Table) (e : new.terms.keys ≡ old.terms.keys) (f : new.form
       }
 
   module _ {E : Type 0} (x : Name) (r : Result ℕ E)
-      (a : IfOk r (Finds x (map string_bytes old.names.keys) (map string_bytes new.names.keys))) where
-    pub name_grows : OnErr r (map string_bytes new.names.keys ≡ map string_bytes old.names.keys)
-        → TermsGrow old new
-    name_grows b = names_grow
-        (names_differ x (map string_bytes old.names.keys) (map string_bytes new.names.keys) r a b
-        old.whole.one_name)
-        (names_keep x (map string_bytes old.names.keys) (map string_bytes new.names.keys) r a b)
+      (a : IfOk r (Finds x (map string_bytes old.names.keys) (map string_bytes new.names.keys)))
+    where
+      pub name_grows : OnErr r (map string_bytes new.names.keys ≡ map string_bytes old.names.keys)
+          → TermsGrow old new
+      name_grows b = names_grow
+          (names_differ x (map string_bytes old.names.keys) (map string_bytes new.names.keys) r a b
+          old.whole.one_name)
+          (names_keep x (map string_bytes old.names.keys) (map string_bytes new.names.keys) r a b)
 
-    pub name_found : IfOk r (λ i. IsName new i x)
-    name_found = name_found_by new x (map string_bytes old.names.keys) r a
+      pub name_found : IfOk r (λ i. IsName new i x)
+      name_found = name_found_by new x (map string_bytes old.names.keys) r a
 
 -- TERMS
 module _ (names : List Name) (old new : List TermRow) (forms : List FormRow)
@@ -133,8 +133,8 @@ module _ (names : List Name) (old new : List TermRow) (forms : List FormRow)
     terms_table r a b = with-terms names old new forms t (grown r a b) (kept r a b)
 
     found : (r : Result ℕ E) → IfOk r (Finds row old new)
-        → IfOk r (λ i. (i < length (terms_of names new)) × (get_or (terms_of names new) i (literal null)
-        ≡ read_term names (terms_of names old) row))
+        → IfOk r (λ i. (i < length (terms_of names new))
+        × (get_or (terms_of names new) i (literal null) ≡ read_term names (terms_of names old) row))
     found (Ok i) a = (added i a).found (literal null)
     found (Err e) a = tt
 
@@ -275,8 +275,8 @@ module _ (t : Table) (row : FormRow)
         let h : Interns (read_form (terms_at t)) (FormWithin (length (terms_at t))) t.forms.keys
         new.forms.keys row i = form_added new.forms.keys i a in
         let s : Follows (read_form (terms_at t) (forms_at t) row) (forms_at t) (forms_at new) =
-        subst (λ l. Follows (read_form (terms_at t) (forms_at t) row) (forms_at t) l) (sym forms_new)
-        (follows_forms h.follows) in
+        subst (λ l. Follows (read_form (terms_at t) (forms_at t) row) (forms_at t) l)
+        (sym forms_new) (follows_forms h.follows) in
         let there : i < length (forms_at new) =
         subst (λ l. i < length l) (sym forms_new) (h.found truth).0 in
         let at : form_at new i ≡ read_form (terms_at t) (forms_at t) row =

@@ -1,11 +1,12 @@
 -- Each number keeps its meaning, step after step.
-use Rattle.std.proofs.Common.{◌≡◌, ℕ, ◌<◌, ◌≤◌, ◌∙◌, refl, arith, [], length}
+use Rattle.std.proofs.Common.{ℕ, ◌<◌, ◌≤◌, ◌∙◌, refl, arith, [], length}
 use Rattle.model_shapes.specs.Values.{Name, null}
 use Rattle.model_terms.specs.Terms.{Term, literal}
 use Rattle.model_formulas.specs.Formulas.{Formula, truth}
 use Rattle.formula_table.specs.Forms.{names_at, terms_at, forms_at}
 use Rattle.formula_table.specs.Interning.{KeepsAll, TermsGrow, IsName, IsTerm, StandsFor}
 use Rattle.formula_table.specs.declared.tables.Table.{Table}
+use Rattle.formula_table.proofs.Named.{term_rules}
 use Rattle.formula_table.proofs.Growing.{keeps-refl, keeps-trans, keeps-length, keeps-at}
 
 pub keeps_all-refl : (t : Table) → KeepsAll t t
@@ -64,4 +65,5 @@ pub term-grown : (old new : Table) → TermsGrow old new → (i : ℕ) (x : Term
     → IsTerm new i x
 term-grown old new g i x h = term-kept old new g.keeps i x h
 
-pub ruleset growing_rules = (terms_grow-refl, terms_grow-trans, term-grown)
+-- with what a term is below binders
+pub ruleset growing_rules = (terms_grow-refl, terms_grow-trans, term-grown, term_rules)

@@ -1,10 +1,7 @@
 -- What a variable is below binders, step by step.
-use Rattle.std.proofs.Common.{◌≡◌, ℕ, ◌+◌, zero, suc, ◌∙◌, sym, refl, ap, arith, List, [], ◌∷◌, true, false}
-use Rattle.model_shapes.specs.Sorts.{Sort}
-use Rattle.model_terms.specs.Variables.{Var, bound}
-use Rattle.model_terms.specs.VariableTests.{same_var}
-use Rattle.model_terms.specs.Terms.{Term, literal, variable, sum, difference, appended, raised_var, term_with}
-use Rattle.model_formulas.specs.Nameless.{names, naming}
+use Rattle.std.proofs.Common.{◌≡◌, ℕ, ◌+◌, refl, []}
+use Rattle.model_terms.specs.Terms.{Term, literal, variable, sum, difference, appended, term_with}
+use Rattle.model_formulas.specs.Nameless.{naming}
 use Rattle.formula_syntax.proofs.BoundNames.{names-here, names-there, names-prog}
 
 -- no binder changes nothing

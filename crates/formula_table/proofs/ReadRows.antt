@@ -29,12 +29,15 @@ zero-plus i = omega arith
 
 module _ {A R : Type 0} (read : List A → R → A) where
   pub grown-size : (rows : List R) → length (grow read [] rows) ≡ length rows
-  grown-size rows = let e : length (grow read [] rows) ≡ 0 + length rows = grow-length read [] rows in
+  grown-size rows =
+      let e : length (grow read [] rows) ≡ 0 + length rows = grow-length read [] rows in
       omega (arith, e)
 
   -- a number past the rows
-  pub past-rows : (rows : List R) (i : ℕ) (d : A) → length rows ≤ i → get_or (grow read [] rows) i d ≡ d
-  past-rows rows i d k = get_or_past (grow read [] rows) i d (subst (λ n. n ≤ i) (sym (grown-size rows)) k)
+  pub past-rows : (rows : List R) (i : ℕ) (d : A) → length rows ≤ i
+      → get_or (grow read [] rows) i d ≡ d
+  past-rows rows i d k = get_or_past (grow read [] rows) i d
+      (subst (λ n. n ≤ i) (sym (grown-size rows)) k)
 
   module _ (W : ℕ → R → Type 0)
       (stable : (done all : List A) (r : R) → Keeps done all → W (length done) r
@@ -56,7 +59,9 @@ module _ {A R : Type 0} (read : List A → R → A) where
 
 none-past : {R : Type 0} (rows : List R) (i : ℕ) → None ≡ slice_get rows i → length rows ≤ i
 none-past rows i e = elim ((slice_get_cases rows i).1) as (λ _. length rows ≤ i) [
-    inl h ↦ absurd (some h.0 (e ∙ h.2)) | inr h ↦ h.0 ]
+  | inl h ↦ absurd (some h.0 (e ∙ h.2))
+  | inr h ↦ h.0
+]
   where
     some : {A : Type 0} (x : A) → None ≡ Some x → ⊥
     some x q = cc
@@ -65,7 +70,8 @@ none-past rows i e = elim ((slice_get_cases rows i).1) as (λ _. length rows ≤
 -- what a form doesn't use doesn't matter
 plainly : (terms : List Term) (forms : List Formula) (m : Head) (a b c i j : ℕ)
     → build bound_sort m (used_at (terms_used m) 0 (literal null) terms a)
-    (used_at (terms_used m) 1 (literal null) terms b) (used_at (terms_used m) 2 (literal null) terms c)
+    (used_at (terms_used m) 1 (literal null) terms b)
+    (used_at (terms_used m) 2 (literal null) terms c)
     (used_at (parts_used m) 0 truth forms i) (used_at (parts_used m) 1 truth forms j)
     ≡ build bound_sort m (get_or terms a (literal null)) (get_or terms b (literal null))
     (get_or terms c (literal null)) (get_or forms i truth) (get_or forms j truth)
@@ -128,7 +134,6 @@ module _ (t : Table) (i : ℕ) where
   no_term e = past-rows (read_term (names_at t)) t.terms.keys i (literal null)
       (none-past t.terms.keys i e)
 
-
 -- how many formulas there are
 pub form_count : (t : Table) → length t.forms.keys ≡ length (forms_at t)
 unfolding forms_at
@@ -141,7 +146,9 @@ pub is_empty : (x : List ℕ) → (length x == 0) ≡ bytes_eq x []
 is_empty [] = refl
 is_empty (n ∷ x) = elim (eqb_tells (length (n ∷ x)) 0)
     as (λ _. (length (n ∷ x) == 0) ≡ bytes_eq (n ∷ x) []) [
-    inl h ↦ absurd (omega (arith, h.1)) | inr h ↦ h.0 ]
+      | inl h ↦ absurd (omega (arith, h.1))
+      | inr h ↦ h.0
+    ]
 
 module _ {Z : Type 0} (ks : List (String Z)) (i : ℕ) where
   pub no_name : None ≡ slice_get ks i → get_or (map string_bytes ks) i [] ≡ []

@@ -49,7 +49,6 @@ and-both false b e f = false≢true e
 
 module _ {A : Type 0} (test : A → A → Bool) (is : (a b : A) → test a b ≡ true → a ≡ b)
     (itself : (a : A) → test a a ≡ true) (xs : List A) (one : Different xs) (d : A) where
-
   equal : (a b : A) → a ≡ b → test a b ≡ true
   equal a b e = subst (λ c. test a c ≡ true) e (itself a)
 
@@ -61,9 +60,10 @@ module _ {A : Type 0} (test : A → A → Bool) (is : (a b : A) → test a b ≡
           → test (get_or xs i d) (get_or xs j d) ≡ true
       one_way e = elim (or-is (nat_eq i j) _ e)
           as (λ _. test (get_or xs i d) (get_or xs j d) ≡ true) [
-          inl n ↦ equal _ _ (ap (λ k. get_or xs k d) (eqb-true i j n))
-          | inr n ↦ let h : (test (get_or xs i d) d ≡ true) × (test (get_or xs j d) d ≡ true) =
-              and-is _ _ n in equal _ _ (is _ _ h.0 ∙ sym (is _ _ h.1)) ]
+            | inl n ↦ equal _ _ (ap (λ k. get_or xs k d) (eqb-true i j n))
+            | inr n ↦ let h : (test (get_or xs i d) d ≡ true) × (test (get_or xs j d) d ≡ true) =
+                and-is _ _ n in equal _ _ (is _ _ h.0 ∙ sym (is _ _ h.1))
+          ]
 
       out : get_or xs i d ≡ d → get_or xs j d ≡ d
           → (nat_eq i j || (test (get_or xs i d) d && test (get_or xs j d) d)) ≡ true
@@ -112,7 +112,9 @@ module _ (i j : ℕ) (x y s : Bool) (e : (nat_eq i j || (x && y)) ≡ s) where
 
   apart : (i ≡ j → ⊥) → nat_eq i j ≡ false
   apart n = elim (eqb_tells i j) as (λ _. nat_eq i j ≡ false) [
-      inl h ↦ absurd (n h.1) | inr h ↦ h.0 ]
+    | inl h ↦ absurd (n h.1)
+    | inr h ↦ h.0
+  ]
 
   pub by_second : (i ≡ j → ⊥) → x ≡ true → y ≡ s
   by_second h k = sym (λ l. apart h l || (k l && y)) ∙ e

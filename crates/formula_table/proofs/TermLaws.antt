@@ -62,8 +62,8 @@ term-one names n all (t.Str x) (t.Str y) h w v e =
 term-one names n all (t.Bool a) (t.Bool b) h w v e =
     let q : boolean a ≡ boolean b = cc in let p : a ≡ b = cc in ap t.Bool p
 term-one names n all (t.Prog x a) (t.Prog y b) h w v e =
-    let q : prog (get_or names x []) (value_sort_of a) ≡ prog (get_or names y []) (value_sort_of b) =
-    cc in
+    let q : prog (get_or names x []) (value_sort_of a)
+    ≡ prog (get_or names y []) (value_sort_of b) = cc in
     let p : get_or names x [] ≡ get_or names y [] = cc in
     let o : value_sort_of a ≡ value_sort_of b = cc in
     λ j. t.Prog (n x y [] w v p j) (value_sort-one a b o j)
@@ -126,8 +126,8 @@ each-wider-names m n size [] h w = tt
 each-wider-names m n size (r ∷ rows) h w =
     (term-wider-names m n size r h w.0, each-wider-names m n (suc size) rows h w.1)
 
-pub terms-stay-named : (old new : List Name) (done : List Term) (rows : List TermRow) → Keeps old new
-    → EachWithin (TermWithin (length old)) (length done) rows
+pub terms-stay-named : (old new : List Name) (done : List Term) (rows : List TermRow)
+    → Keeps old new → EachWithin (TermWithin (length old)) (length done) rows
     → grow (read_term old) done rows ≡ grow (read_term new) done rows
 terms-stay-named old new done [] k w = refl
 terms-stay-named old new done (r ∷ rows) k w =

@@ -1,11 +1,13 @@
 -- Needn't be believed: what holds of each table holds in one way, as a ghost field asks.
-use Rattle.std.specs.Prelude.{◌≡◌, ◌<◌, zero, ℕ, Bool, true, false, cond, suc, List, [], ◌∷◌, length}
+use Rattle.std.specs.Prelude.{◌≡◌, ◌<◌, zero, ℕ, Bool, true, false, cond, suc, List, [], ◌∷◌, length, map}
 use Rattle.std.specs.Coded.{le_prop}
 use native.Mathlib.Nat.{ℕ_set}
+use Rattle.std.specs.String.{string_bytes}
+use Rattle.std.specs.declared.string.String.{String}
 use Rattle.model_shapes.specs.Values.{Name}
 use Rattle.formula_table.specs.Growing.{EachWithin}
 use Rattle.formula_table.specs.Rows.{TermWithin, FormWithin}
-use Rattle.formula_table.specs.Tables.{terms_of, IsTable}
+use Rattle.formula_table.specs.Tables.{terms_of, IsTable, HasRows}
 use Rattle.formula_table.specs.declared.rows.TermRow.{TermRow}
 use Rattle.formula_table.specs.declared.rows.TermRow.TheVariants as t
 use Rattle.formula_table.specs.declared.rows.FormRow.{FormRow}
@@ -35,9 +37,15 @@ each-prop : {R : Type 0} (W : ℕ → R → Type 0) → ((n : ℕ) (r : R) → I
 each-prop W h n [] = Prim.hlevel
 each-prop W h n (r ∷ rs) = Prim.hlevel (h, each-prop W h (suc n) rs)
 
-pub table-prop : (names : List Name) (terms : List TermRow) (forms : List FormRow)
+table-prop : (names : List Name) (terms : List TermRow) (forms : List FormRow)
     → IsProp (IsTable names terms forms)
 table-prop names terms forms = Prim.hlevel (
-    each-prop (TermWithin (length names)) (term_within-prop (length names)) 0 terms,
-    each-prop (FormWithin (length (terms_of names terms)))
-    (form_within-prop (length (terms_of names terms))) 0 forms, ℕ_set)
+  each-prop (TermWithin (length names)) (term_within-prop (length names)) 0 terms,
+  each-prop (FormWithin (length (terms_of names terms)))
+      (form_within-prop (length (terms_of names terms))) 0 forms,
+  ℕ_set,
+)
+
+pub rows-prop : {Z : Type 0} (names : List (String Z)) (terms : List TermRow) (forms : List FormRow)
+    → IsProp (HasRows names terms forms)
+rows-prop names terms forms = table-prop (map string_bytes names) terms forms

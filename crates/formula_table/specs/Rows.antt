@@ -29,7 +29,8 @@ read_term names terms (t.Bool b) = literal (boolean b)
 read_term names terms (t.Prog x s) = variable (prog (get_or names x []) (value_sort_of s))
 read_term names terms (t.Logic x s) = variable (logic (get_or names x []) (sort_of s))
 read_term names terms (t.Bound i s) = variable (bound i (sort_of s))
-read_term names terms (t.Add a b) = sum (get_or terms a (literal null)) (get_or terms b (literal null))
+read_term names terms (t.Add a b) =
+    sum (get_or terms a (literal null)) (get_or terms b (literal null))
 read_term names terms (t.Sub a b) =
     difference (get_or terms a (literal null)) (get_or terms b (literal null))
 read_term names terms (t.Cat a b) =

@@ -1,11 +1,13 @@
-//! Formulas by number: nameless formulas as rows of a table, each there once, so that equal formulas
-//! have equal numbers. Promises that a number keeps its meaning.
-//! Stands on the definitions of formulas and on the kit's indexmap.
+//! Formulas by number: nameless formulas as rows of a table, each there once.
+//! Promises that equal formulas have equal numbers, that a number keeps its meaning, and which
+//! formulas there are after one was added, or where there is no room.
+//! Stands on the formulas of the program and on the kit's indexmap.
 #![tactic(auto)]
 
 mod faults;
 mod heads;
 mod interning;
+mod interning_terms;
 mod rows;
 mod sets;
 mod tables;

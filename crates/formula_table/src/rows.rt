@@ -51,8 +51,14 @@ pub struct FormRow {
 impl FormRow {
     // the row of a form with no term and no part
     pub(crate) fn of(head: Head) -> FormRow
-        ensures { result ≡ record { head = head; first = 0; second = 0; third = 0; left = 0;
-            right = 0 } }
+        ensures { result ≡ record {
+          head = head;
+          first = 0;
+          second = 0;
+          third = 0;
+          left = 0;
+          right = 0;
+        } }
     {
         FormRow {
             head,

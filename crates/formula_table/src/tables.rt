@@ -1,14 +1,13 @@
 // Tables of formulas.
-ghost use Rattle.std.specs.Prelude.{◌≡◌, ◌<◌, ◌≤◌, ◌↔◌, [], ◌∷◌, length, map, IsTrue, IfOk, bytes_eq};
-ghost use Rattle.std.specs.String.{string_bytes};
+ghost use Rattle.std.specs.Prelude.{◌≡◌, ◌<◌, ◌≤◌, ◌↔◌, [], ◌∷◌, length, IsTrue, IfOk, bytes_eq};
 ghost use Rattle.model_shapes.specs.Values.{null};
-ghost use Rattle.model_terms.specs.Terms.{literal};
-ghost use Rattle.model_formulas.specs.Formulas.{truth};
+ghost use Rattle.model_terms.specs.Terms.{Term, literal};
+ghost use Rattle.model_formulas.specs.Formulas.{Formula, truth};
 ghost use Rattle.model_formulas.specs.SameFormulas as tests;
 ghost use Rattle.formula_table.specs.Heads.{build, parts_used};
-ghost use Rattle.formula_table.specs.Rows.{bound_sort, read_term, TermWithin, read_form, FormWithin};
-ghost use Rattle.formula_table.specs.Tables.{IsTable};
-ghost use Rattle.formula_table.specs.OneProof.{table-prop};
+ghost use Rattle.formula_table.specs.Rows.{bound_sort, read_term, TermWithin, FormWithin};
+ghost use Rattle.formula_table.specs.Tables.{HasRows};
+ghost use Rattle.formula_table.specs.OneProof.{rows-prop};
 
 use crate::faults::TableFault;
 use crate::heads::Head;
@@ -36,14 +35,13 @@ pub struct Table {
     terms: IndexSet<TermRow>,
     forms: IndexSet<FormRow>,
     most: u32,
-    ghost whole: { IsTable (map string_bytes names.keys) terms.keys forms.keys }
-        by { table-prop (map string_bytes names.keys) terms.keys forms.keys },
+    ghost whole: { HasRows names.keys terms.keys forms.keys } by { rows-prop _ _ _ },
     ghost few: { length forms.keys ≤ most },
 }
 
 impl Table {
     ghost use Rattle.formula_table.specs.Forms.{names_at, terms_at, forms_at, name_at, term_at, form_at};
-    ghost use Rattle.formula_table.specs.Interning.{IsName, IsTerm, TermsGrow, Ends};
+    ghost use Rattle.formula_table.specs.Interning.{IsName, IsTerm, IsRow, TermsGrow, Ends};
 
     /// The table with no formula, and room for as many as a proof may speak of. It takes memory
     /// only when it grows.
@@ -153,9 +151,9 @@ impl Table {
     /// room.
     pub(crate) fn add_form(&mut self, row: FormRow) -> Result<u32, TableFault>
         requires { FormWithin (length (terms_at self.old)) (length (forms_at self.old)) row }
-        ensures { Ends self.old self.new
-            (read_form (terms_at self.old) (forms_at self.old) row ∷ [])
-            (read_form (terms_at self.old) (forms_at self.old) row) result }
+        ensures { (a b c : Term) (p q : Formula) → IsRow self.old row a b c p q
+            → Ends self.old self.new (build bound_sort row.head a b c p q ∷ [])
+            (build bound_sort row.head a b c p q) result }
     {
         sets::add_form(&mut self.forms, row, self.most)
     }

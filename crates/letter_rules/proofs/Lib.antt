@@ -1,3 +1,4 @@
-pub mod BinderLaws
+pub mod Commands
+pub mod Binding
 pub mod EliminateVerdicts
 pub mod OnWritten

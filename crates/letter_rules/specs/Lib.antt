@@ -1,1 +1,2 @@
 pub mod EliminateTests
+pub mod Numbered

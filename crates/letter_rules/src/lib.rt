@@ -1,8 +1,8 @@
 //! The rule for triples that binds a logic variable, eliminate, with the exact verdict on what is
 //! written at a step.
 //! Promises that the verdict is the one that the table of rules gives.
-//! Stands on the table of rules, on what is written at a step for a triple, and on formulas
-//! compared with some of their variables read otherwise.
+//! Stands on the table of rules, on what is written at a step for a triple, on formulas by number,
+//! and on what is settled of a logic variable that was bound.
 #![tactic(auto)]
 
 mod eliminating;

@@ -1,1 +1,3 @@
 pub mod FirstFound
+pub mod Under
+pub mod OneHead

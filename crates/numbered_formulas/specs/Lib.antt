@@ -1,1 +1,3 @@
 pub mod Variables
+pub mod Shifts
+pub mod Parts

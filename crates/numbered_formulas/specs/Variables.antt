@@ -1,4 +1,5 @@
--- Needn't be believed: the program's promise doesn't speak of it. The variables that numbers stand for.
+-- Needn't be believed: the program's promise doesn't speak of it. The variables that numbers stand
+-- for.
 use Rattle.rule_table.specs.Letters.{LogicVar}
 use Rattle.dom_terms.specs.Sorts.{sort_of}
 use Rattle.formula_table.specs.Forms.{name_at}

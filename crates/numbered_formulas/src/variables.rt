@@ -1,11 +1,16 @@
 // Variables of the logic, named by number.
 ghost use Rattle.std.specs.Prelude.{◌≡◌};
+ghost use Rattle.model_terms.specs.Variables.{bound};
+ghost use Rattle.model_terms.specs.Terms as terms;
+ghost use Rattle.model_formulas.specs.SameFormulas.{same_term};
+ghost use Rattle.dom_terms.specs.Sorts.{sort_of};
+ghost use Rattle.formula_table.specs.Forms.{term_at};
 ghost use Rattle.model_terms.specs.VariableTests.{same_var};
 ghost use Rattle.rule_table.specs.Letters.{as_logic};
 ghost use Rattle.numbered_formulas.specs.Variables.{variable_at};
 
 use dom_terms::{Sort, same_sort};
-use formula_table::Table;
+use formula_table::{Table, TermRow};
 
 /// A variable of the logic: the number of its name, and its sort.
 #[derive(Clone, Copy)]
@@ -22,4 +27,26 @@ pub fn same_variables(table: &Table, left: Variable, right: Variable) -> bool
         (as_logic (variable_at table.now right)) }
 {
     table.same_names(left.name, right.name) && same_sort(left.sort, right.sort)
+}
+
+// whether the term is the bound variable
+pub(crate) fn is_bound(table: &Table, place: u64, sort: Sort, term: u32) -> bool
+    ensures { result ≡ same_term (terms.variable (bound place (sort_of sort)))
+        (term_at table.now term) }
+{
+    match table.term(term) {
+        TermRow::Bound(own, own_sort) => u64::from(own) == place && same_sort(sort, own_sort),
+        _ => false,
+    }
+}
+
+// whether the term is the variable of the logic
+pub(crate) fn is_logic(table: &Table, variable: Variable, term: u32) -> bool
+    ensures { result ≡ same_term (terms.variable (as_logic (variable_at table.now variable)))
+        (term_at table.now term) }
+{
+    match table.term(term) {
+        TermRow::Logic(name, sort) => same_variables(table, variable, Variable { name, sort }),
+        _ => false,
+    }
 }

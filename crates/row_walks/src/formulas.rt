@@ -9,7 +9,6 @@ ghost use Rattle.row_walks.specs.Views.{known_at, Walks};
 ghost use Rattle.row_walks.specs.Forms.{is_logical, is_shaped};
 
 use crate::below::walk_below;
-use crate::closed::is_closed;
 use crate::flat::walk_flat;
 use crate::known::Known;
 use crate::letters::{walk_letter, walk_replaced};
@@ -17,6 +16,7 @@ use crate::sorts::{walk_data, walk_x_sort};
 use crate::terms::walk_term;
 use formula_syntax::Side;
 use formula_table::{Head, Table};
+use numbered_formulas::is_closed;
 use row_patterns::{Pattern, TermPattern};
 
 /// The walk over a formula that stands below no binder of the pattern.

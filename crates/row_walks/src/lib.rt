@@ -4,19 +4,21 @@
 #![tactic(auto)]
 
 mod below;
-mod closed;
 mod flat;
 mod formulas;
 mod known;
 mod letters;
-mod parts;
+mod settling;
 mod sorts;
 mod steps;
 mod terms;
+mod verdicts;
 
 pub use below::walk_below;
 pub use formulas::walk_formula;
 pub use known::{Datas, Known, Places, Terms};
+pub use settling::settle;
 pub use sorts::{walk_data, walk_sort, walk_x_sort};
 pub use steps::{Cited, Numbered, walk_conclusion, walk_judged, walk_premises};
 pub use terms::{walk_term, walk_variable};
+pub use verdicts::{Step, verdict_by};

@@ -1,6 +1,6 @@
 -- The verdict by each rule that computes is that of its name.
 use Rattle.std.proofs.Common.{Some, []}
-use Rattle.rule_rows.specs.declared.rows.Computed.TheVariants as cp
+use Rattle.rule_rows.specs.declared.ways.Computed.TheVariants as cp
 use Rattle.row_patterns.specs.Verdicts.{verdict_in}
 use Rattle.entail_rules.specs.Premises.{written_with}
 use Rattle.entail_rules.proofs.RuleVerdicts.{by-its-kind, of-its-kind}

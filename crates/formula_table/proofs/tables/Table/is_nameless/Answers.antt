@@ -8,7 +8,8 @@ pub returns-in-Some : goal.returns-in-Some
 unfolding names_at
 returns-in-Some c = c.is_empty.ensures ∙ (is_empty c.as_str.result.now
     ∙ ap (λ x. bytes_eq x []) (c.as_str.ensures.value
-    ∙ sym (a_name c.args.self.now.names.keys c.args.number c.in-Some.name.now c.in-Some.ensures.key)))
+    ∙ sym (a_name c.args.self.now.names.keys c.args.number c.in-Some.name.now
+    c.in-Some.ensures.key)))
 
 -- src/tables.rt:145:5
 pub returns-in-None : goal.returns-in-None

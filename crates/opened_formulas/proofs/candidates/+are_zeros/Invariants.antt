@@ -1,4 +1,0 @@
-use Rattle.opened_formulas.proofs.candidates.+are_zeros.Given as goal
-
-abbrev pub decreases-are_zeros : goal.decreases-are_zeros
-decreases-are_zeros l = l.length

@@ -1,4 +1,0 @@
-pub mod Pure
-pub mod Tests
-pub mod Reaching
-pub mod Places

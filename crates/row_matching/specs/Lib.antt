@@ -1,4 +1,0 @@
-pub mod FirstPlaces
-pub mod Forms
-pub mod Choices
-pub mod SeenLetters
