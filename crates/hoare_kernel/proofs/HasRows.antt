@@ -1,13 +1,16 @@
 -- Formulas that have rows: they keep them as the table grows, and those of what is cited have them
 -- where those of each number do.
-use Rattle.std.proofs.Common.{◌≡◌, ℕ, ◌<◌, suc, refl, subst, arith, List, [], ◌∷◌, length, get_or, Option, Some, None}
+use Rattle.std.proofs.Common.{◌≡◌, ℕ, ◌<◌, suc, refl, sym, subst, arith, inl, inr, List, [], ◌∷◌, length, get_or, Option, Some, None}
+use Rattle.model_terms.specs.Terms.{Term}
 use Rattle.model_formulas.specs.Formulas.{Formula}
-use Rattle.model_commands.specs.Theories.{Judgement, entails, triple, Step}
+use Rattle.model_commands.specs.Theories.{Judgement, entails, triple, Reason, auto, by_rule, Step}
 use Rattle.rule_table.specs.Accepted.{cited, in_front, judgement_numbered}
 use Rattle.formula_table.specs.Interning.{KeepsAll}
 use Rattle.formula_table.specs.declared.tables.Table.{Table}
 use Rattle.formula_table.proofs.KeptNumbers.{formula-kept}
-use Rattle.hoare_kernel.specs.Rows.{HasRow, JudgementHasRows, AllHaveRows, NumberHasRows, CitedHaveRows}
+use Rattle.entail_rules.specs.Numbers.{AllHaveRows, HasRow, IsFull, JudgementHasRows}
+use Rattle.entail_kernel.specs.Steps.{StepHasRows}
+use Rattle.hoare_kernel.specs.Rows.{NumberHasRows, CitedHaveRows}
 
 -- AS THE TABLE GROWS
 module _ (t u : Table) (k : KeepsAll t u) where
@@ -42,3 +45,15 @@ module _ (t : Table) (earlier : List Step) where
       in-front (judgement_numbered n earlier) (cited earlier ns) js e
       (h 0 (omega arith))
       (each-cited ns (λ i lt. h (suc i) (omega (arith, lt))))
+
+  -- where those of the judgement do too, or the table is full
+  pub written : (reason : Reason) (j : Judgement) (name ns : List ℕ) (es : List Term)
+      → reason ≡ by_rule name ns es → JudgementHasRows t j → CitedHaveRows t earlier ns
+      → StepHasRows t earlier reason j
+  written reason j name ns es e h k =
+      subst (λ (z : Reason). StepHasRows t earlier z j) (sym e) (λ js q. inl (h, k js q))
+
+  pub when-full : (reason : Reason) (j : Judgement) → (reason ≡ auto → ⊥) → IsFull t
+      → StepHasRows t earlier reason j
+  when-full auto j n h = absurd (n refl)
+  when-full (by_rule name ns es) j n h = λ js q. inr h

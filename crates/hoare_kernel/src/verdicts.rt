@@ -1,5 +1,5 @@
 // The verdict on a step.
-ghost use Rattle.std.specs.Prelude.{◌≡◌, ◌⊎◌, IfOk, true};
+ghost use Rattle.std.specs.Prelude.{◌≡◌, IfOk, true};
 ghost use Rattle.model_commands.specs.Theories.{auto, nameless_judgement, procedures_of};
 ghost use Rattle.model_files.specs.FileFaults.{judgement_sorted};
 ghost use Rattle.model_files.specs.Sizes.{JudgementIsSmall, TheoryIsSmall};
@@ -9,10 +9,10 @@ ghost use Rattle.theory_syntax.specs.Judgements.{judgement_of, reason_of};
 ghost use Rattle.theory_syntax.specs.Theories.{theory_of};
 ghost use Rattle.row_patterns.specs.Verdicts.{verdict_in};
 ghost use Rattle.cited_steps.specs.Earlier.{AreCitable, steps_in};
+ghost use Rattle.entail_kernel.specs.Steps.{StepHasRows};
 ghost use Rattle.triple_laws.specs.Steps.{HoldsBySteps};
 ghost use Rattle.triple_rules.specs.Callees.{AreReady};
 ghost use Rattle.triple_rules.specs.Procedures.{procedures_in};
-ghost use Rattle.hoare_kernel.specs.Rows.{IsFull, StepHasRows};
 
 use crate::entailments::entailment_named;
 use crate::rows::add_rows;
@@ -73,9 +73,9 @@ pub(crate) fn step_verdict(
 
 /// The verdict on the step, which is no gap, over the steps before it. A name of no rule has the
 /// verdict of a conclusion that doesn't fit. An instance holds by the number of steps, where what
-/// it cites does. Each number of the table keeps its meaning, and where the step is an instance its
-/// formulas, and those of what it cites, get rows while there is room. OutOfMemory comes only where
-/// memory is refused.
+/// it cites does. The table keeps what each number stands for, and has a row for each formula of an
+/// instance and of what it cites, unless it has the most rows that it may have. OutOfMemory comes
+/// only where memory is refused.
 pub fn check_step_in(
     alloc: Global,
     table: &mut Table,
@@ -97,7 +97,7 @@ pub fn check_step_in(
     ensures kept { KeepsAll table.old table.new }
     ensures rows { IfOk result (λ v. v ≡ Verdict.Instance → StepHasRows table.new
         (steps_in earlier.now) (reason_of step.now.reason)
-        (nameless_judgement (judgement_of step.now.judgement)) ⊎ IsFull table.new) }
+        (nameless_judgement (judgement_of step.now.judgement))) }
 {
     let callees = Callees {
         procedures: theory.procedures.as_slice(),
