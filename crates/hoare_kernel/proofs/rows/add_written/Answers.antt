@@ -1,5 +1,5 @@
 -- What the step cites, beside what it says.
-use Rattle.std.proofs.Common.{sym, ap, subst, List, ℕ, map}
+use Rattle.std.proofs.Common.{ap, subst, List, ℕ, map}
 use Rattle.std.proofs.lemmas.Result.{on_ok_weaker}
 use Rattle.model_commands.specs.Theories.{nameless_judgement}
 use Rattle.dom_terms.specs.Terms.{term_of}
