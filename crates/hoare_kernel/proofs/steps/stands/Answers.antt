@@ -21,5 +21,6 @@ returns-in_ok-verdict-in-Rule-clause-bad c =
     (λ e h. refused_by (procedures_in c.args.callees.procedures.now)
     (reason_of c.args.step.now.reason) (steps_in c.args.earlier.now)
     (nameless_judgement (judgement_of c.args.step.now.judgement)) c.in_ok-verdict-in-Rule.verdict
-    c.in_ok-verdict-in-Rule.ensures.exact c.args.procedure (length c.args.earlier.now + 1) e h.0 h.1)
+    c.in_ok-verdict-in-Rule.ensures.exact c.args.procedure (length c.args.earlier.now + 1) e
+    h.0 h.1)
     c.judged.ensures.bad
