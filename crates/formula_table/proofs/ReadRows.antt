@@ -6,17 +6,22 @@ use Rattle.std.proofs.lemmas.Bool.{lt-ltb}
 use Rattle.std.proofs.lemmas.Bool.Decides.{eqb_tells}
 use Rattle.std.proofs.lemmas.List.{get_or_past, get_or-map, length-map}
 use Rattle.std.proofs.lemmas.Option.{slice_get_cases, slice_get_within, get_or_from_slice_get}
-use Rattle.model_shapes.specs.Values.{null}
-use Rattle.model_terms.specs.Terms.{Term, literal}
+use Rattle.model_shapes.specs.Values.{Name, null}
+use Rattle.model_terms.specs.Variables.{logic}
+use Rattle.model_terms.specs.Terms.{Term, literal, variable}
 use Rattle.model_formulas.specs.Formulas.{Formula, truth}
+use Rattle.dom_terms.specs.Sorts.{sort_of}
+use Rattle.dom_terms.specs.declared.sorts.Sort.{Sort}
 use Rattle.formula_table.specs.Growing.{grow, EachWithin, Keeps}
 use Rattle.formula_table.specs.Heads.{build, terms_used, parts_used}
 use Rattle.formula_table.specs.Rows.{bound_sort, used_at, read_term, read_form, TermWithin, FormWithin}
 use Rattle.formula_table.specs.Tables.{terms_of}
-use Rattle.formula_table.specs.Forms.{names_at, terms_at, forms_at, term_at, form_at}
+use Rattle.formula_table.specs.Forms.{names_at, terms_at, forms_at, name_at, term_at, form_at}
+use Rattle.formula_table.specs.Interning.{IsTerm}
 use Rattle.formula_table.specs.declared.heads.Head.{Head}
 use Rattle.formula_table.specs.declared.heads.Head.TheVariants as h
 use Rattle.formula_table.specs.declared.rows.TermRow.{TermRow}
+use Rattle.formula_table.specs.declared.rows.TermRow.TheVariants as v
 use Rattle.formula_table.specs.declared.rows.FormRow.{FormRow}
 use Rattle.formula_table.specs.declared.tables.Table.{Table}
 use Rattle.formula_table.proofs.Growing.{grow-length, grow-at, within-at}
@@ -128,6 +133,22 @@ module _ (t : Table) (i : ℕ) where
     unfolding names_at terms_at
     term_within = row-within (read_term (names_at t)) (TermWithin (length (names_at t)))
         (term-stays (names_at t)) t.terms.keys t.whole.terms_grown.within i r at
+
+    pub term_there : IsTerm t i (read_term (names_at t) (terms_at t) r)
+    unfolding names_at terms_at
+    term_there = record {
+      there = subst (λ n. i < n) (sym (grown-size (read_term (names_at t)) t.terms.keys))
+          (slice_get_within t.terms.keys i r (sym at));
+      is = term_row;
+    }
+
+  -- the row of a variable that stands free
+  pub free_there : (x : ℕ) (s k : Sort) (y : Name)
+      → Some (v.Logic x s) ≡ slice_get t.terms.keys i → s ≡ k → name_at t x ≡ y
+      → IsTerm t i (variable (logic y (sort_of k)))
+  free_there x s k y at q e = subst (λ z. IsTerm t i (variable (logic z (sort_of k)))) e
+      (subst (λ m. IsTerm t i (variable (logic (name_at t x) (sort_of m)))) q
+      (term_there (v.Logic x s) at))
 
   pub no_term : None ≡ slice_get t.terms.keys i → term_at t i ≡ literal null
   unfolding names_at terms_at

@@ -61,7 +61,7 @@ side-refl s.Whole = refl
 side-refl s.HoleLeft = refl
 side-refl s.HoleRight = refl
 
-kind-same : (a b : Sort) → kk.eq-value.it a b ≡ true → a ≡ b
+pub kind-same : (a b : Sort) → kk.eq-value.it a b ≡ true → a ≡ b
 kind-same (k.Value a) (k.Value b) e = ap k.Value (value-same a b e)
 kind-same (k.Shape a) (k.Shape b) e = ap k.Shape (data_kind-same a b e)
 kind-same (k.Context a b) (k.Context c f) e =

@@ -90,13 +90,27 @@ impl Table {
         ensures ok { IfOk result (λ number. IsTerm self.new number
             (variable (names (bound_by over.now) (logic_var_of var.now)))) }
     {
-        match place_below(var, over)? {
-            Some(place) => self.add_term(TermRow::Bound(place, var.sort)),
-            None => {
-                let name = self.add_name(var.name.as_str())?;
-                self.add_term(TermRow::Logic(name, var.sort))
-            }
+        match over {
+            Binders::Empty => self.free_variable(var),
+            Binders::More(_, _) => match place_below(var, over)? {
+                Some(place) => self.add_term(TermRow::Bound(place, var.sort)),
+                None => self.free_variable(var),
+            },
         }
+    }
+
+    // the number of the variable, which stands free
+    #[inline(always)]
+    fn free_variable(&mut self, var: &LogicVar) -> Result<u32, OutOfMemory>
+        ensures grows { TermsGrow self.old self.new }
+        ensures ok { IfOk result (λ number. IsTerm self.new number
+            (variable (logic_var_of var.now))) }
+    {
+        if let Some(number) = self.first_free(var) {
+            return Ok(number);
+        }
+        let name = self.add_name(var.name.as_str())?;
+        self.add_term(TermRow::Logic(name, var.sort))
     }
 
     /// The numbers of both terms below the binders.

@@ -5,6 +5,7 @@
 #![tactic(auto)]
 
 mod faults;
+mod few_names;
 mod heads;
 mod interning;
 mod interning_terms;

@@ -1,19 +1,22 @@
 // Tables of formulas.
-ghost use Rattle.std.specs.Prelude.{◌≡◌, ◌<◌, ◌≤◌, ◌↔◌, [], ◌∷◌, length, IsTrue, IfOk, bytes_eq};
+ghost use Rattle.std.specs.Prelude.{◌≡◌, ◌<◌, ◌≤◌, ◌↔◌, [], ◌∷◌, length, IsTrue, IfOk, IfSome, bytes_eq};
+ghost use Rattle.std.specs.Bool.{OnTrue};
 ghost use Rattle.model_shapes.specs.Values.{null};
-ghost use Rattle.model_terms.specs.Terms.{Term, literal};
+ghost use Rattle.model_terms.specs.Terms.{Term, literal, variable};
 ghost use Rattle.model_formulas.specs.Formulas.{Formula, truth};
 ghost use Rattle.model_formulas.specs.SameFormulas as tests;
+ghost use Rattle.dom_terms.specs.Terms.{logic_var_of};
 ghost use Rattle.formula_table.specs.Heads.{build, parts_used};
 ghost use Rattle.formula_table.specs.Rows.{bound_sort, read_term, TermWithin, FormWithin};
 ghost use Rattle.formula_table.specs.Tables.{HasRows};
 ghost use Rattle.formula_table.specs.OneProof.{rows-prop};
 
 use crate::faults::TableFault;
+use crate::few_names::{FEW, same_name};
 use crate::heads::Head;
 use crate::rows::{FormRow, TermRow};
 use crate::sets;
-use dom_terms::OutOfMemory;
+use dom_terms::{LogicVar, OutOfMemory};
 use indexmap::IndexSet;
 use std::alloc::Global;
 
@@ -127,6 +130,38 @@ impl Table {
         ensures { result ≡ bytes_eq (name_at self.now a) (name_at self.now b) }
     {
         a == b || (self.is_nameless(a) && self.is_nameless(b))
+    }
+
+    /// The number of the variable, which stands free, where its row is among the first: most files
+    /// have few variables, which come early.
+    #[inline(always)]
+    pub(crate) fn first_free(&self, var: &LogicVar) -> Option<u32>
+        ensures { IfSome result
+            (λ number. IsTerm self.now number (variable (logic_var_of var.now))) }
+    {
+        let name = var.name.as_str();
+        for number in 0..FEW {
+            match self.terms.get_index(number as usize)? {
+                TermRow::Logic(known, sort) => {
+                    if *sort == var.sort && self.has_name(*known, name) {
+                        return Some(number);
+                    }
+                }
+                _ => {}
+            }
+        }
+        None
+    }
+
+    // whether the number is that of the name
+    #[inline(always)]
+    fn has_name(&self, number: u32, name: &str) -> bool
+        ensures { OnTrue result (name_at self.now number ≡ name.now) }
+    {
+        match self.names.get_index(number as usize) {
+            Some(known) => same_name(known.as_str(), name),
+            None => false,
+        }
     }
 
     /// The number of the name, which is added where it isn't there.
