@@ -4,7 +4,6 @@ pub mod Assigned
 pub mod Below
 pub mod Listed
 pub mod Fits
-pub mod InsertFits
 pub mod Seen
 pub mod Judged
 pub mod Steps

@@ -20,10 +20,8 @@ use Rattle.small_axioms.proofs.Seen.{create-seen}
 module _ (p q : Formula) (d : DataSort) (command : Command) (x : ProgVar) (e name : Term)
     (is : command ≡ Create x e) (at : plain name ≡ right_part (plain e) (second_part p))
   where
-    name-is : term_of name ≡ right_part (term_of e) (second_part p)
-    name-is =
-        sym (term-variable (term_of name))
-        ∙ at ∙ ap (λ t. right_part t (second_part p)) (term-variable (term_of e))
+    name-is : term_of name ≡ right_part (plain e) (second_part p)
+    name-is = sym (term-variable (term_of name)) ∙ at
 
     pub name-set : (b : Bool) → b ≡ is_among (var_of x) (variables_of_term (term_of name))
         → b ≡ creates_one_of (variables_of_term (new_name (triple p (command_of command) q d)))

@@ -1,31 +1,27 @@
-// Whether a triple is the conclusion of each axiom.
-ghost use Rattle.std.specs.Prelude.{◌≡◌, ◌||◌};
-ghost use Rattle.model_shapes.specs.Sorts.{grove, tree};
-ghost use Rattle.model_formulas.specs.Nameless.{nameless};
-ghost use Rattle.model_formulas.specs.Formulas.{conjunction, equality};
+// Whether a triple is the conclusion of an axiom of a command that reads, or that creates a node.
+// Each function builds the formulas of its row over the parts that it reads off.
+ghost use Rattle.std.specs.Prelude.{◌≡◌};
 ghost use Rattle.model_terms.specs.Terms.{variable};
+ghost use Rattle.model_formulas.specs.Formulas.{conjunction, equality};
+ghost use Rattle.model_formulas.specs.Nameless.{nameless};
 ghost use Rattle.dom_terms.specs.Sorts.{data_sort_of};
 ghost use Rattle.dom_terms.specs.Terms.{var_of};
 ghost use Rattle.formula_syntax.specs.Formulas.{formula_of};
 ghost use Rattle.rule_table.specs.Axioms as table;
-ghost use Rattle.small_axioms.specs.Forms.{asked, asked_term, append_post, append_pre, plain, remove_post, remove_pre};
+ghost use Rattle.small_axioms.specs.Forms.{asked, asked_term};
 ghost use Rattle.small_axioms.specs.Readings as read;
 ghost use Rattle.small_axioms.specs.Steps.{judgement_of};
 ghost use Rattle.small_axioms.specs.Tests.{agree, concludes};
 
+use crate::forms::TermForm::{MinusOne, Null, Variable, Written};
 use crate::forms::{Form, TermForm};
 use crate::matching::is_asked;
-use crate::moving::{is_append_post, is_append_pre, is_remove_post, is_remove_pre};
-use crate::parts::{
-    Appended, Family, appended_parts, family_parts, first_part, length_part, node_parts,
-    right_part, second_part,
-};
-use dom_terms::{DataSort, ProgVar, Term, same_data_sort};
-use formula_syntax::Formula;
+use crate::parts::{family_of, first_part, length_part, node_parts, right_part, second_part};
+use dom_terms::{DataSort, ProgVar, same_data_sort};
 use theory_syntax::{Command, Triple};
 
-// whether the triple has these formulas, at the sort
-fn agrees(triple: &Triple, pre: &Form, post: &Form, sort: DataSort) -> bool
+/// Whether the triple has these formulas, at the sort.
+pub(crate) fn agrees(triple: &Triple, pre: &Form, post: &Form, sort: DataSort) -> bool
     ensures { result ≡ agree (nameless (formula_of triple.now.pre))
         (nameless (formula_of triple.now.post)) (data_sort_of triple.now.sort) (asked pre.now)
         (asked post.now) (data_sort_of sort) }
@@ -47,8 +43,7 @@ fn reads(
         (conjunction (asked stays.now)
         (equality (variable (var_of x.now)) (asked_term what.entry))) (data_sort_of sort) }
 {
-    let is = Form::Eq(TermForm::Variable(x), what);
-    let post = Form::And(&*stays, &is);
+    let post = Form::Where(&*stays, Variable(x), what);
     agrees(triple, pre, &post, sort)
 }
 
@@ -60,12 +55,10 @@ pub(crate) fn is_name(triple: &Triple) -> bool
     let Command::Name(x, e) = &triple.command else {
         return false;
     };
-    let parts = node_parts(first_part(&triple.pre), e);
-    let node = Form::Whole(&parts);
-    let at = Form::Eq(TermForm::Written(e), TermForm::Written(parts.number));
-    let pre = Form::And(&node, &at);
-    let name = TermForm::Written(parts.name);
-    reads(triple, &pre, &node, x, name, DataSort::Tree)
+    let node = node_parts(first_part(&triple.pre), e);
+    let stays = Form::Whole(node);
+    let pre = Form::Where(&stays, Written(e), Written(node.number));
+    reads(triple, &pre, &stays, x, Written(node.name), DataSort::Tree)
 }
 
 /// `{(N and E = I)} x := childNodes(E) {(N and x = L)}`, N being `S#I[P]%L`.
@@ -76,35 +69,10 @@ pub(crate) fn is_children(triple: &Triple) -> bool
     let Command::Children(x, e) = &triple.command else {
         return false;
     };
-    let parts = node_parts(first_part(&triple.pre), e);
-    let node = Form::Whole(&parts);
-    let at = Form::Eq(TermForm::Written(e), TermForm::Written(parts.number));
-    let pre = Form::And(&node, &at);
-    let list = TermForm::Written(parts.list);
-    reads(triple, &pre, &node, x, list, DataSort::Tree)
-}
-
-// the same of `(N and E = L)` and of what is asked for of the place, at the sort of trees
-fn reads_list(
-    triple: &Triple,
-    node: &Form,
-    list: &Term,
-    number: &Term,
-    place: &Form,
-    x: &ProgVar,
-    what: TermForm,
-) -> bool
-    ensures { result ≡ agree (nameless (formula_of triple.now.pre))
-        (nameless (formula_of triple.now.post)) (data_sort_of triple.now.sort)
-        (conjunction (conjunction (asked node.now)
-        (equality (plain list.now) (plain number.now))) (asked place.now))
-        (conjunction (asked node.now)
-        (equality (variable (var_of x.now)) (asked_term what.entry))) tree }
-{
-    let at = Form::Eq(TermForm::Written(list), TermForm::Written(number));
-    let found = Form::And(&*node, &at);
-    let pre = Form::And(&found, &*place);
-    reads(triple, &pre, node, x, what, DataSort::Tree)
+    let node = node_parts(first_part(&triple.pre), e);
+    let stays = Form::Whole(node);
+    let pre = Form::Where(&stays, Written(e), Written(node.number));
+    reads(triple, &pre, &stays, x, Written(node.list), DataSort::Tree)
 }
 
 /// `{((N and E = L) and F = G)} x := item(E, F) {(N and x = J)}`, N being
@@ -117,16 +85,23 @@ pub(crate) fn is_item(triple: &Triple) -> bool
         return false;
     };
     let there = first_part(&triple.pre);
-    let held = first_part(there);
-    let parts = family_parts(held, list);
-    let said = second_part(parts.before);
-    let count = length_part(said, list);
-    let family = first_part(parts.before);
-    let before = Form::Counted(family, count);
-    let node = Form::Family(&parts, &before);
-    let behind = Form::Eq(TermForm::Written(place), TermForm::Written(count));
-    let number = TermForm::Written(parts.child.number);
-    reads_list(triple, &node, list, parts.node.list, &behind, x, number)
+    let node = node_parts(first_part(there), list);
+    let parts = family_of(node, list);
+    let count = Written(length_part(second_part(parts.before), list));
+    let before = Form::Counted(first_part(parts.before), count);
+    let beside = Form::With(&before, parts.child);
+    let children = Form::Beside(&beside, parts.rest);
+    let stays = Form::Node(node, &children);
+    let found = Form::Where(&stays, Written(list), Written(node.list));
+    let pre = Form::Where(&found, Written(place), count);
+    reads(
+        triple,
+        &pre,
+        &stays,
+        x,
+        Written(parts.child.number),
+        DataSort::Tree,
+    )
 }
 
 /// `{((N and E = L) and (F <= -1 or G <= F))} x := item(E, F) {(N and x = null)}`, N being
@@ -140,15 +115,16 @@ pub(crate) fn is_item_none(triple: &Triple) -> bool
         return false;
     };
     let there = first_part(&triple.pre);
-    let held = first_part(there);
-    let parts = node_parts(held, list);
-    let said = second_part(parts.children);
-    let count = length_part(said, list);
-    let family = first_part(parts.children);
-    let children = Form::Counted(family, count);
-    let node = Form::Node(&parts, &children);
-    let outside = Form::Outside(place, count);
-    reads_list(triple, &node, list, parts.list, &outside, x, TermForm::Null)
+    let node = node_parts(first_part(there), list);
+    let count = Written(length_part(second_part(node.children), list));
+    let children = Form::Counted(first_part(node.children), count);
+    let stays = Form::Node(node, &children);
+    let found = Form::Where(&stays, Written(list), Written(node.list));
+    let negative = Form::Le(Written(place), MinusOne);
+    let behind = Form::Le(count, Written(place));
+    let outside = Form::Or(&negative, &behind);
+    let pre = Form::And(&found, &outside);
+    reads(triple, &pre, &stays, x, Null, DataSort::Tree)
 }
 
 /// `{(N and E = J)} x := parentNode(E) {(N and x = I)}`, N being
@@ -160,14 +136,21 @@ pub(crate) fn is_parent(triple: &Triple) -> bool
     let Command::Parent(x, e) = &triple.command else {
         return false;
     };
-    let held = first_part(&triple.pre);
-    let parts = family_parts(held, e);
-    let at = Form::Eq(TermForm::Written(e), TermForm::Written(parts.child.number));
-    let number = TermForm::Written(parts.node.number);
+    let node = node_parts(first_part(&triple.pre), e);
+    let parts = family_of(node, e);
     let before = Form::Part(parts.before);
-    let node = Form::Family(&parts, &before);
-    let pre = Form::And(&node, &at);
-    reads(triple, &pre, &node, x, number, DataSort::Tree)
+    let beside = Form::With(&before, parts.child);
+    let children = Form::Beside(&beside, parts.rest);
+    let stays = Form::Node(node, &children);
+    let pre = Form::Where(&stays, Written(e), Written(parts.child.number));
+    reads(
+        triple,
+        &pre,
+        &stays,
+        x,
+        Written(node.number),
+        DataSort::Tree,
+    )
 }
 
 /// `{([N] and E = I)} x := parentNode(E) {([N] and x = null)}`, N being `S#I[P]%L`.
@@ -180,13 +163,11 @@ pub(crate) fn is_parent_none(triple: &Triple) -> bool
         return false;
     };
     let rooted = first_part(&triple.pre);
-    let held = first_part(rooted);
-    let parts = node_parts(held, e);
-    let node = Form::Whole(&parts);
-    let root = Form::Root(&node);
-    let at = Form::Eq(TermForm::Written(e), TermForm::Written(parts.number));
-    let pre = Form::And(&root, &at);
-    reads(triple, &pre, &root, x, TermForm::Null, DataSort::Grove)
+    let node = node_parts(first_part(rooted), e);
+    let whole = Form::Whole(node);
+    let stays = Form::Root(&whole);
+    let pre = Form::Where(&stays, Written(e), Written(node.number));
+    reads(triple, &pre, &stays, x, Null, DataSort::Grove)
 }
 
 /// `{(0g and E = T)} x := createNode(E) {(exists $m . [T#x[0f]%$m])}`.
@@ -197,103 +178,8 @@ pub(crate) fn is_create(triple: &Triple) -> bool
     let Command::Create(x, e) = &triple.command else {
         return false;
     };
-    let equation = second_part(&triple.pre);
-    let name = right_part(equation, e);
+    let name = right_part(second_part(&triple.pre), e);
     let empty = Form::Empty(DataSort::Grove);
-    let named = Form::Eq(TermForm::Written(e), TermForm::Written(name));
-    let pre = Form::And(&empty, &named);
+    let pre = Form::Where(&empty, Written(e), Written(name));
     agrees(triple, &pre, &Form::NewRoot(name, x), DataSort::Grove)
-}
-
-// whether the triple moves a node out of a hole of the sort: N is `S#I[P]%L`, and U is moved
-// `{((((0h -o (K @t N)) @h U) and E = I) and F = J)} .. {(K @t S#I[(P * <T#J[Q]%M>)]%L)}`
-fn moves(
-    triple: &Triple,
-    parts: &Appended,
-    parent: &Term,
-    child: &Term,
-    hole: DataSort,
-    sort: DataSort,
-) -> bool
-    ensures { result ≡ agree (nameless (formula_of triple.now.pre))
-        (nameless (formula_of triple.now.post)) (data_sort_of triple.now.sort)
-        (append_pre hole parts.now parent.now child.now) (append_post parts.now)
-        (data_sort_of sort) }
-{
-    is_append_pre(hole, parts, parent, child, &triple.pre)
-        && is_append_post(parts, &triple.post)
-        && same_data_sort(sort, triple.sort)
-}
-
-// `appendChild(E, F)` where U is `<T#J[Q]%M>`, in any data.
-fn is_append_in_forest(triple: &Triple) -> bool
-    ensures { result ≡ concludes
-        (table.append_in_forest (read.read_append (judgement_of triple.now)))
-        (judgement_of triple.now) }
-{
-    let Command::Append(parent, child) = &triple.command else {
-        return false;
-    };
-    let parts = appended_parts(&triple.pre, parent);
-    moves(triple, &parts, parent, child, DataSort::Forest, triple.sort)
-}
-
-// `appendChild(E, F)` where U is `[T#J[Q]%M]`, in a grove.
-fn is_append_in_grove(triple: &Triple) -> bool
-    ensures { result ≡ concludes
-        (table.append_in_grove (read.read_append (judgement_of triple.now)))
-        (judgement_of triple.now) }
-{
-    let Command::Append(parent, child) = &triple.command else {
-        return false;
-    };
-    let parts = appended_parts(&triple.pre, parent);
-    moves(
-        triple,
-        &parts,
-        parent,
-        child,
-        DataSort::Grove,
-        DataSort::Grove,
-    )
-}
-
-/// `appendChild(E, F)` in one of both readings.
-pub(crate) fn is_append(triple: &Triple) -> bool
-    ensures { result ≡ (concludes
-        (table.append_in_forest (read.read_append (judgement_of triple.now)))
-        (judgement_of triple.now)
-        || concludes (table.append_in_grove (read.read_append (judgement_of triple.now)))
-        (judgement_of triple.now)) }
-{
-    is_append_in_forest(triple) || is_append_in_grove(triple)
-}
-
-// whether the triple removes a node, with the parts that are read off
-fn removes(triple: &Triple, context: &Formula, parts: &Family, parent: &Term, child: &Term) -> bool
-    ensures { result ≡ agree (nameless (formula_of triple.now.pre))
-        (nameless (formula_of triple.now.post)) (data_sort_of triple.now.sort)
-        (remove_pre (nameless (formula_of context.now)) parts.now parent.now child.now)
-        (remove_post (nameless (formula_of context.now)) parts.now) grove }
-{
-    is_remove_pre(context, parts, parent, child, &triple.pre)
-        && is_remove_post(context, parts, &triple.post)
-        && same_data_sort(DataSort::Grove, triple.sort)
-}
-
-/// `{(((K @t S#I[((P * <T#J[Q]%M>) * R)]%L) and E = I) and F = J)} removeChild(E, F)`
-/// `{((K @t S#I[(P * R)]%L) + [T#J[Q]%M])}`.
-pub(crate) fn is_remove(triple: &Triple) -> bool
-    ensures { result ≡ concludes (table.remove_axiom (read.read_remove (judgement_of triple.now)))
-        (judgement_of triple.now) }
-{
-    let Command::Remove(parent, child) = &triple.command else {
-        return false;
-    };
-    let there = first_part(&triple.pre);
-    let filled = first_part(there);
-    let held = second_part(filled);
-    let context = first_part(filled);
-    let parts = family_parts(held, parent);
-    removes(triple, context, &parts, parent, child)
 }

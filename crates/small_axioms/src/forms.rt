@@ -1,6 +1,5 @@
-// The formulas that an axiom asks for, over parts of what is written, and whether a written formula
-// is one.
-use crate::parts::{Family, Node};
+// The formulas that an axiom asks for, over parts of what is written.
+use crate::parts::Node;
 use dom_terms::{DataSort, ProgVar, Term};
 use formula_syntax::Formula;
 
@@ -13,6 +12,8 @@ pub(crate) enum TermForm<'a> {
     Variable(&'a ProgVar),
     /// The null node.
     Null,
+    /// `-1`
+    MinusOne,
 }
 
 /// A formula that is asked for.
@@ -22,22 +23,34 @@ pub(crate) enum Form<'a> {
     Part(&'a Formula),
     /// `(P and Q)`
     And(&'a Form<'a>, &'a Form<'a>),
-    /// `E = F`
-    Eq(TermForm<'a>, TermForm<'a>),
+    /// `(P or Q)`
+    Or(&'a Form<'a>, &'a Form<'a>),
+    /// `E <= F`
+    Le(TermForm<'a>, TermForm<'a>),
+    /// `(P and E = F)`
+    Where(&'a Form<'a>, TermForm<'a>, TermForm<'a>),
     /// `(P and len E)`
-    Counted(&'a Formula, &'a Term),
-    /// `(E <= -1 or F <= E)`
-    Outside(&'a Term, &'a Term),
+    Counted(&'a Formula, TermForm<'a>),
     /// `0f` or `0g`
     Empty(DataSort),
-    /// `S#I[P]%L`, all of it written
-    Whole(&'a Node<'a>),
-    /// `S#I[P]%L`, with other children than those that are written
-    Node(&'a Node<'a>, &'a Form<'a>),
-    /// `S#I[((P * <T#J[Q]%M>) * R)]%L`, with this for P
-    Family(&'a Family<'a>, &'a Form<'a>),
+    /// `S#I[P]%L`
+    Whole(Node<'a>),
+    /// `S#I[P]%L`, with other children than the node's
+    Node(Node<'a>, &'a Form<'a>),
     /// `[P]`
     Root(&'a Form<'a>),
+    /// `(P * <S#I[Q]%L>)`
+    With(&'a Form<'a>, Node<'a>),
+    /// `(P * Q)`
+    Beside(&'a Form<'a>, &'a Formula),
+    /// `(P + Q)`
+    Plus(&'a Form<'a>, &'a Form<'a>),
+    /// `(K @t P)`
+    Filled(&'a Formula, &'a Form<'a>),
+    /// `(0h -o P)`
+    Left(DataSort, &'a Form<'a>),
+    /// `(P @h U)`, U being `<S#I[Q]%L>`, or `[S#I[Q]%L]` in a grove
+    Taken(DataSort, &'a Form<'a>, Node<'a>),
     /// `(exists $m . [T#x[0f]%$m])`
     NewRoot(&'a Term, &'a ProgVar),
 }

@@ -5,11 +5,9 @@
 
 mod axioms;
 mod forms;
-mod insert_axioms;
-mod inserting;
 mod instances;
 mod matching;
-mod moving;
+mod moves;
 mod names;
 mod new_roots;
 mod occurring;

@@ -83,18 +83,16 @@ pub(crate) fn right_part<'a>(p: &'a Formula, otherwise: &'a Term) -> &'a Term
     }
 }
 
-/// A node among whose children another one stands: `S#I[((P * <T#J[Q]%M>) * R)]%L`.
+/// The children `((P * <T#J[Q]%M>) * R)` of a node, with one among the others.
 #[derive(Clone, Copy)]
 pub(crate) struct Family<'a> {
-    pub(crate) node: Node<'a>,
     pub(crate) before: &'a Formula,
     pub(crate) child: Node<'a>,
     pub(crate) rest: &'a Formula,
 }
 
-// the parts of such a node, from what is known of the node itself
-fn family_of<'a>(node: Node<'a>, otherwise: &'a Term) -> Family<'a>
-    ensures node { whole_node result.node ≡ whole_node node.entry }
+// the parts of the children of a node
+pub(crate) fn family_of<'a>(node: Node<'a>, otherwise: &'a Term) -> Family<'a>
     ensures before { nameless (formula_of result.before.now)
         ≡ parts.before_child (whole_node node.entry) }
     ensures child { whole_node result.child
@@ -103,32 +101,12 @@ fn family_of<'a>(node: Node<'a>, otherwise: &'a Term) -> Family<'a>
         ≡ parts.second_part (parts.children_part (whole_node node.entry)) }
 {
     let beside = first_part(node.children);
-    let before = first_part(beside);
     let one = second_part(beside);
-    let inside = first_part(one);
-    let child = node_parts(inside, otherwise);
-    let rest = second_part(node.children);
     Family {
-        node,
-        before,
-        child,
-        rest,
+        before: first_part(beside),
+        child: node_parts(first_part(one), otherwise),
+        rest: second_part(node.children),
     }
-}
-
-// the parts of such a node
-pub(crate) fn family_parts<'a>(p: &'a Formula, otherwise: &'a Term) -> Family<'a>
-    ensures node { whole_node result.node
-        ≡ parts.node_at (plain otherwise.now) (nameless (formula_of p.now)) }
-    ensures before { nameless (formula_of result.before.now)
-        ≡ parts.before_child (nameless (formula_of p.now)) }
-    ensures child { whole_node result.child
-        ≡ parts.node_at (plain otherwise.now) (parts.child_at (nameless (formula_of p.now))) }
-    ensures rest { nameless (formula_of result.rest.now)
-        ≡ parts.second_part (parts.children_part (nameless (formula_of p.now))) }
-{
-    let node = node_parts(p, otherwise);
-    family_of(node, otherwise)
 }
 
 /// What is asked of a node that is moved: the context, the node that takes it, and itself.
@@ -151,51 +129,11 @@ pub(crate) fn appended_parts<'a>(p: &'a Formula, otherwise: &'a Term) -> Appende
 {
     let there = first_part(p);
     let moved = first_part(there);
-    let hollow = first_part(moved);
-    let left = second_part(hollow);
-    let context = first_part(left);
-    let held = second_part(left);
-    let taker = node_parts(held, otherwise);
+    let left = second_part(first_part(moved));
     let alone = second_part(moved);
-    let inside = first_part(alone);
-    let mover = node_parts(inside, otherwise);
     Appended {
-        context,
-        taker,
-        mover,
-    }
-}
-
-/// What is asked of a node that is put before another: the context, the node that takes it with the
-/// other one among its children, and itself.
-#[derive(Clone, Copy)]
-pub(crate) struct Inserted<'a> {
-    pub(crate) context: &'a Formula,
-    pub(crate) family: Family<'a>,
-    pub(crate) mover: Node<'a>,
-}
-
-// its parts, in what holds before but for the reference
-pub(crate) fn inserted_parts<'a>(p: &'a Formula, otherwise: &'a Term) -> Inserted<'a>
-    ensures context { nameless (formula_of result.context.now)
-        ≡ parts.first_part (parts.left_part (nameless (formula_of p.now))) }
-    ensures node { whole_node result.family.node ≡ parts.node_at (plain otherwise.now)
-        (parts.second_part (parts.left_part (nameless (formula_of p.now)))) }
-    ensures before { nameless (formula_of result.family.before.now) ≡ parts.before_child
-        (parts.second_part (parts.left_part (nameless (formula_of p.now)))) }
-    ensures next { whole_node result.family.child ≡ parts.node_at (plain otherwise.now)
-        (parts.child_at (parts.second_part (parts.left_part (nameless (formula_of p.now))))) }
-    ensures rest { nameless (formula_of result.family.rest.now)
-        ≡ parts.second_part (parts.children_part
-        (parts.second_part (parts.left_part (nameless (formula_of p.now))))) }
-    ensures mover { whole_node result.mover
-        ≡ parts.node_at (plain otherwise.now) (parts.mover_part (nameless (formula_of p.now))) }
-{
-    let moved = appended_parts(p, otherwise);
-    let family = family_of(moved.taker, otherwise);
-    Inserted {
-        context: moved.context,
-        family,
-        mover: moved.mover,
+        context: first_part(left),
+        taker: node_parts(second_part(left), otherwise),
+        mover: node_parts(first_part(alone), otherwise),
     }
 }

@@ -16,10 +16,9 @@ ghost use Rattle.small_axioms.specs.Tests as tests;
 ghost use Rattle.small_axioms.specs.Tests.{creates_one_of, verdict_by};
 
 use crate::axioms::{
-    is_append, is_children, is_create, is_item, is_item_none, is_name, is_parent, is_parent_none,
-    is_remove,
+    is_children, is_create, is_item, is_item_none, is_name, is_parent, is_parent_none,
 };
-use crate::insert_axioms::{is_insert_before, is_insert_last};
+use crate::moves::{is_append, is_insert_before, is_insert_last, is_remove};
 use crate::names::Axiom;
 use crate::occurring::{sets_in, term_mentions};
 use crate::parts::{first_part, right_part, second_part};

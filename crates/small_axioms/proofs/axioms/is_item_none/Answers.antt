@@ -1,33 +1,43 @@
 -- The triple has the formulas of the line that is read off.
-use Rattle.std.proofs.Common.{◌∙◌, ap}
-use Rattle.model_formulas.specs.Nameless.{nameless}
-use Rattle.model_formulas.proofs.Nameless.{term-variable}
-use Rattle.dom_terms.specs.Sorts.{data_sort_of}
-use Rattle.dom_terms.specs.Terms.{prog_var_of, term_of}
-use Rattle.formula_syntax.specs.Formulas.{formula_of}
-use Rattle.theory_syntax.specs.Commands.{command_of}
-use Rattle.small_axioms.specs.Forms.{plain}
-use Rattle.small_axioms.specs.Parts.{first_part, length_part}
-use Rattle.small_axioms.proofs.Fits.{item-none-fits}
+use Rattle.std.proofs.Common.{◌∙◌, ap, ap₂, Bool, negsuc}
+use Rattle.model_shapes.specs.Sorts.{tree}
+use Rattle.model_shapes.specs.Values.{int, null}
+use Rattle.model_terms.specs.Terms.{Term, literal, variable}
+use Rattle.model_formulas.specs.Formulas.{Formula, at_most, conjunction, disjunction, equality, length_is}
+use Rattle.model_commands.specs.Commands.{list_item}
+use Rattle.dom_terms.specs.Terms.{prog_var_of, var_of}
+use Rattle.dom_terms.specs.declared.terms.ProgVar.{ProgVar}
+use Rattle.theory_syntax.specs.declared.judgements.Triple.{Triple}
+use Rattle.rule_table.specs.Axioms.{item_none_axiom}
+use Rattle.small_axioms.specs.Forms.{plain, whole_node}
+use Rattle.small_axioms.specs.Parts.{first_part, second_part, children_part, length_part, list_part, node_at}
+use Rattle.small_axioms.specs.Readings.{read_item_none}
+use Rattle.small_axioms.proofs.Fits.{agrees_with, at-command, with_children}
 use Rattle.small_axioms.proofs.Seen.{item-seen}
 use Rattle.small_axioms.proofs.axioms.is_item_none.Goals as goal
 
+-- what is tested over the children, their number and the node
+abbrev tested : Triple → ProgVar → Term → Term → Formula → Term → Formula → Bool
+tested t x e g v m n =
+    agrees_with t
+    (conjunction (conjunction (with_children e n (conjunction v (length_is m)))
+    (equality e (list_part e n)))
+    (disjunction (at_most g (literal (int (negsuc 0)))) (at_most m g)))
+    (conjunction (with_children e n (conjunction v (length_is m)))
+    (equality (variable (var_of x)) (literal null))) tree
+
 pub returns : goal.returns
 returns c =
-    item-none-fits (nameless (formula_of c.args.triple.now.pre))
-    (nameless (formula_of c.args.triple.now.post)) (data_sort_of c.args.triple.now.sort)
-    (prog_var_of c.in-Item.x) (term_of c.in-Item.list) (plain c.in-Item.list)
-    (term-variable (term_of c.in-Item.list)) c.reads_list.result
-    (nameless (formula_of c.first_part-held.result.now))
-    (c.first_part-held.ensures ∙ ap first_part c.first_part-there.ensures)
-    (plain c.node_parts-parts.result.name.now) (plain c.node_parts-parts.result.number.now)
-    (plain c.node_parts-parts.result.list.now)
-    (nameless (formula_of c.node_parts-parts.result.children.now)) c.node_parts-parts.ensures
-    (command_of c.args.triple.now.command) (term_of c.in-Item.place) (plain c.in-Item.place)
-    (plain c.length_part-count.result.now) (nameless (formula_of c.first_part-family.result.now))
-    (term-variable (term_of c.in-Item.place))
-    (item-seen c.args.triple.now.command c.in-Item.x c.in-Item.list c.in-Item.place c.in-Item.is)
-    c.first_part-family.ensures
-    (c.length_part-count.ensures
-    ∙ ap (length_part (plain c.in-Item.list)) c.second_part-said.ensures)
-    c.reads_list.ensures
+    let t = c.args.triple.now in
+    let x = c.in-Item.x in
+    let e = plain c.in-Item.list in
+    let g = plain c.in-Item.place in
+    at-command t (λ j. item_none_axiom (read_item_none j)) (list_item (prog_var_of x) e g)
+    c.reads.result (item-seen t.command x c.in-Item.list c.in-Item.place c.in-Item.is)
+    (c.reads.ensures
+    ∙ (ap₂ (λ v m. tested t x e g v m (whole_node c.node_parts-node.result))
+    c.first_part-2.ensures (c.length_part.ensures ∙ ap (length_part e) c.second_part.ensures)
+    ∙ ap (λ n. tested t x e g (first_part (children_part n))
+    (length_part e (second_part (children_part n))) n)
+    (c.node_parts-node.ensures
+    ∙ ap (node_at e) (c.first_part.ensures ∙ ap first_part c.first_part-there.ensures))))

@@ -6,10 +6,10 @@ use Rattle.small_axioms.proofs.parts.family_of.Goals as goal
 
 pub returns-clause-before : goal.returns-clause-before
 returns-clause-before c =
-    c.first_part-before.ensures ∙ ap first_part c.first_part-beside.ensures
+    c.first_part.ensures ∙ ap first_part c.first_part-beside.ensures
 
 pub returns-clause-child : goal.returns-clause-child
 returns-clause-child c =
-    c.node_parts-child.ensures
-    ∙ ap (node_at (plain c.args.otherwise.now)) (c.first_part-inside.ensures
+    c.node_parts.ensures
+    ∙ ap (node_at (plain c.args.otherwise.now)) (c.first_part-2.ensures
     ∙ ap first_part (c.second_part-one.ensures ∙ ap second_part c.first_part-beside.ensures))
