@@ -1,3 +1,4 @@
+pub mod Known
 pub mod Refusing
 pub mod Rows
 pub mod Sound

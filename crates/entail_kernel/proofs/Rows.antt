@@ -1,5 +1,5 @@
 -- The formulas of a step, and of what it cites, have rows where those of its parts do.
-use Rattle.std.proofs.Common.{◌≡◌, ◌⊎◌, ℕ, sym, subst, List, ◌∷◌, Some, Result, IfOk}
+use Rattle.std.proofs.Common.{◌≡◌, ◌⊎◌, ℕ, sym, subst, List, ◌∷◌, Some}
 use Rattle.model_commands.specs.Theories.{Judgement, Step, nameless_judgement}
 use Rattle.rule_table.specs.Accepted.{cited}
 use Rattle.dom_terms.specs.declared.terms.Term.{Term}
@@ -27,11 +27,10 @@ module _ (t : Table) (earlier : List Step) (name ns is : List ℕ) (ts : List Te
   HaveRows reason judgement v = v ≡ Instance
       → StepHasRows t earlier (reason_of reason) (nameless_judgement (judgement_of judgement))
 
-  pub rows-of-step : {E : Type 0} (reason : reasons.Reason) (judgement : written.Judgement)
+  pub rows-of-step : (reason : reasons.Reason) (judgement : written.Judgement)
       → reason ≡ r.Rule name ns ts → judgement ≡ j.Entails e → is ≡ ns
-      → (result : Result Verdict E) → IfOk result (CitedHaveRows is)
-      → IfOk result (HaveRows reason judgement)
-  rows-of-step reason judgement a b c result h =
-      subst (λ z. IfOk result (HaveRows z judgement)) (sym a)
-      (subst (λ z. IfOk result (HaveRows (r.Rule name ns ts) z)) (sym b)
-      (subst (λ z. IfOk result (CitedHaveRows z)) c h))
+      → (v : Verdict) → CitedHaveRows is v → HaveRows reason judgement v
+  rows-of-step reason judgement a b c v h =
+      subst (λ z. HaveRows z judgement v) (sym a)
+      (subst (λ z. HaveRows (r.Rule name ns ts) z v) (sym b)
+      (subst (λ z. CitedHaveRows z v) c h))

@@ -1,2 +1,3 @@
 pub mod Citing
+pub mod Known
 pub mod Steps

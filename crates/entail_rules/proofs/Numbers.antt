@@ -1,10 +1,11 @@
 -- Numbers that stand for what is written: they keep their meaning ts the table grows, and what they
 -- stand for is the step.
-use Rattle.std.proofs.Common.{◌≡◌, ◌∙◌, ℕ, refl, sym, ap, List, [], ◌∷◌, ◌++◌, map, arith, ◌+◌, ◌<◌, length, take, get_or, subst}
+use Rattle.std.proofs.Common.{◌≡◌, ◌∙◌, ℕ, refl, sym, ap, List, [], ◌∷◌, ◌++◌, map, arith, ◌+◌, ◌<◌, length, take, get_or, subst, Option, Some, None}
 use Rattle.std.proofs.lemmas.List.{map-append, take_more}
 use Rattle.model_terms.specs.Terms.{Term, literal}
 use Rattle.model_shapes.specs.Values.{null}
 use Rattle.model_formulas.specs.Formulas.{Formula, truth}
+use Rattle.model_commands.specs.Theories.{Judgement, entails, triple}
 use Rattle.dom_terms.specs.Terms.{term_of}
 use Rattle.dom_terms.specs.declared.terms.Term as terms
 use Rattle.formula_syntax.specs.declared.entailments.Entailment.{Entailment}
@@ -20,7 +21,7 @@ use Rattle.entail_rules.specs.declared.cited.Cited.{Cited}
 use Rattle.entail_rules.specs.declared.cited.Cited.TheVariants as c
 use Rattle.entail_rules.specs.declared.numbering.Numbers.{Numbers}
 use Rattle.entail_rules.specs.Judged.{judged, all_cited}
-use Rattle.entail_rules.specs.Numbers.{AllHaveRows, AllStandFor, AreNumbers, CitedStand, EntailmentStands, JudgementHasRows}
+use Rattle.entail_rules.specs.Numbers.{AllHaveRows, AllStandFor, AreNumbers, CitedKnown, CitedStand, EntailmentStands, IsKnown, JudgementHasRows, JudgementStands}
 
 -- TABLES THAT GROW
 module _ (t u : Table) (k : KeepsAll t u) where
@@ -42,20 +43,38 @@ module _ (t u : Table) (k : KeepsAll t u) where
   terms-kept (i ∷ is) [] h = absurd h
   terms-kept (i ∷ is) (a ∷ ts) h = (term-kept i a h.0, terms-kept is ts h.1)
 
-  pub entailment-kept : (i : Numbered) (e : Entailment) → EntailmentStands t i e
-      → EntailmentStands u i e
-  entailment-kept i e h = record {
-    left = stands-kept _ _ h.left;
-    right = stands-kept _ _ h.right;
+  pub judgement-kept : (i : Numbered) (j : Judgement) → JudgementStands t i j
+      → JudgementStands u i j
+  judgement-kept i (entails p q s) h = record {
+    left = stands-kept i.left p h.left;
+    right = stands-kept i.right q h.right;
     sort = h.sort;
   }
+  judgement-kept i (triple p c q d) h = absurd h
+
+  pub entailment-kept : (i : Numbered) (e : Entailment) → EntailmentStands t i e
+      → EntailmentStands u i e
+  entailment-kept i e h = judgement-kept i (judged e) h
+
+  -- where they are known
+  pub known-kept : (o : Option Numbered) (j : Judgement) → IsKnown t o j → IsKnown u o j
+  known-kept None j h = tt
+  known-kept (Some i) j h = judgement-kept i j h
+
+  pub cited-known : (cited : Cited) → CitedKnown t cited → CitedKnown u cited
+  cited-known c.Nothing h = tt
+  cited-known (c.One a) h = known-kept a.numbers (judged a.entailment.now) h
+  cited-known (c.Two a b) h = (
+    known-kept a.numbers (judged a.entailment.now) h.0,
+    known-kept b.numbers (judged b.entailment.now) h.1,
+  )
 
   pub cited-kept : (ns : numbers.Cited) (cited : Cited) → CitedStand t ns cited
       → CitedStand u ns cited
   cited-kept n.Nothing c.Nothing h = tt
-  cited-kept (n.One i) (c.One a) h = entailment-kept i a.now h
+  cited-kept (n.One i) (c.One a) h = entailment-kept i a.entailment.now h
   cited-kept (n.Two i j) (c.Two a b) h =
-      (entailment-kept i a.now h.0, entailment-kept j b.now h.1)
+      (entailment-kept i a.entailment.now h.0, entailment-kept j b.entailment.now h.1)
   cited-kept ns cited h = absurd h
 
 -- one more
@@ -93,10 +112,12 @@ module _ (t : Table) where
   pub cited-are : (ns : numbers.Cited) (cited : Cited) → CitedStand t ns cited
       → walks.all_cited t ns ≡ all_cited cited
   cited-are n.Nothing c.Nothing h = refl
-  cited-are (n.One i) (c.One a) h = ap (λ j. j ∷ []) (judgement-is i a.now h)
+  cited-are (n.One i) (c.One a) h = ap (λ j. j ∷ []) (judgement-is i a.entailment.now h)
   cited-are (n.Two i j) (c.Two a b) h =
-      let d : walks.judged_at t i ≡ judged a.now = judgement-is i a.now h.0 in
-      let e : walks.judged_at t j ≡ judged b.now = judgement-is j b.now h.1 in
+      let d : walks.judged_at t i ≡ judged a.entailment.now =
+      judgement-is i a.entailment.now h.0 in
+      let e : walks.judged_at t j ≡ judged b.entailment.now =
+      judgement-is j b.entailment.now h.1 in
       cc (d, e)
   cited-are ns cited h = absurd h
 
@@ -108,9 +129,9 @@ module _ (t : Table) where
   cited-rows : (ns : numbers.Cited) (cited : Cited) → CitedStand t ns cited
       → AllHaveRows t (all_cited cited)
   cited-rows n.Nothing c.Nothing h = tt
-  cited-rows (n.One i) (c.One a) h = (entailment-rows i a.now h, tt)
+  cited-rows (n.One i) (c.One a) h = (entailment-rows i a.entailment.now h, tt)
   cited-rows (n.Two i j) (c.Two a b) h =
-      (entailment-rows i a.now h.0, (entailment-rows j b.now h.1, tt))
+      (entailment-rows i a.entailment.now h.0, (entailment-rows j b.entailment.now h.1, tt))
   cited-rows ns cited h = absurd h
 
   pub numbers-rows : (ns : Numbers) (ts : List Term) (cited : Cited) (e : Entailment)

@@ -15,5 +15,5 @@ judged e = entails (nameless (formula_of e.left)) (nameless (formula_of e.right)
 -- the cited ones
 abbrev pub all_cited : Cited → List Judgement
 all_cited c.Nothing = []
-all_cited (c.One a) = judged a.now ∷ []
-all_cited (c.Two a b) = judged a.now ∷ judged b.now ∷ []
+all_cited (c.One a) = judged a.entailment.now ∷ []
+all_cited (c.Two a b) = judged a.entailment.now ∷ judged b.entailment.now ∷ []

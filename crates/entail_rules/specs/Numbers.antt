@@ -3,9 +3,9 @@
 use Rattle.std.specs.Prelude.{◌≡◌, ℕ, List, [], ◌∷◌, length, Option, Some, None}
 use Rattle.model_terms.specs.Terms.{Term}
 use Rattle.model_formulas.specs.Formulas.{Formula}
-use Rattle.model_formulas.specs.Nameless.{nameless}
 use Rattle.model_commands.specs.Theories.{Judgement, entails, triple}
-use Rattle.formula_syntax.specs.Formulas.{formula_of}
+use Rattle.model_shapes.specs.Sorts.{Sort}
+use Rattle.dom_terms.specs.Sorts.{sort_of}
 use Rattle.formula_syntax.specs.declared.entailments.Entailment.{Entailment}
 use Rattle.formula_table.specs.Forms.{forms_at}
 use Rattle.formula_table.specs.Interning.{IsTerm, StandsFor}
@@ -24,17 +24,42 @@ AllStandFor t [] [] = Unit
 AllStandFor t (i ∷ is) (a ∷ ts) = IsTerm t i a × AllStandFor t is ts
 AllStandFor t is ts = ⊥
 
--- they stand for the formulas of an entailment
-pub record EntailmentStands (t : Table) (n : Numbered) (e : Entailment) : Type 0 where
-  pub left : StandsFor t n.left (nameless (formula_of e.left))
-  pub right : StandsFor t n.right (nameless (formula_of e.right))
-  pub sort : n.sort ≡ e.sort
+-- they stand for two formulas at a sort
+pub record BothStand (t : Table) (n : Numbered) (p q : Formula) (s : Sort) : Type 0 where
+  pub left : StandsFor t n.left p
+  pub right : StandsFor t n.right q
+  pub sort : sort_of n.sort ≡ s
+
+-- for the formulas of a judgement that is an entailment
+abbrev pub JudgementStands : Table → Numbered → Judgement → Type 0
+JudgementStands t n (entails p q s) = BothStand t n p q s
+JudgementStands t n (triple p c q d) = ⊥
+
+abbrev pub EntailmentStands : Table → Numbered → Entailment → Type 0
+EntailmentStands t n e = JudgementStands t n (judged e)
+
+-- they do where they are known
+abbrev pub IsKnown : Table → Option Numbered → Judgement → Type 0
+IsKnown t None j = Unit
+IsKnown t (Some n) j = JudgementStands t n j
+
+-- those of cited ones do
+abbrev pub CitedKnown : Table → Cited → Type 0
+CitedKnown t c.Nothing = Unit
+CitedKnown t (c.One a) = IsKnown t a.numbers (judged a.entailment.now)
+CitedKnown t (c.Two a b) = IsKnown t a.numbers (judged a.entailment.now)
+    × IsKnown t b.numbers (judged b.entailment.now)
+
+abbrev pub PremisesKnown : Table → Option Cited → Type 0
+PremisesKnown t None = Unit
+PremisesKnown t (Some cited) = CitedKnown t cited
 
 -- for those of cited ones
 abbrev pub CitedStand : Table → numbers.Cited → Cited → Type 0
 CitedStand t n.Nothing c.Nothing = Unit
-CitedStand t (n.One i) (c.One a) = EntailmentStands t i a.now
-CitedStand t (n.Two i j) (c.Two a b) = EntailmentStands t i a.now × EntailmentStands t j b.now
+CitedStand t (n.One i) (c.One a) = EntailmentStands t i a.entailment.now
+CitedStand t (n.Two i j) (c.Two a b) =
+    EntailmentStands t i a.entailment.now × EntailmentStands t j b.entailment.now
 CitedStand t ns cited = ⊥
 
 -- for what is written at a step

@@ -8,6 +8,7 @@ mod cited;
 mod matching;
 mod numbering;
 
-pub use cited::Cited;
+pub use cited::{Cited, Premise, StepVerdict};
 pub use matching::{matches, matches_in, verdict_on};
+pub use row_walks::Numbered;
 pub use rule_rows::{EntailRule, rule_of};

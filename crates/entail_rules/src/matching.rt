@@ -3,16 +3,19 @@ ghost use Rattle.std.specs.Prelude.{◌≡◌, ◌⊎◌, ◌∷◌, Err, IfOk, 
 ghost use Rattle.model_commands.specs.Theories.{Judgement};
 ghost use Rattle.rule_table.specs.Table.{entailments};
 ghost use Rattle.rule_table.specs.Verdicts.{IsVerdict, readings_in};
+ghost use Rattle.dom_terms.specs.Terms.{term_of};
 ghost use Rattle.formula_table.specs.Interning.{KeepsAll};
 ghost use Rattle.formula_table.specs.declared.faults.TableFault.TheVariants as f;
 ghost use Rattle.row_patterns.specs.Verdicts.{verdict_in};
 ghost use Rattle.rule_rows.specs.Names.{name_of, computed_name};
 ghost use Rattle.entail_rules.specs.Judged.{judged, all_cited};
-ghost use Rattle.entail_rules.specs.Numbers.{AllHaveRows, IsFull, StepHasRows};
+ghost use Rattle.formula_table.specs.declared.tables.Table.{Table as ATable};
+ghost use Rattle.entail_rules.specs.Numbers.{AllHaveRows, AreNumbers, CitedKnown, IsFull, IsKnown};
+ghost use Rattle.entail_rules.specs.Numbers.{PremisesKnown, StepHasRows};
 ghost use Rattle.entail_rules.specs.Premises.{Cites, IsSmallEntailment, IsWellSorted, unfollowed, written_with};
 
-use crate::cited::Cited;
-use crate::numbering::number_step;
+use crate::cited::{Cited, Premise, StepVerdict};
+use crate::numbering::{Numbers, number_step};
 use computed_rules::{concat, distinct, eq_subst, linear};
 use dom_terms::{OutOfMemory, Term, Terms, Verdict};
 use formula_syntax::Entailment;
@@ -72,26 +75,24 @@ fn by_computing(
     }
 }
 
-// The verdict on a step that cites these entailments. The table has a row for each formula then.
-fn verdict_citing(
+// The verdict on a step that cites these entailments, by the numbers of what is written.
+fn verdict_numbered(
     alloc: Global,
-    table: &mut Table,
+    table: &Table,
     rule: EntailRule,
     arguments: &[Term],
     cited: Cited,
     conclusion: &Entailment,
-) -> Result<Verdict, TableFault>
+    numbers: &Numbers,
+) -> Result<Verdict, OutOfMemory>
     requires small { IsSmallEntailment conclusion.now }
     requires sorted { IsWellSorted conclusion.now }
-    ensures exact { IfOk result (λ v. IsVerdict (readings_in entailments (name_of rule))
+    requires numbers { AreNumbers table.now numbers.now (map term_of arguments.now) cited
+        conclusion.now }
+    ensures { IfOk result (λ v. IsVerdict (readings_in entailments (name_of rule))
         (written_with arguments.now (Some (all_cited cited.entry)) conclusion.now)
         (verdict_in v)) }
-    ensures rows { IfOk result (λ v. AllHaveRows table.new
-        (judged conclusion.now ∷ all_cited cited.entry)) }
-    ensures kept { KeepsAll table.old table.new }
-    ensures full { result ≡ Err f.Full → IsFull table.new }
 {
-    let numbers = number_step(alloc, table, arguments, cited, conclusion)?;
     match way_of(rule) {
         Way::Matched(rows) => {
             let step = Step {
@@ -101,8 +102,37 @@ fn verdict_citing(
             };
             Ok(verdict_by(table, rows, step))
         }
-        Way::Computed(rule) => Ok(by_computing(alloc, rule, arguments, cited, conclusion)?),
+        Way::Computed(rule) => by_computing(alloc, rule, arguments, cited, conclusion),
     }
+}
+
+// The verdict on a step that cites these entailments. The table has a row for each formula then.
+fn verdict_citing(
+    alloc: Global,
+    table: &mut Table,
+    rule: EntailRule,
+    arguments: &[Term],
+    cited: Cited,
+    conclusion: &Entailment,
+) -> Result<StepVerdict, TableFault>
+    requires small { IsSmallEntailment conclusion.now }
+    requires sorted { IsWellSorted conclusion.now }
+    requires known { CitedKnown table.old cited }
+    ensures exact { IfOk result (λ v. IsVerdict (readings_in entailments (name_of rule))
+        (written_with arguments.now (Some (all_cited cited.entry)) conclusion.now)
+        (verdict_in v.verdict)) }
+    ensures rows { IfOk result (λ v. AllHaveRows table.new
+        (judged conclusion.now ∷ all_cited cited.entry)) }
+    ensures numbers { IfOk result (λ v. IsKnown table.new v.numbers (judged conclusion.now)) }
+    ensures kept { KeepsAll table.old table.new }
+    ensures full { result ≡ Err f.Full → IsFull table.new }
+{
+    let numbers = number_step(alloc, table, arguments, cited, conclusion)?;
+    let verdict = verdict_numbered(alloc, table, rule, arguments, cited, conclusion, &numbers)?;
+    Ok(StepVerdict {
+        verdict,
+        numbers: Some(numbers.conclusion),
+    })
 }
 
 // The verdict on a step, where the table has room for the formulas.
@@ -113,14 +143,16 @@ fn verdict_within(
     arguments: &[Term],
     cited: Option<Cited>,
     conclusion: &Entailment,
-) -> Result<Verdict, TableFault>
+) -> Result<StepVerdict, TableFault>
     requires small { IsSmallEntailment conclusion.now }
     requires sorted { IsWellSorted conclusion.now }
+    requires known { PremisesKnown table.old cited }
     ensures exact { IfOk result (λ v. (premises : Option (List Judgement))
         → Cites cited.entry premises → IsVerdict (readings_in entailments (name_of rule))
-        (written_with arguments.now premises conclusion.now) (verdict_in v)) }
-    ensures rows { IfOk result (λ v. v ≡ Verdict.Instance
+        (written_with arguments.now premises conclusion.now) (verdict_in v.verdict)) }
+    ensures rows { IfOk result (λ v. v.verdict ≡ Verdict.Instance
         → StepHasRows table.new cited.entry conclusion.now) }
+    ensures numbers { IfOk result (λ v. IsKnown table.new v.numbers (judged conclusion.now)) }
     ensures kept { KeepsAll table.old table.new }
     ensures full { result ≡ Err f.Full → IsFull table.new }
 {
@@ -128,8 +160,39 @@ fn verdict_within(
         Some(cited) => verdict_citing(alloc, table, rule, arguments, cited, conclusion),
         None => {
             let cited = Cited::Nothing;
-            let verdict = verdict_citing(alloc, table, rule, arguments, cited, conclusion)?;
-            Ok(without_premises(verdict))
+            let found = verdict_citing(alloc, table, rule, arguments, cited, conclusion)?;
+            Ok(StepVerdict {
+                verdict: without_premises(found.verdict),
+                numbers: found.numbers,
+            })
+        }
+    }
+}
+
+// The entailment, with no known numbers.
+fn unnumbered(entailment: &Entailment) -> Premise<'_>
+    ensures numbers { result.numbers ≡ None }
+    ensures same { result.entailment.now ≡ entailment.now }
+{
+    Premise {
+        entailment,
+        numbers: None,
+    }
+}
+
+// The same entailments, with no known numbers.
+fn all_unnumbered<'a>(cited: Option<Cited<'a>>) -> Option<Cited<'a>>
+    ensures same { (premises : Option (List Judgement)) → Cites cited.entry premises
+        → Cites result premises }
+    ensures unknown { (t : ATable) → PremisesKnown t result }
+{
+    match cited? {
+        Cited::Nothing => Some(Cited::Nothing),
+        Cited::One(a) => Some(Cited::One(unnumbered(a.entailment))),
+        Cited::Two(a, b) => {
+            let first = unnumbered(a.entailment);
+            let second = unnumbered(b.entailment);
+            Some(Cited::Two(first, second))
         }
     }
 }
@@ -141,25 +204,31 @@ fn verdict_alone(
     arguments: &[Term],
     cited: Option<Cited>,
     conclusion: &Entailment,
-) -> Result<Verdict, OutOfMemory>
+) -> Result<StepVerdict, OutOfMemory>
     requires small { IsSmallEntailment conclusion.now }
     requires sorted { IsWellSorted conclusion.now }
-    ensures { IfOk result (λ v. (premises : Option (List Judgement)) → Cites cited.entry premises
-        → IsVerdict (readings_in entailments (name_of rule))
-        (written_with arguments.now premises conclusion.now) (verdict_in v)) }
+    ensures exact { IfOk result (λ v. (premises : Option (List Judgement))
+        → Cites cited.entry premises → IsVerdict (readings_in entailments (name_of rule))
+        (written_with arguments.now premises conclusion.now) (verdict_in v.verdict)) }
+    ensures numbers { IfOk result (λ v. v.numbers ≡ None) }
 {
     let mut table = Table::with_most(alloc, u32::MAX);
+    let cited = all_unnumbered(cited);
     match verdict_within(alloc, &mut table, rule, arguments, cited, conclusion) {
-        Ok(verdict) => Ok(verdict),
+        Ok(found) => Ok(StepVerdict {
+            verdict: found.verdict,
+            numbers: None,
+        }),
         Err(_) => Err(OutOfMemory),
     }
 }
 
 /// The verdict on a step by the rule, with these arguments and this conclusion, where these
 /// entailments are cited. None stands for cited judgements that are no entailments, for more than
-/// two, and for a citation of no step: they are the premises of no rule. The table keeps what each
-/// number stands for, and has a row for each formula of an instance, unless it has the most rows
-/// that it may have. OutOfMemory comes only where memory is refused.
+/// two, and for a citation of no step: they are the premises of no rule. The numbers that are known
+/// of the cited ones are those of the table, and so are those that are answered of the conclusion.
+/// The table keeps what each number stands for, and has a row for each formula of an instance,
+/// unless it has the most rows that it may have. OutOfMemory comes only where memory is refused.
 pub fn verdict_on(
     alloc: Global,
     table: &mut Table,
@@ -167,18 +236,20 @@ pub fn verdict_on(
     arguments: &[Term],
     cited: Option<Cited>,
     conclusion: &Entailment,
-) -> Result<Verdict, OutOfMemory>
+) -> Result<StepVerdict, OutOfMemory>
     requires small { IsSmallEntailment conclusion.now }
     requires sorted { IsWellSorted conclusion.now }
+    requires known { PremisesKnown table.old cited }
     ensures exact { IfOk result (λ v. (premises : Option (List Judgement))
         → Cites cited.entry premises → IsVerdict (readings_in entailments (name_of rule))
-        (written_with arguments.now premises conclusion.now) (verdict_in v)) }
-    ensures rows { IfOk result (λ v. v ≡ Verdict.Instance
+        (written_with arguments.now premises conclusion.now) (verdict_in v.verdict)) }
+    ensures rows { IfOk result (λ v. v.verdict ≡ Verdict.Instance
         → StepHasRows table.new cited.entry conclusion.now ⊎ IsFull table.new) }
+    ensures numbers { IfOk result (λ v. IsKnown table.new v.numbers (judged conclusion.now)) }
     ensures kept { KeepsAll table.old table.new }
 {
     match verdict_within(alloc, table, rule, arguments, cited, conclusion) {
-        Ok(verdict) => Ok(verdict),
+        Ok(found) => Ok(found),
         Err(TableFault::Full) => verdict_alone(alloc, rule, arguments, cited, conclusion),
         Err(TableFault::OutOfMemory) => Err(OutOfMemory),
     }
@@ -186,12 +257,17 @@ pub fn verdict_on(
 
 // The premises, where they are two at most.
 fn cited_in<'a>(premises: &'a [Entailment]) -> Option<Cited<'a>>
-    ensures { Cites result (Some (map judged premises.now)) }
+    ensures cites { Cites result (Some (map judged premises.now)) }
+    ensures unknown { (t : ATable) → PremisesKnown t result }
 {
     match premises {
         [] => Some(Cited::Nothing),
-        [a] => Some(Cited::One(a)),
-        [a, b] => Some(Cited::Two(a, b)),
+        [a] => Some(Cited::One(unnumbered(a))),
+        [a, b] => {
+            let first = unnumbered(a);
+            let second = unnumbered(b);
+            Some(Cited::Two(first, second))
+        }
         _ => None,
     }
 }
@@ -217,14 +293,9 @@ pub fn matches_in(
         (judged conclusion.now ∷ map judged premises.now) ⊎ IsFull table.new) }
     ensures kept { KeepsAll table.old table.new }
 {
-    verdict_on(
-        alloc,
-        table,
-        rule,
-        arguments.as_slice(),
-        cited_in(premises),
-        conclusion,
-    )
+    let cited = cited_in(premises);
+    let found = verdict_on(alloc, table, rule, arguments.as_slice(), cited, conclusion)?;
+    Ok(found.verdict)
 }
 
 /// The verdict on a step by the rule, with these arguments, premises and conclusion. A wrong number

@@ -3,9 +3,11 @@ ghost use Rattle.std.specs.Prelude.{◌≡◌, Err, IfOk, map};
 ghost use Rattle.dom_terms.specs.Terms.{term_of};
 ghost use Rattle.formula_table.specs.Interning.{KeepsAll};
 ghost use Rattle.formula_table.specs.declared.faults.TableFault.TheVariants as f;
-ghost use Rattle.entail_rules.specs.Numbers.{AllStandFor, AreNumbers, CitedStand, EntailmentStands, IsFull};
+ghost use Rattle.entail_rules.specs.Judged.{judged};
+ghost use Rattle.entail_rules.specs.Numbers.{AllStandFor, AreNumbers, CitedKnown, CitedStand};
+ghost use Rattle.entail_rules.specs.Numbers.{EntailmentStands, IsFull, IsKnown};
 
-use crate::cited::Cited;
+use crate::cited::{Cited, Premise};
 use dom_terms::{OutOfMemory, Term};
 use formula_syntax::Entailment;
 use formula_table::{Table, TableFault};
@@ -52,18 +54,33 @@ fn number_entailment(table: &mut Table, entailment: &Entailment) -> Result<Numbe
     })
 }
 
+// Those of an entailment that is cited, whose formulas are walked only where they aren't known.
+fn number_premise(table: &mut Table, premise: Premise) -> Result<Numbered, TableFault>
+    requires { IsKnown table.old premise.numbers (judged premise.entailment.now) }
+    ensures kept { KeepsAll table.old table.new }
+    ensures numbers { IfOk result
+        (λ n. EntailmentStands table.new n premise.entry.entailment.now) }
+    ensures full { result ≡ Err f.Full → IsFull table.new }
+{
+    match premise.numbers {
+        Some(numbers) => Ok(numbers),
+        None => number_entailment(table, premise.entailment),
+    }
+}
+
 // Those of the entailments that are cited.
 fn number_cited(table: &mut Table, cited: Cited) -> Result<CitedNumbers, TableFault>
+    requires { CitedKnown table.old cited }
     ensures kept { KeepsAll table.old table.new }
     ensures numbers { IfOk result (λ numbers. CitedStand table.new numbers cited.entry) }
     ensures full { result ≡ Err f.Full → IsFull table.new }
 {
     match cited {
         Cited::Nothing => Ok(CitedNumbers::Nothing),
-        Cited::One(a) => Ok(CitedNumbers::One(number_entailment(table, a)?)),
+        Cited::One(a) => Ok(CitedNumbers::One(number_premise(table, a)?)),
         Cited::Two(a, b) => {
-            let first = number_entailment(table, a)?;
-            let second = number_entailment(table, b)?;
+            let first = number_premise(table, a)?;
+            let second = number_premise(table, b)?;
             Ok(CitedNumbers::Two(first, second))
         }
     }
@@ -78,6 +95,7 @@ pub(crate) fn number_step(
     cited: Cited,
     conclusion: &Entailment,
 ) -> Result<Numbers, TableFault>
+    requires { CitedKnown table.old cited }
     ensures kept { KeepsAll table.old table.new }
     ensures numbers { IfOk result (λ numbers. AreNumbers table.new numbers
         (map term_of arguments.now) cited.entry conclusion.now) }

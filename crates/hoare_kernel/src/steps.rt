@@ -1,14 +1,17 @@
 // Which steps are instances of the rule that they name, and why the first other one is bad.
-ghost use Rattle.std.specs.Prelude.{◌≡◌, ◌≢◌, ◌<◌, ◌+◌, length, true, []};
-ghost use Rattle.std.specs.Prelude.{IfErr, OnOk};
+ghost use Rattle.std.specs.Prelude.{◌≡◌, ◌≢◌, ◌<◌, ◌+◌, ◌++◌, ◌∷◌, length, true, []};
+ghost use Rattle.std.specs.Prelude.{IfErr, IfOk, OnOk};
 ghost use Rattle.model_commands.specs.Theories.{nameless_judgement};
 ghost use Rattle.model_files.specs.FileFaults.{judgement_sorted};
 ghost use Rattle.model_files.specs.Sizes.{JudgementIsSmall};
 ghost use Rattle.rule_table.specs.Accepted.{InstanceBy, AllInstances};
 ghost use Rattle.rule_table.specs.Verdicts.{instance_verdict};
 ghost use Rattle.row_patterns.specs.Verdicts.{verdict_in};
+ghost use Rattle.formula_table.specs.Interning.{KeepsAll};
 ghost use Rattle.theory_syntax.specs.Judgements.{judgement_of, reason_of};
 ghost use Rattle.cited_steps.specs.Earlier.{AreCitable, steps_in};
+ghost use Rattle.entail_rules.specs.Numbers.{IsKnown};
+ghost use Rattle.entail_kernel.specs.Known.{AreKnown};
 ghost use Rattle.triple_rules.specs.Callees.{AreReady};
 ghost use Rattle.triple_rules.specs.Procedures.{procedures_in};
 ghost use Rattle.hoare_kernel.specs.declared.refusals.Refusal.TheVariants as r;
@@ -16,20 +19,24 @@ ghost use Rattle.hoare_kernel.specs.Walks.{AllSorted, StepRefused, StepsRefused}
 
 use crate::refusals::Refusal;
 use crate::verdicts::step_verdict;
-use dom_terms::Verdict;
+use dom_terms::{OutOfMemory, Verdict};
+use entail_rules::{Numbered, StepVerdict};
 use formula_table::Table;
 use std::alloc::Global;
 use theory_syntax::{Reason, Step};
 use triple_rules::Callees;
 
-// What the verdict on the step, of the procedure of this number, tells.
-fn judged(procedure: u32, step: u32, verdict: Verdict) -> Result<(), Refusal>
-    ensures fine { OnOk result (verdict_in verdict ≡ instance_verdict) }
-    ensures bad { IfErr result (λ e. (e ≡ r.Fails procedure step verdict)
-        × (verdict_in verdict ≢ instance_verdict)) }
+// What the verdict on the step, of the procedure of this number, tells; and the numbers that are
+// known of an instance.
+fn judged(procedure: u32, step: u32, found: StepVerdict) -> Result<Option<Numbered>, Refusal>
+    ensures fine { OnOk result (verdict_in found.verdict ≡ instance_verdict) }
+    ensures numbers { IfOk result (λ numbers. numbers ≡ found.numbers) }
+    ensures bad { IfErr result (λ e. (e ≡ r.Fails procedure step found.verdict)
+        × (verdict_in found.verdict ≢ instance_verdict)) }
 {
+    let verdict = found.verdict;
     match verdict {
-        Verdict::Instance => Ok(()),
+        Verdict::Instance => Ok(found.numbers),
         Verdict::Shape | Verdict::Premises | Verdict::Side(_) => {
             Err(Refusal::Fails {
                 procedure,
@@ -40,23 +47,29 @@ fn judged(procedure: u32, step: u32, verdict: Verdict) -> Result<(), Refusal>
     }
 }
 
-// Whether the step, of the procedure of this number, is an instance.
+// Whether the step, of the procedure of this number, is an instance; and the numbers that are known
+// of it then. Of the first of the steps before it some are known.
 fn stands(
     alloc: Global,
     table: &mut Table,
     callees: Callees,
     procedure: u32,
     earlier: &[Step],
+    known: &[Option<Numbered>],
     step: &Step,
-) -> Result<(), Refusal>
+) -> Result<Option<Numbered>, Refusal>
     requires callees { AreReady callees }
     requires earlier { AreCitable earlier.now }
     requires few { length earlier.now < 4294967295 }
     requires small { JudgementIsSmall (judgement_of step.now.judgement) }
     requires sorted { judgement_sorted (judgement_of step.now.judgement) ≡ true }
+    requires known { AreKnown table.old known.now earlier.now }
     ensures fine { OnOk result (InstanceBy (procedures_in callees.entry.procedures.now)
         (reason_of step.now.reason) (steps_in earlier.now)
         (nameless_judgement (judgement_of step.now.judgement))) }
+    ensures numbers { IfOk result (λ numbers. IsKnown table.new numbers
+        (nameless_judgement (judgement_of step.now.judgement))) }
+    ensures kept { KeepsAll table.old table.new }
     ensures bad { IfErr result (StepRefused (procedures_in callees.entry.procedures.now) procedure
         (length earlier.now + 1) (steps_in earlier.now) (reason_of step.now.reason)
         (nameless_judgement (judgement_of step.now.judgement))) }
@@ -68,10 +81,18 @@ fn stands(
             step: place,
         }),
         Reason::Rule { .. } => {
-            let verdict = step_verdict(alloc, table, callees, earlier, step)?;
-            judged(procedure, place, verdict)
+            let found = step_verdict(alloc, table, callees, earlier, known, step)?;
+            judged(procedure, place, found)
         }
     }
+}
+
+// Keeps what is known of one step more.
+fn keep(known: &mut Vec<Option<Numbered>>, numbers: Option<Numbered>) -> Result<(), OutOfMemory>
+    ensures { OnOk result (known.new.items ≡ known.old.items ++ numbers ∷ []) }
+{
+    known.push(numbers)?;
+    Ok(())
 }
 
 /// Whether each step, of the proof of the procedure of this number, is an instance of the rule that
@@ -92,8 +113,18 @@ pub(crate) fn check_steps(
     ensures bad { IfErr result
         (StepsRefused (procedures_in callees.entry.procedures.now) procedure (steps_in steps.now)) }
 {
+    let mut known = Vec::new(alloc);
     for (place, step) in steps.iter().enumerate() {
-        stands(alloc, table, callees, procedure, &steps[..place], step)?;
+        let numbers = stands(
+            alloc,
+            table,
+            callees,
+            procedure,
+            &steps[..place],
+            known.as_slice(),
+            step,
+        )?;
+        keep(&mut known, numbers)?;
     }
     Ok(())
 }

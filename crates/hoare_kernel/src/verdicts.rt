@@ -9,6 +9,8 @@ ghost use Rattle.theory_syntax.specs.Judgements.{judgement_of, reason_of};
 ghost use Rattle.theory_syntax.specs.Theories.{theory_of};
 ghost use Rattle.row_patterns.specs.Verdicts.{verdict_in};
 ghost use Rattle.cited_steps.specs.Earlier.{AreCitable, steps_in};
+ghost use Rattle.entail_rules.specs.Numbers.{IsKnown};
+ghost use Rattle.entail_kernel.specs.Known.{AreKnown};
 ghost use Rattle.entail_kernel.specs.Steps.{StepHasRows};
 ghost use Rattle.triple_laws.specs.Steps.{HoldsBySteps};
 ghost use Rattle.triple_rules.specs.Callees.{AreReady};
@@ -18,28 +20,33 @@ use crate::entailments::entailment_named;
 use crate::rows::add_rows;
 use crate::triples::triple_by;
 use dom_terms::{OutOfMemory, Verdict};
+use entail_rules::{Numbered, StepVerdict};
 use formula_table::Table;
 use std::alloc::Global;
 use theory_syntax::{Judgement, Reason, Step, Theory};
 use triple_rules::{Callees, Written};
 
 /// The verdict on the step, which is no gap, over the steps before it, in a theory with these
-/// procedures.
+/// procedures. Of the first of these steps some numbers of the table are known.
 pub(crate) fn step_verdict(
     alloc: Global,
     table: &mut Table,
     callees: Callees,
     earlier: &[Step],
+    known: &[Option<Numbered>],
     step: &Step,
-) -> Result<Verdict, OutOfMemory>
+) -> Result<StepVerdict, OutOfMemory>
     requires callees { AreReady callees }
     requires earlier { AreCitable earlier.now }
     requires small { JudgementIsSmall (judgement_of step.now.judgement) }
     requires sorted { judgement_sorted (judgement_of step.now.judgement) ≡ true }
     requires reason { reason_of step.now.reason ≡ auto → ⊥ }
+    requires known { AreKnown table.old known.now earlier.now }
     ensures exact { IfOk result (λ v. VerdictBy (procedures_in callees.entry.procedures.now)
         (reason_of step.now.reason) (steps_in earlier.now)
-        (nameless_judgement (judgement_of step.now.judgement)) (verdict_in v)) }
+        (nameless_judgement (judgement_of step.now.judgement)) (verdict_in v.verdict)) }
+    ensures numbers { IfOk result (λ v. IsKnown table.new v.numbers
+        (nameless_judgement (judgement_of step.now.judgement))) }
     ensures kept { KeepsAll table.old table.new }
 {
     let Reason::Rule {
@@ -56,7 +63,7 @@ pub(crate) fn step_verdict(
     match &step.judgement {
         Judgement::Entails(entailment) => {
             entailment_named(
-                alloc, table, name, earlier, citations, arguments, entailment,
+                alloc, table, name, earlier, known, citations, arguments, entailment,
             )
         }
         Judgement::Triple(triple) => {
@@ -66,7 +73,11 @@ pub(crate) fn step_verdict(
                 arguments,
                 triple,
             };
-            triple_by(alloc, table, name, &written, callees)
+            let verdict = triple_by(alloc, table, name, &written, callees)?;
+            Ok(StepVerdict {
+                verdict,
+                numbers: None,
+            })
         }
     }
 }
@@ -103,7 +114,8 @@ pub fn check_step_in(
         procedures: theory.procedures.as_slice(),
         names: None,
     };
-    match step_verdict(alloc, table, callees, earlier, step)? {
+    let found = step_verdict(alloc, table, callees, earlier, &[], step)?;
+    match found.verdict {
         Verdict::Instance => {
             add_rows(table, earlier, step)?;
             Ok(Verdict::Instance)

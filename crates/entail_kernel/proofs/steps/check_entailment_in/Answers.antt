@@ -1,6 +1,5 @@
 -- The step is sound where the verdict is that it is an instance, and each formula has a row.
-use Rattle.std.proofs.Common.{IfOk, rules}
-use Rattle.std.proofs.lemmas.Result.{IfOk-weaker}
+use Rattle.std.proofs.Common.{rules}
 use Rattle.model_commands.specs.Theories.{nameless_judgement}
 use Rattle.theory_syntax.specs.Judgements.{judgement_of, reason_of}
 use Rattle.row_patterns.specs.Verdicts.{verdict_in}
@@ -15,13 +14,13 @@ returns-clause-sound c =
     let earlier = steps_in c.args.earlier.now in
     let reason = reason_of c.args.step.now.reason in
     let judgement = nameless_judgement (judgement_of c.args.step.now.judgement) in
-    let exact : IfOk c.entailment_by.result
-    (λ v. EntailmentVerdict earlier reason judgement (verdict_in v)) = search rules in
-    IfOk-weaker c.entailment_by.result _ _ (λ v. instance-sound earlier reason judgement v) exact
+    let exact : EntailmentVerdict earlier reason judgement
+    (verdict_in c.in_ok-found.found.verdict) = search rules in
+    instance-sound earlier reason judgement c.in_ok-found.found.verdict exact
 
 pub returns-clause-rows : goal.returns-clause-rows
 returns-clause-rows c =
     rows-of-step c.entailment_by.new.table (steps_in c.args.earlier.now) c.in-Rule.name
-    c.in-Rule.premises c.as_slice.result.now c.in-Rule.arguments c.in-Entails.conclusion _ _
-    c.in-Rule.is c.in-Entails.is c.as_slice.ensures c.entailment_by.result
-    c.entailment_by.ensures.rows
+    c.in-Rule.premises c.as_slice-numbers.result.now c.in-Rule.arguments c.in-Entails.conclusion
+    _ _ c.in-Rule.is c.in-Entails.is c.as_slice-numbers.ensures c.in_ok-found.found.verdict
+    c.in_ok-found.ensures.rows

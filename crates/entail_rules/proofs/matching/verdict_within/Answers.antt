@@ -4,9 +4,9 @@ use Rattle.rule_rows.specs.Names.{name_of}
 use Rattle.entail_rules.proofs.RuleVerdicts.{where-refused}
 use Rattle.entail_rules.proofs.matching.verdict_within.Goals as goal
 
-pub returns-in_ok-verdict-in-None-clause-exact : goal.returns-in_ok-verdict-in-None-clause-exact
-returns-in_ok-verdict-in-None-clause-exact c =
+pub returns-in_ok-found-in-None-clause-exact : goal.returns-in_ok-found-in-None-clause-exact
+returns-in_ok-found-in-None-clause-exact c =
     rw c.in-None.is
     (where-refused c.args.arguments.now c.args.conclusion.now (name_of c.args.rule)
-    (verdict_in c.in_ok-verdict-in-None.verdict) (verdict_in c.without_premises.result)
-    c.without_premises.ensures c.in_ok-verdict-in-None.ensures.exact)
+    (verdict_in c.in_ok-found-in-None.found.verdict) (verdict_in c.without_premises.result)
+    c.without_premises.ensures c.in_ok-found-in-None.ensures.exact)

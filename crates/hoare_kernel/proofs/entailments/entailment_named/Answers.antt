@@ -37,7 +37,7 @@ returns-in-Some-clause-exact c =
     (λ v h procedures. entailment-by procedures c.args.name.now (name_of c.in-Some.rule)
     (written_at (steps_in c.args.earlier.now) c.args.citations.now
     (map term_of c.args.arguments.now)
-    (nameless_judgement (entails_of (entailment_of c.args.entailment.now)))) (verdict_in v)
+    (nameless_judgement (entails_of (entailment_of c.args.entailment.now)))) (verdict_in v.verdict)
     (sym c.in-Some.ensures.known) ((c.in-Some.ensures.named c.in-Some.rule).0 refl) h)
     c.entailment_by.ensures.exact
 

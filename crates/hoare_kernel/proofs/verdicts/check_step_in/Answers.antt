@@ -17,6 +17,6 @@ returns-in_ok-add_rows-in-Instance-clause-sound c =
     let reason = reason_of c.args.step.now.reason in
     let judgement = nameless_judgement (judgement_of c.args.step.now.judgement) in
     let exact : VerdictBy (procedures_of theory) reason earlier judgement
-    (verdict_in c.in_ok-verdict.verdict) = search rules in
-    λ _. instance-sound theory earlier reason judgement c.in_ok-verdict.verdict exact
+    (verdict_in c.in_ok-found.found.verdict) = search rules in
+    λ _. instance-sound theory earlier reason judgement c.in_ok-found.found.verdict exact
     c.in-Instance.is

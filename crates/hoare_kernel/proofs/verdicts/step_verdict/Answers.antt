@@ -10,6 +10,7 @@ use Rattle.theory_syntax.specs.declared.judgements.Judgement.{Judgement}
 use Rattle.theory_syntax.specs.declared.steps.Reason.{Reason}
 use Rattle.theory_syntax.specs.Judgements.{judgement_of, reason_of}
 use Rattle.cited_steps.specs.Earlier.{steps_in}
+use Rattle.entail_rules.specs.Numbers.{IsKnown}
 use Rattle.triple_rules.specs.Procedures.{procedures_in}
 use Rattle.hoare_kernel.proofs.RowsOfNames.{verdict-as}
 use Rattle.hoare_kernel.proofs.verdicts.step_verdict.Goals as goal
@@ -20,24 +21,31 @@ returns-in-Entails-clause-exact c =
     let earlier = steps_in c.args.earlier.now in
     let judgement = nameless_judgement (judgement_of c.args.step.now.judgement) in
     subst (λ (z : Reason). IfOk c.entailment_named.result
-    (λ v. VerdictBy ps (reason_of z) earlier judgement (verdict_in v))) (sym c.in-Rule.is)
+    (λ v. VerdictBy ps (reason_of z) earlier judgement (verdict_in v.verdict))) (sym c.in-Rule.is)
     (IfOk-weaker c.entailment_named.result _ _
-    (λ v h. verdict-as ps _ _ _ _ _ _ earlier _ _ (verdict_in v)
+    (λ v h. verdict-as ps _ _ _ _ _ _ earlier _ _ (verdict_in v.verdict)
     c.as_str-name.ensures c.as_slice-citations.ensures
     (ap (λ (z : List Term). map term_of z) c.as_slice-arguments.ensures)
     (ap (λ (z : Judgement). nameless_judgement (judgement_of z)) (sym c.in-Entails.is)) (h ps))
     c.entailment_named.ensures.exact)
 
-pub returns-in-Triple-clause-exact : goal.returns-in-Triple-clause-exact
-returns-in-Triple-clause-exact c =
+pub returns-in-Entails-clause-numbers : goal.returns-in-Entails-clause-numbers
+returns-in-Entails-clause-numbers c =
+    IfOk-weaker c.entailment_named.result _ _
+    (λ v h. subst (λ (z : Judgement). IsKnown c.entailment_named.new.table v.numbers
+    (nameless_judgement (judgement_of z))) (sym c.in-Entails.is) h)
+    c.entailment_named.ensures.numbers
+
+pub returns-in_ok-verdict-in-Triple-clause-exact : goal.returns-in_ok-verdict-in-Triple-clause-exact
+returns-in_ok-verdict-in-Triple-clause-exact c =
     let ps = procedures_in c.args.callees.procedures.now in
     let earlier = steps_in c.args.earlier.now in
     let judgement = nameless_judgement (judgement_of c.args.step.now.judgement) in
-    subst (λ (z : Reason). IfOk c.triple_by.result
-    (λ v. VerdictBy ps (reason_of z) earlier judgement (verdict_in v))) (sym c.in-Rule.is)
-    (IfOk-weaker c.triple_by.result _ _
-    (λ v h. verdict-as ps _ _ _ _ _ _ earlier _ _ (verdict_in v)
+    let v = c.in_ok-verdict-in-Triple.verdict in
+    subst (λ (z : Reason). VerdictBy ps (reason_of z) earlier judgement (verdict_in v))
+    (sym c.in-Rule.is)
+    (verdict-as ps _ _ _ _ _ _ earlier _ _ (verdict_in v)
     c.as_str-name.ensures c.as_slice-citations.ensures
     (ap (λ (z : List Term). map term_of z) c.as_slice-arguments.ensures)
-    (ap (λ (z : Judgement). nameless_judgement (judgement_of z)) (sym c.in-Triple.is)) h)
-    c.triple_by.ensures.exact)
+    (ap (λ (z : Judgement). nameless_judgement (judgement_of z)) (sym c.in-Triple.is))
+    c.in_ok-verdict-in-Triple.ensures.exact)
