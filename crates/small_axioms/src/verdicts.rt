@@ -37,63 +37,6 @@ fn verdict_where(fits: bool, assigned: bool) -> Verdict
     }
 }
 
-fn name_verdict(triple: &Triple) -> Verdict
-    ensures { IsVerdict (table.name_axiom ∷ []) (written triple.now) (verdict_in result) }
-{
-    let held = first_part(&triple.pre);
-    let assigned = sets_in(&triple.command, held);
-    let fits = is_name(triple);
-    verdict_where(fits, assigned)
-}
-
-fn children_verdict(triple: &Triple) -> Verdict
-    ensures { IsVerdict (table.children_axiom ∷ []) (written triple.now) (verdict_in result) }
-{
-    let held = first_part(&triple.pre);
-    let assigned = sets_in(&triple.command, held);
-    let fits = is_children(triple);
-    verdict_where(fits, assigned)
-}
-
-fn parent_verdict(triple: &Triple) -> Verdict
-    ensures { IsVerdict (table.parent_axiom ∷ []) (written triple.now) (verdict_in result) }
-{
-    let held = first_part(&triple.pre);
-    let assigned = sets_in(&triple.command, held);
-    let fits = is_parent(triple);
-    verdict_where(fits, assigned)
-}
-
-fn item_verdict(triple: &Triple) -> Verdict
-    ensures { IsVerdict (table.item_axiom ∷ []) (written triple.now) (verdict_in result) }
-{
-    let there = first_part(&triple.pre);
-    let held = first_part(there);
-    let assigned = sets_in(&triple.command, held);
-    let fits = is_item(triple);
-    verdict_where(fits, assigned)
-}
-
-fn item_none_verdict(triple: &Triple) -> Verdict
-    ensures { IsVerdict (table.item_none_axiom ∷ []) (written triple.now) (verdict_in result) }
-{
-    let there = first_part(&triple.pre);
-    let held = first_part(there);
-    let assigned = sets_in(&triple.command, held);
-    let fits = is_item_none(triple);
-    verdict_where(fits, assigned)
-}
-
-fn parent_none_verdict(triple: &Triple) -> Verdict
-    ensures { IsVerdict (table.parent_none_axiom ∷ []) (written triple.now) (verdict_in result) }
-{
-    let there = first_part(&triple.pre);
-    let held = first_part(there);
-    let assigned = sets_in(&triple.command, held);
-    let fits = is_parent_none(triple);
-    verdict_where(fits, assigned)
-}
-
 // whether the command creates a node, and its variable stands in the name that the requires has
 fn sets_name(triple: &Triple) -> bool
     ensures { result ≡ creates_one_of
@@ -107,62 +50,25 @@ fn sets_name(triple: &Triple) -> bool
     term_mentions(name, x)
 }
 
-fn create_verdict(triple: &Triple) -> Verdict
-    ensures { IsVerdict (table.create_axiom ∷ []) (written triple.now) (verdict_in result) }
-{
-    let assigned = sets_name(triple);
-    let fits = is_create(triple);
-    verdict_where(fits, assigned)
-}
-
-fn append_verdict(triple: &Triple) -> Verdict
-    ensures { IsVerdict (table.append_in_forest ∷ table.append_in_grove ∷ [])
-        (written triple.now) (verdict_in result) }
-{
-    let fits = is_append(triple);
-    verdict_where(fits, false)
-}
-
-fn remove_verdict(triple: &Triple) -> Verdict
-    ensures { IsVerdict (table.remove_axiom ∷ []) (written triple.now) (verdict_in result) }
-{
-    let fits = is_remove(triple);
-    verdict_where(fits, false)
-}
-
-fn insert_before_verdict(triple: &Triple) -> Verdict
-    ensures { IsVerdict (table.insert_before_in_forest ∷ table.insert_before_in_grove ∷ [])
-        (written triple.now) (verdict_in result) }
-{
-    let fits = is_insert_before(triple);
-    verdict_where(fits, false)
-}
-
-fn insert_last_verdict(triple: &Triple) -> Verdict
-    ensures { IsVerdict (table.insert_last_in_forest ∷ table.insert_last_in_grove ∷ [])
-        (written triple.now) (verdict_in result) }
-{
-    let fits = is_insert_last(triple);
-    verdict_where(fits, false)
-}
-
 /// The verdict on the triple alone.
 pub(crate) fn alone_verdict(rule: Axiom, triple: &Triple) -> Verdict
     ensures { IsVerdict (readings_in table.axioms (name_of rule)) (written triple.now)
         (verdict_in result) }
 {
+    let held = first_part(&triple.pre);
+    let inner = first_part(held);
     match rule {
-        Axiom::Name => name_verdict(triple),
-        Axiom::Children => children_verdict(triple),
-        Axiom::Item => item_verdict(triple),
-        Axiom::ItemNone => item_none_verdict(triple),
-        Axiom::Parent => parent_verdict(triple),
-        Axiom::ParentNone => parent_none_verdict(triple),
-        Axiom::Create => create_verdict(triple),
-        Axiom::Append => append_verdict(triple),
-        Axiom::Remove => remove_verdict(triple),
-        Axiom::InsertBefore => insert_before_verdict(triple),
-        Axiom::InsertLast => insert_last_verdict(triple),
+        Axiom::Name => verdict_where(is_name(triple), sets_in(&triple.command, held)),
+        Axiom::Children => verdict_where(is_children(triple), sets_in(&triple.command, held)),
+        Axiom::Item => verdict_where(is_item(triple), sets_in(&triple.command, inner)),
+        Axiom::ItemNone => verdict_where(is_item_none(triple), sets_in(&triple.command, inner)),
+        Axiom::Parent => verdict_where(is_parent(triple), sets_in(&triple.command, held)),
+        Axiom::ParentNone => verdict_where(is_parent_none(triple), sets_in(&triple.command, inner)),
+        Axiom::Create => verdict_where(is_create(triple), sets_name(triple)),
+        Axiom::Append => verdict_where(is_append(triple), false),
+        Axiom::Remove => verdict_where(is_remove(triple), false),
+        Axiom::InsertBefore => verdict_where(is_insert_before(triple), false),
+        Axiom::InsertLast => verdict_where(is_insert_last(triple), false),
     }
 }
 

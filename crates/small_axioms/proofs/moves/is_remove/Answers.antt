@@ -21,7 +21,8 @@ tested t e g k n b x r =
     agrees_with t
     (conjunction (conjunction (application tree k (with_child e n b x r))
     (equality e (number_part e n))) (equality g (number_part e x)))
-    (grove_sum (application tree k (with_children e n (concatenation whole b r))) (one_root x)) grove
+    (grove_sum (application tree k (with_children e n (concatenation whole b r)))
+    (one_root x)) grove
 
 pub returns : goal.returns
 returns c =
