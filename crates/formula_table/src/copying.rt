@@ -17,10 +17,7 @@ pub(crate) fn copy_rows<R: Copy + Eq + Hash>(
 {
     let mut copied = IndexSet::new(alloc);
     for row in rows.as_slice() {
-        let (_, is_new) = copied.insert_full(*row)?;
-        if !is_new {
-            return Err(OutOfMemory);
-        }
+        copied.insert_full(*row)?;
     }
     Ok(copied)
 }
