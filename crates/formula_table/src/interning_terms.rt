@@ -1,5 +1,5 @@
 // The numbers of terms, which are added to a table where they aren't there.
-ghost use Rattle.std.specs.Prelude.{◌≡◌, IfOk, IfNone, IfSome};
+ghost use Rattle.std.specs.Prelude.{◌≡◌, ◌-◌, ◌≤◌, IfOk, IfNone, IfSome};
 ghost use Rattle.model_terms.specs.Variables.{bound};
 ghost use Rattle.model_terms.specs.Terms.{variable, term_with};
 ghost use Rattle.model_formulas.specs.Nameless.{names, naming};
@@ -12,22 +12,25 @@ use crate::tables::Table;
 use dom_terms::{LogicVar, OutOfMemory, Term, same_logic_var};
 use formula_syntax::Binders;
 
-// how many binders there are between the variable and its binder
+// how many binders there are between the variable and its binder, behind those that were passed
 #[tactic(auto, using(crate::proofs::Named::name_rules))]
-fn place_below(variable: &LogicVar, over: &Binders) -> Result<Option<u32>, OutOfMemory>
+fn place_behind(
+    variable: &LogicVar,
+    over: &Binders,
+    passed: u32,
+) -> Result<Option<u32>, OutOfMemory>
     ensures free { IfOk result (λ place. IfNone place
         (names (bound_by over.now) (logic_var_of variable.now) ≡ logic_var_of variable.now)) }
-    ensures bound { IfOk result (λ place. IfSome place (λ i.
-        names (bound_by over.now) (logic_var_of variable.now)
-        ≡ bound i (sort_of variable.now.sort))) }
+    ensures bound { IfOk result (λ place. IfSome place (λ i. (passed ≤ i)
+        × (names (bound_by over.now) (logic_var_of variable.now)
+        ≡ bound (i - passed) (sort_of variable.now.sort)))) }
 {
     match over {
         Binders::Empty => Ok(None),
-        Binders::More(nearest, _) if same_logic_var(variable, nearest) => Ok(Some(0)),
-        Binders::More(_, outer) => match place_below(variable, outer)? {
-            Some(place) => Ok(Some(place.checked_add(1).ok_or(OutOfMemory)?)),
-            None => Ok(None),
-        },
+        Binders::More(nearest, _) if same_logic_var(variable, nearest) => Ok(Some(passed)),
+        Binders::More(_, outer) => {
+            place_behind(variable, outer, passed.checked_add(1).ok_or(OutOfMemory)?)
+        }
     }
 }
 
@@ -92,7 +95,7 @@ impl Table {
     {
         match over {
             Binders::Empty => self.free_variable(var),
-            Binders::More(_, _) => match place_below(var, over)? {
+            Binders::More(_, _) => match place_behind(var, over, 0)? {
                 Some(place) => self.add_term(TermRow::Bound(place, var.sort)),
                 None => self.free_variable(var),
             },
