@@ -58,6 +58,21 @@ fn a_full_table_keeps_its_numbers(rt: HostRuntime) -> Result<(), Fail> {
     Ok(())
 }
 
+#[test]
+fn a_copied_table_has_the_same_numbers(rt: HostRuntime) -> Result<(), Fail> {
+    let alloc = rt.alloc();
+    let mut table = Table::new(alloc);
+    let sum = number(&mut table, empty_sum(alloc)?);
+    let copied = table.copy(alloc);
+    drop(table);
+    let mut copied = copied?;
+    let again = number(&mut copied, empty_sum(alloc)?);
+    let rows = copied.len();
+    drop(copied);
+    assert_eq!(rt; (again, rows), (sum, 2));
+    Ok(())
+}
+
 // The verdict of the rule `some` on an entailment, over a table with so many rows at most.
 fn verdict_within(alloc: Global, most: u32) -> Result<Verdict, OutOfMemory> {
     let conclusion = something(alloc)?;

@@ -1,4 +1,4 @@
--- Numbers that stand for what is written: they keep their meaning ts the table grows, and what they
+-- Numbers that stand for what is written: they keep their meaning as the table grows, and what they
 -- stand for is the step.
 use Rattle.std.proofs.Common.{◌≡◌, ◌∙◌, ℕ, refl, sym, ap, List, [], ◌∷◌, ◌++◌, map, arith, ◌+◌, ◌<◌, length, take, get_or, subst, Option, Some, None}
 use Rattle.std.proofs.lemmas.List.{map-append, take_more}
