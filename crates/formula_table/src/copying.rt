@@ -21,8 +21,8 @@ pub(crate) fn copy_rows<R: Copy + Eq + Hash>(
     Ok(copied)
 }
 
-/// The same names, each at its place, on memory of their own. Names of a set differ, so each is new;
-/// that isn't proved here, and where one weren't there would be no copy.
+/// The same names, each at its place, on memory of their own. Names of a set differ, so each is
+/// new; that isn't proved here, and where one weren't there would be no copy.
 pub(crate) fn copy_names(
     alloc: Global,
     names: &IndexSet<String>,

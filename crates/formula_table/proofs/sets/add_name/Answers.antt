@@ -10,7 +10,8 @@ returns-in-Some-clause-ok c = found_name c.args.name.now c.args.names.now.keys
     c.as_slice.result.now c.as_slice.ensures.keys c.in-Some.place c.in-Some.ensures
 
 pub returns-in-Some-get_index_of-clause-ok : goal.returns-in-Some-get_index_of-clause-ok
-returns-in-Some-get_index_of-clause-ok c = if_ok_same c.number_of.result c.in-Some-get_index_of.place c.number_of.ensures
+returns-in-Some-get_index_of-clause-ok c =
+    if_ok_same c.number_of.result c.in-Some-get_index_of.place c.number_of.ensures
     (Finds c.args.name.now (map string_bytes c.args.names.now.keys)
     (map string_bytes c.args.names.now.keys))
     (name_there c.args.name.now c.args.names.now.keys c.in-Some-get_index_of.place
