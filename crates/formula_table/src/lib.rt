@@ -4,6 +4,7 @@
 //! Stands on the formulas of the program and on the kit's indexmap.
 #![tactic(auto)]
 
+mod copying;
 mod faults;
 mod few_names;
 mod heads;

@@ -12,6 +12,7 @@ ghost use Rattle.formula_table.specs.Rows.{bound_sort, read_term, TermWithin, Fo
 ghost use Rattle.formula_table.specs.Tables.{HasRows};
 ghost use Rattle.formula_table.specs.OneProof.{rows-prop};
 
+use crate::copying::{copy_names, copy_rows};
 use crate::faults::TableFault;
 use crate::few_names::{FEW, same_name};
 use crate::heads::Head;
@@ -68,6 +69,20 @@ impl Table {
             forms: IndexSet::new(alloc),
             most,
         }
+    }
+
+    /// An equal table, on memory of its own: each number stands for the same in both.
+    pub fn copy(&self, alloc: Global) -> Result<Table, OutOfMemory>
+        ensures { IfOk result (λ t. (names_at t ≡ names_at self.now)
+            × (terms_at t ≡ terms_at self.now) × (forms_at t ≡ forms_at self.now)
+            × (t.most ≡ self.now.most)) }
+    {
+        Ok(Table {
+            names: copy_names(alloc, &self.names)?,
+            terms: copy_rows(alloc, &self.terms)?,
+            forms: copy_rows(alloc, &self.forms)?,
+            most: self.most,
+        })
     }
 
     /// How many formulas there are.
