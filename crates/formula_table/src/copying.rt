@@ -7,7 +7,7 @@ use indexmap::IndexSet;
 use std::alloc::Global;
 use std::hash::Hash;
 
-/// The same rows, each at its place: rows of a set differ, so each is new.
+/// The same rows, each at its place: those of a set differ, so each is put behind those before it.
 pub(crate) fn copy_rows<R: Copy + Eq + Hash>(
     alloc: Global,
     rows: &IndexSet<R>,
@@ -21,8 +21,7 @@ pub(crate) fn copy_rows<R: Copy + Eq + Hash>(
     Ok(copied)
 }
 
-/// The same names, each at its place, on memory of their own. Names of a set differ, so each is
-/// new; that isn't proved here, and where one weren't there would be no copy.
+/// The same names, each at its place, on memory of their own.
 pub(crate) fn copy_names(
     alloc: Global,
     names: &IndexSet<String>,
@@ -32,10 +31,7 @@ pub(crate) fn copy_names(
 {
     let mut copied = IndexSet::new(alloc);
     for name in names.as_slice() {
-        let (_, is_new) = copied.insert_full(String::from_str(alloc, name.as_str())?)?;
-        if !is_new {
-            return Err(OutOfMemory);
-        }
+        copied.insert_full(String::from_str(alloc, name.as_str())?)?;
     }
     Ok(copied)
 }
