@@ -1,8 +1,10 @@
-// Libraries and sinks that fail in mid-stream.
-ghost use Rattle.std.specs.Prelude.{◌≤◌, ◌<◌, None, IfOk, OnErr, length};
-ghost use Rattle.outside_io.specs.Causes.{Rose};
+// Libraries and sinks that fail in mid-stream, or give and take a byte at a time.
+ghost use Rattle.std.specs.Prelude.{◌≡◌, ◌≤◌, ◌<◌, ℕ, List, Some, None, IfOk, OnErr, length};
+ghost use Rattle.outside_io.specs.Causes.{Rose, Told};
+ghost use Rattle.outside_io.specs.Pieces.{GivesPiece};
+ghost use Rattle.outside_io.specs.Shelves.{shelf_faults};
 
-use outside_io::{Failed, ReadAllFault, Shelf, Sink, Tape, read_all, write_all_of};
+use outside_io::{Failed, Library, ReadAllFault, Shelf, Sink, Tape, read_all, write_all_of};
 use std::alloc::Global;
 use std::test::Fail;
 
@@ -44,6 +46,29 @@ impl Sink for Trickle {
         }
         self.faults = self.faults.saturating_add(1);
         Err(Failed)
+    }
+}
+
+// A library that gives a byte a fetch, and doesn't tell its books to proofs.
+#[derive(Drop)]
+pub(crate) struct Drip {
+    pub(crate) shelf: Shelf,
+}
+
+impl Library for Drip {
+    ghost book = { λ _ _. None };
+
+    ghost faults = { λ drip. shelf_faults drip.shelf };
+
+    fn fetch(&mut self, name: &str, at: u64, into: &mut [u8]) -> Result<usize, Failed>
+        ensures bound { IfOk result (λ count. count ≤ length into.old) }
+        ensures later { (other : List ℕ)
+            → shelf_faults self.old.shelf other ≤ shelf_faults self.new.shelf other }
+        ensures cause { OnErr result (Rose (shelf_faults self.old.shelf name.now)
+            (shelf_faults self.new.shelf name.now)) }
+    {
+        let count = usize::min(into.len(), 1);
+        self.shelf.fetch(name, at, &mut into[..count])
     }
 }
 

@@ -1,8 +1,8 @@
 // The top call over a library or a sink that fails, and the calls for bytes in hand.
-use crate::outside::Trickle;
+use crate::outside::{Drip, Trickle};
 use dom_terms::{Text, Texts};
 use domcheck_core::{Status, check_bytes, domcheck, run_bytes};
-use outside_io::{Shelf, Sink, Tape};
+use outside_io::{Library, Shelf, Sink, Tape};
 use std::alloc::Global;
 use std::test::Fail;
 
@@ -59,6 +59,74 @@ fn failures_have_a_status_of_their_own(rt: HostRuntime) -> Result<(), Fail> {
         assert_eq!(rt; answer(alloc, words, fetch, &mut tape)?, status);
         assert_eq!(rt; tape.taken(), output.as_bytes());
     }
+    Ok(())
+}
+
+const MOVE: &str = "domlogic 1
+proc move(p: node, n: node) returns () sort g
+requires true ensures true
+body appendChild(p, n)
+proof
+end
+";
+
+const TREE: &str = "[\"html\"#1[<\"a\"#2[<\"i\"#4[0f]%4>]%2>]%1]";
+
+const MOVED: &str = "ended after 1 steps
+[\"html\"#1[<\"a\"#2[0f]%2> * <\"i\"#4[0f]%4>]%1]
+";
+
+// A shelf with the file `move` and the document `tree`, of which a fetch call fails; 0 is no call.
+fn shelf_failing_at(alloc: Global, fetch: u64) -> Result<Shelf, Fail> {
+    let mut shelf = Shelf::new(alloc);
+    shelf.add("move", MOVE.as_bytes())?;
+    shelf.add("tree", TREE.as_bytes())?;
+    shelf.fail_at(fetch)?;
+    Ok(shelf)
+}
+
+// Moves a node of the document.
+fn moved<L: Library, S: Sink>(
+    alloc: Global,
+    library: &mut L,
+    sink: &mut S,
+) -> Result<Status, Fail> {
+    let mut asked = Vec::new(alloc);
+    for word in ["run", "move", "move", "tree", "10", "#1", "#4"] {
+        asked.push(String::from_str(alloc, word)?)?;
+    }
+    Ok(domcheck(alloc, &asked, library, sink))
+}
+
+// Two pieces are fetched of each book, the second of which is empty.
+#[test]
+fn each_fetch_and_each_put_may_fail(rt: HostRuntime) -> Result<(), Fail> {
+    let alloc = rt.alloc();
+    for (fetch, put, status, output) in [
+        (1, 0, Status::ReadFault, ""),
+        (2, 0, Status::ReadFault, ""),
+        (3, 0, Status::ReadFault, ""),
+        (4, 0, Status::ReadFault, ""),
+        (5, 0, Status::Done, MOVED),
+        (0, 1, Status::WriteFault, ""),
+        (0, 2, Status::Done, MOVED),
+    ] {
+        let mut shelf = shelf_failing_at(alloc, fetch)?;
+        let mut tape = Tape::new(alloc, 200)?;
+        tape.fail_at(put)?;
+        assert_eq!(rt; moved(alloc, &mut shelf, &mut tape)?, status, "fetch {fetch}, put {put}");
+        assert_eq!(rt; tape.taken(), output.as_bytes());
+    }
+    Ok(())
+}
+
+#[test]
+fn a_byte_at_a_time_is_answered_alike(rt: HostRuntime) -> Result<(), Fail> {
+    let alloc = rt.alloc();
+    let shelf = shelf_failing_at(alloc, 0)?;
+    let mut sink = Trickle::new(alloc, 200);
+    assert_eq!(rt; moved(alloc, &mut Drip { shelf }, &mut sink)?, Status::Done);
+    assert_eq!(rt; sink.taken.as_slice(), MOVED.as_bytes());
     Ok(())
 }
 
