@@ -16,7 +16,7 @@ use Rattle.rule_table.specs.Verdicts.{Written, Concludes, Follows, MeetsFirst, M
 use Rattle.rule_table.proofs.Decisions.{both_hold}
 use Rattle.rule_table.proofs.NewNames.{new_name, new_name-new}
 use Rattle.rule_table.proofs.Opening.{opening}
-use Rattle.rule_patterns.specs.Letter.{FormulaLetter, TermLetter, DataLetter, P', Q', R', A', B', K', H', E', F', S', I', L', T', J', M', h', k', j', term_at, data_at}
+use Rattle.rule_patterns.specs.Letter.{FormulaLetter, TermLetter, DataLetter, P', Q', R', A', B', K', H', E', F', S', I', L', T', J', M', G', V', Y', N', h', k', j', term_at, data_at}
 use Rattle.rule_patterns.specs.Patterns.{RequirementPattern, of_sort_p, x_of_sort_p, ConditionPattern, not_free_p, pure_p, LinePattern, condition_of, conditions_of, terms_of, judgement_of, judgements_of, line_of}
 use Rattle.letter_bindings.specs.Known.{place_in, term_in, data_in, Known, nothing, Says, Agrees, Exact}
 use Rattle.letter_bindings.specs.Matching.{match_terms, match_judgement}
@@ -57,7 +57,8 @@ says-none : {A : Type 0} (o : Option A) (a : A) → o ≡ None → Says o a
 says-none None a e = tt
 says-none (Some b) a e = absurd cc
 
-nothing-agrees : (l : Letters) → Agrees l nothing
+-- each choice agrees with that
+pub nothing-agrees : (l : Letters) → Agrees l nothing
 nothing-agrees l = record {
   formulas = λ a. says-none _ _ (no-formula a);
   belows = λ a. says-none _ _ (no-formula a);
@@ -79,6 +80,10 @@ nothing-agrees l = record {
     terms T' = tt
     terms J' = tt
     terms M' = tt
+    terms G' = tt
+    terms V' = tt
+    terms Y' = tt
+    terms N' = tt
 
     datas : (a : DataLetter) → Says (data_in nothing.datas a) (data_at l a)
     datas h' = tt
