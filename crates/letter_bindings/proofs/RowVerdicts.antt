@@ -44,7 +44,7 @@ RowIs row w (side_verdict name) =
     × ((l : Letters) → MeetsFirst (suc zero) w (row l) → ⊥)
 
 -- NOTHING IS KNOWN AT FIRST
-no-formula : (a : FormulaLetter) → place_in nothing.formulas a ≡ None
+pub no-formula : (a : FormulaLetter) → place_in nothing.formulas a ≡ None
 no-formula P' = refl
 no-formula Q' = refl
 no-formula R' = refl
