@@ -1,23 +1,23 @@
 -- A walk over a pattern without $x leaves what is known of $x as it is; and where nothing is known
 -- of $x, what is known has a choice that agrees with it, whatever $x is.
-use Rattle.std.proofs.Common.{◌≡◌, refl, sym, ap, ◌∙◌, Bool, true, false, ◌&&◌, Option, Some, None}
+use Rattle.std.proofs.Common.{◌≡◌, refl, ap, ◌∙◌, Bool, true, false, ◌&&◌, Option, Some, None}
 use Rattle.model_shapes.proofs.Truth.{false≢true, both_true}
 use Rattle.model_shapes.specs.Sorts.{Sort, shape, context, DataSort}
 use Rattle.model_shapes.specs.Tests.{same_sort, same_data_sort, same_value}
 use Rattle.model_terms.specs.Terms.{Term, literal, sum, difference, appended}
 use Rattle.model_formulas.specs.Formulas.{Formula, truth, falsity, conjunction, disjunction, implication, negation, equality, at_most, empty, bare_hole, node_formula, one_tree, one_root, concatenation, grove_sum, grove_sum_hole, application, hole_adjoint, context_adjoint, same_as, length_is, value_meets}
 use Rattle.model_formulas.specs.SameFormulas.{same_term, same_formula, same_side}
-use Rattle.rule_table.specs.Letters.{LogicVar}
+use Rattle.rule_table.specs.Letters.{Letters, LogicVar}
 use Rattle.rule_patterns.specs.Constant.{constant_formula}
-use Rattle.rule_patterns.specs.Letter.{FormulaLetter}
-use Rattle.rule_patterns.specs.Patterns.{DataPattern, some_data, this_data, SortPattern, some_sort, sort_of_x, data_sort, context_sort, either_sort, TermPattern, some_term, x_term, literal_p, sum_p, difference_p, appended_p, FormulaPattern, some_formula, replaced, truth_p, falsity_p, closed_p, conjunction_p, disjunction_p, implication_p, negation_p, exists_p, forall_p, equality_p, at_most_p, empty_p, bare_hole_p, node_p, tree_p, root_p, concatenation_p, sum_of_groves_p, sum_hole_p, application_p, hole_adjoint_p, context_adjoint_p, same_as_p, length_p, meets_p}
-use Rattle.letter_bindings.specs.Known.{place_in, term_in, data_in, Known, Agrees, with_formula, with_term, with_data}
-use Rattle.letter_bindings.specs.Matching.{then, if_so, meet, match_data, same_hole, match_hole, match_sort, match_term, match_formula}
+use Rattle.rule_patterns.specs.Patterns.{DataPattern, some_data, this_data, SortPattern, some_sort, sort_of_x, data_sort, context_sort, either_sort, TermPattern, some_term, x_term, literal_p, sum_p, difference_p, appended_p, FormulaPattern, some_formula, replaced, truth_p, falsity_p, closed_p, conjunction_p, disjunction_p, implication_p, negation_p, exists_p, forall_p, equality_p, at_most_p, empty_p, bare_hole_p, node_p, tree_p, root_p, concatenation_p, sum_of_groves_p, sum_hole_p, application_p, hole_adjoint_p, context_adjoint_p, same_as_p, length_p, meets_p, formula_of}
+use Rattle.letter_bindings.specs.Known.{place_in, term_in, data_in, Known, nothing, Agrees, Exact, with_formula, with_term, with_data}
+use Rattle.letter_bindings.specs.Matching.{then, if_so, meet, match_data, same_hole, match_hole, match_sort, match_term, match_formula, binds_simply}
 use Rattle.letter_bindings.specs.Choices.{choice}
-use Rattle.letter_bindings.specs.WithoutX.{sort_without_x, term_without_x, without_x, of_x, XUnknown, LeavesX}
+use Rattle.letter_bindings.specs.WithoutX.{sort_without_x, term_without_x, without_x, of_x, XUnknown, LeavesX, Decides}
 use Rattle.letter_bindings.proofs.Learning.{unsaid}
 use Rattle.letter_bindings.proofs.Settling.{says-read, choice-formulas, choice-terms, choice-datas}
-use Rattle.letter_bindings.proofs.RowVerdicts.{no-formula}
+use Rattle.letter_bindings.proofs.Walks.{formula-exact}
+use Rattle.letter_bindings.proofs.RowVerdicts.{no-formula, nothing-agrees}
 
 -- WALKS
 leaves-if : (c : Bool) (k : Known) → LeavesX k (if_so c k)
@@ -29,7 +29,7 @@ leaves-meet : {A : Type 0} (same : A → A → Bool) (o : Option A) (v : A) (n k
 leaves-meet same None v n k e = e
 leaves-meet same (Some w) v n k e = leaves-if (same v w) k
 
-leaves-then : (k : Known) (o : Option Known) (g : Known → Option Known) → LeavesX k o
+pub leaves-then : (k : Known) (o : Option Known) (g : Known → Option Known) → LeavesX k o
     → ((n : Known) → LeavesX n (g n)) → LeavesX k (then o g)
 leaves-then k None g h f = tt
 leaves-then k (Some n) g h f = by (g n) (f n)
@@ -38,7 +38,7 @@ leaves-then k (Some n) g h f = by (g n) (f n)
     by None e = tt
     by (Some m) e = e ∙ h
 
-leaves-data : (p : DataPattern) (h : DataSort) (k : Known) → LeavesX k (match_data p h k)
+pub leaves-data : (p : DataPattern) (h : DataSort) (k : Known) → LeavesX k (match_data p h k)
 leaves-data (some_data a) h k =
     leaves-meet same_data_sort (data_in k.datas a) h (with_data a h k) k refl
 leaves-data (this_data j) h k = leaves-if (same_data_sort j h) k
@@ -46,7 +46,7 @@ leaves-data (this_data j) h k = leaves-if (same_data_sort j h) k
 leaves-hole : (o : Option DataSort) (k : Known) → LeavesX k (match_hole o k)
 leaves-hole o k = leaves-meet same_hole k.hole o (record k { hole = Some o }) k refl
 
-leaves-sort : (p : SortPattern) → sort_without_x p ≡ true → (s : Sort) (k : Known)
+pub leaves-sort : (p : SortPattern) → sort_without_x p ≡ true → (s : Sort) (k : Known)
     → LeavesX k (match_sort p s k)
 leaves-sort some_sort t s k =
     leaves-meet same_sort k.sort s (record k { sort = Some s }) k refl
@@ -61,7 +61,7 @@ leaves-sort (either_sort p) t (context g h) k = leaves-then k (match_hole (Some 
 leaves-sort p t s k = tt
 
 -- what has two parts
-leaves-both : (k : Known) (b c : Bool) (o : Option Known) (g : Known → Option Known)
+pub leaves-both : (k : Known) (b c : Bool) (o : Option Known) (g : Known → Option Known)
     → (b ≡ true → LeavesX k o) → (c ≡ true → (n : Known) → LeavesX n (g n)) → (b && c) ≡ true
     → LeavesX k (then o g)
 leaves-both k b c o g f h t =
@@ -164,3 +164,14 @@ x-unknown-choice k e x = record {
   x_sort = unsaid _ _ (ap (λ z. z.1.1.0) e);
   put = unsaid _ _ (ap (λ z. z.1.1.1) e);
 }
+
+pub x-unknown-decides : (o : Option Known) (Q : Letters → Type 0) → Exact nothing o Q
+    → LeavesX nothing o → Decides o Q
+x-unknown-decides None Q e h = λ l. e l (nothing-agrees l)
+x-unknown-decides (Some n) Q e h = λ x. let b : Agrees (choice n x) nothing × Q (choice n x) =
+    (e (choice n x)).0 (x-unknown-choice n h x) in b.1
+
+pub formula-decided : (p : FormulaPattern) → without_x p ≡ true → binds_simply p ≡ true
+    → (f : Formula) → Decides (match_formula p f nothing) (λ l. formula_of l p ≡ f)
+formula-decided p t s f = x-unknown-decides (match_formula p f nothing) (λ l. formula_of l p ≡ f)
+    (formula-exact p s f nothing) (leaves-formula p t f nothing)

@@ -2,9 +2,10 @@
 use Rattle.std.specs.Prelude.{◌≡◌, Bool, true, false, ◌&&◌, Option, Some, None}
 use Rattle.model_shapes.specs.Sorts.{Sort}
 use Rattle.model_formulas.specs.Formulas.{Formula}
-use Rattle.rule_table.specs.Letters.{LogicVar}
+use Rattle.rule_table.specs.Letters.{Letters, LogicVar}
 use Rattle.rule_patterns.specs.Patterns.{SortPattern, sort_of_x, TermPattern, x_term, sum_p, difference_p, appended_p, FormulaPattern, replaced, conjunction_p, disjunction_p, implication_p, negation_p, exists_p, forall_p, equality_p, at_most_p, node_p, tree_p, root_p, concatenation_p, sum_of_groves_p, sum_hole_p, application_p, hole_adjoint_p, context_adjoint_p, same_as_p, length_p, meets_p}
 use Rattle.letter_bindings.specs.Known.{FormulaPlaces, Known, nothing}
+use Rattle.letter_bindings.specs.Choices.{choice}
 
 -- PATTERNS
 abbrev pub sort_without_x : SortPattern → Bool
@@ -55,3 +56,9 @@ XUnknown k = of_x k ≡ of_x nothing
 abbrev pub LeavesX : Known → Option Known → Type 0
 LeavesX k None = Unit {0}
 LeavesX k (Some n) = of_x n ≡ of_x k
+
+-- a walk from nothing decides whether some choice makes what is asked: any choice that is read off
+-- what it knows does, whatever $x is
+abbrev pub Decides : Option Known → (Letters → Type 0) → Type 0
+Decides None Q = (l : Letters) → Q l → ⊥
+Decides (Some n) Q = (x : LogicVar) → Q (choice n x)

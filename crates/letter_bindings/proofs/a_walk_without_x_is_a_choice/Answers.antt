@@ -1,4 +1,4 @@
-use Rattle.letter_bindings.proofs.WithoutX.{leaves-term, leaves-formula, x-unknown-choice}
+use Rattle.letter_bindings.proofs.WithoutX.{leaves-term, leaves-formula, x-unknown-choice, formula-decided}
 use Rattle.letter_bindings.proofs.a_walk_without_x_is_a_choice.Goals as goal
 
 pub returns-clause-terms : goal.returns-clause-terms
@@ -9,3 +9,6 @@ returns-clause-formulas c = leaves-formula
 
 pub returns-clause-choices : goal.returns-clause-choices
 returns-clause-choices c = x-unknown-choice
+
+pub returns-clause-decided : goal.returns-clause-decided
+returns-clause-decided c = formula-decided
