@@ -1,13 +1,13 @@
 -- Needn't be believed: what a walk over a row knows of the choice of the letters, and what it means
 -- that a choice agrees with it.
-use Rattle.std.specs.Prelude.{◌≡◌, Option, Some, None}
+use Rattle.std.specs.Prelude.{◌≡◌, Option, Some, None, cond}
 use Rattle.model_shapes.specs.Sorts.{Sort, DataSort}
 use Rattle.model_terms.specs.Terms.{Term}
 use Rattle.model_formulas.specs.Formulas.{Formula}
 use Rattle.model_formulas.specs.Substitution.{closing, formula_with}
 use Rattle.rule_table.specs.Letters.{Letters, LogicVar, as_logic}
 use Rattle.rule_table.specs.Notation.{instead}
-use Rattle.rule_patterns.specs.Letter.{FormulaLetter, P', Q', R', A', B', K', H', TermLetter, E', F', S', I', L', T', J', M', DataLetter, h', k', j', formula_at, term_at, data_at}
+use Rattle.rule_patterns.specs.Letter.{FormulaLetter, P', Q', R', A', B', K', H', TermLetter, E', F', S', I', L', T', J', M', G', V', Y', N', DataLetter, h', k', j', formula_at, term_at, data_at, same_formula_letter, same_term_letter, same_data_letter}
 
 -- what is known of each letter
 pub record FormulaPlaces : Type 0 where
@@ -28,6 +28,10 @@ pub record TermPlaces : Type 0 where
   pub T : Option Term
   pub J : Option Term
   pub M : Option Term
+  pub G : Option Term
+  pub V : Option Term
+  pub Y : Option Term
+  pub N : Option Term
 
 pub record DataPlaces : Type 0 where
   pub h : Option DataSort
@@ -52,6 +56,10 @@ term_in ts L' = ts.L
 term_in ts T' = ts.T
 term_in ts J' = ts.J
 term_in ts M' = ts.M
+term_in ts G' = ts.G
+term_in ts V' = ts.V
+term_in ts Y' = ts.Y
+term_in ts N' = ts.N
 
 abbrev pub data_in : DataPlaces → DataLetter → Option DataSort
 data_in ds h' = ds.h
@@ -71,29 +79,47 @@ pub record Known : Type 0 where
   pub x_sort : Option Sort
   pub put : Option Formula
 
--- at first nothing is known
-abbrev pub no_formulas : FormulaPlaces
-no_formulas = record {
-  P = None;
-  Q = None;
-  R = None;
-  A = None;
-  B = None;
-  K = None;
-  H = None;
+-- letter by letter
+abbrev pub places_by : (FormulaLetter → Option Formula) → FormulaPlaces
+places_by f = record {
+  P = f P';
+  Q = f Q';
+  R = f R';
+  A = f A';
+  B = f B';
+  K = f K';
+  H = f H';
 }
 
-abbrev pub no_terms : TermPlaces
-no_terms = record {
-  E = None;
-  F = None;
-  S = None;
-  I = None;
-  L = None;
-  T = None;
-  J = None;
-  M = None;
+abbrev pub terms_by : (TermLetter → Option Term) → TermPlaces
+terms_by f = record {
+  E = f E';
+  F = f F';
+  S = f S';
+  I = f I';
+  L = f L';
+  T = f T';
+  J = f J';
+  M = f M';
+  G = f G';
+  V = f V';
+  Y = f Y';
+  N = f N';
 }
+
+abbrev pub datas_by : (DataLetter → Option DataSort) → DataPlaces
+datas_by f = record {
+  h = f h';
+  k = f k';
+  j = f j';
+}
+
+-- at first nothing is known
+abbrev pub no_formulas : FormulaPlaces
+no_formulas = places_by (λ a. None)
+
+abbrev pub no_terms : TermPlaces
+no_terms = terms_by (λ a. None)
 
 abbrev pub nothing : Known
 nothing = record {
@@ -110,28 +136,13 @@ nothing = record {
 
 -- WHAT IS LEARNT
 abbrev pub put_place : FormulaLetter → Formula → FormulaPlaces → FormulaPlaces
-put_place P' p ps = record ps { P = Some p }
-put_place Q' p ps = record ps { Q = Some p }
-put_place R' p ps = record ps { R = Some p }
-put_place A' p ps = record ps { A = Some p }
-put_place B' p ps = record ps { B = Some p }
-put_place K' p ps = record ps { K = Some p }
-put_place H' p ps = record ps { H = Some p }
+put_place a p ps = places_by (λ b. cond (same_formula_letter b a) (Some p) (place_in ps b))
 
 abbrev pub put_term : TermLetter → Term → TermPlaces → TermPlaces
-put_term E' t ts = record ts { E = Some t }
-put_term F' t ts = record ts { F = Some t }
-put_term S' t ts = record ts { S = Some t }
-put_term I' t ts = record ts { I = Some t }
-put_term L' t ts = record ts { L = Some t }
-put_term T' t ts = record ts { T = Some t }
-put_term J' t ts = record ts { J = Some t }
-put_term M' t ts = record ts { M = Some t }
+put_term a t ts = terms_by (λ b. cond (same_term_letter b a) (Some t) (term_in ts b))
 
 abbrev pub put_data : DataLetter → DataSort → DataPlaces → DataPlaces
-put_data h' d ds = record ds { h = Some d }
-put_data k' d ds = record ds { k = Some d }
-put_data j' d ds = record ds { j = Some d }
+put_data a d ds = datas_by (λ b. cond (same_data_letter b a) (Some d) (data_in ds b))
 
 abbrev pub with_formula : FormulaLetter → Formula → Known → Known
 with_formula a p k = record k { formulas = put_place a p k.formulas }

@@ -5,3 +5,4 @@ pub mod Settled
 pub mod Lines
 pub mod Choices
 pub mod Bodies
+pub mod WithoutX

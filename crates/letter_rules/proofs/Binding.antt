@@ -7,11 +7,12 @@ use Rattle.model_formulas.specs.Substitution.{formula_with, closing}
 use Rattle.rule_table.specs.Letters.{Letters, LogicVar, as_logic}
 use Rattle.rule_table.specs.Notation.{for_some}
 use Rattle.rule_table.proofs.SomeLetters.{plain_letters}
-use Rattle.rule_patterns.specs.Letter.{FormulaLetter, P', Q', R', A', B', K', H', TermLetter, E', F', S', I', L', T', J', M', DataLetter, h', k', j', formula_at, term_at, data_at}
-use Rattle.letter_bindings.specs.Known.{FormulaPlaces, Known, Says, Agrees, nothing, no_formulas, place_in, term_in, data_in}
+use Rattle.rule_patterns.specs.Letter.{FormulaLetter, P', Q', R', A', B', K', H', formula_at}
+use Rattle.letter_bindings.specs.Known.{FormulaPlaces, Known, Says, Agrees, nothing, no_formulas, place_in}
 use Rattle.letter_bindings.specs.Settled.{settle}
 use Rattle.letter_bindings.specs.Choices.{IsBody, IsBodyAt, choice}
 use Rattle.letter_bindings.proofs.Settling.{settled-agrees, settled-new, agrees-settles}
+use Rattle.letter_bindings.proofs.RowVerdicts.{nothing-agrees}
 use Rattle.letter_rules.specs.EliminateTests.{known_of}
 
 -- THE VARIABLE that both existentials bind
@@ -134,27 +135,12 @@ module _ (s : Sort) (before behind : Formula) where
     below K' = tt
     below H' = tt
 
-    terms : (a : TermLetter) → Says (term_in nothing.terms a) (term_at letters a)
-    terms E' = tt
-    terms F' = tt
-    terms S' = tt
-    terms I' = tt
-    terms L' = tt
-    terms T' = tt
-    terms J' = tt
-    terms M' = tt
-
-    datas : (a : DataLetter) → Says (data_in nothing.datas a) (data_at letters a)
-    datas h' = tt
-    datas k' = tt
-    datas j' = tt
-
     agrees : Agrees letters (known_of s p q before behind)
     agrees = record {
       formulas = formulas;
       belows = below;
-      terms = terms;
-      datas = datas;
+      terms = (nothing-agrees letters).terms;
+      datas = (nothing-agrees letters).datas;
       sort = tt;
       hole = tt;
       x = tt;

@@ -49,6 +49,10 @@ term_letter_in tl.L = letter.L'
 term_letter_in tl.T = letter.T'
 term_letter_in tl.J = letter.J'
 term_letter_in tl.M = letter.M'
+term_letter_in tl.G = letter.G'
+term_letter_in tl.V = letter.V'
+term_letter_in tl.Y = letter.Y'
+term_letter_in tl.N = letter.N'
 
 abbrev pub data_letter_in : DataLetter → letter.DataLetter
 data_letter_in dl.H = letter.h'

@@ -22,6 +22,10 @@ pub enum TermLetter {
     T,
     J,
     M,
+    G,
+    V,
+    Y,
+    N,
 }
 
 /// A letter for data sorts.

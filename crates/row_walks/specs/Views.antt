@@ -34,6 +34,10 @@ terms_at t ts = record {
   T = option_map (term_at t) ts.t;
   J = option_map (term_at t) ts.j;
   M = option_map (term_at t) ts.m;
+  G = option_map (term_at t) ts.g;
+  V = option_map (term_at t) ts.v;
+  Y = option_map (term_at t) ts.y;
+  N = option_map (term_at t) ts.n;
 }
 
 abbrev pub datas_of : Datas → known.DataPlaces

@@ -100,6 +100,14 @@ pub struct Terms {
     pub j: Option<u32>,
     /// That of M.
     pub m: Option<u32>,
+    /// That of G.
+    pub g: Option<u32>,
+    /// That of V.
+    pub v: Option<u32>,
+    /// That of Y.
+    pub y: Option<u32>,
+    /// That of N.
+    pub n: Option<u32>,
 }
 
 impl Terms {
@@ -116,6 +124,10 @@ impl Terms {
             t: None,
             j: None,
             m: None,
+            g: None,
+            v: None,
+            y: None,
+            n: None,
         }
     }
 
@@ -133,6 +145,10 @@ impl Terms {
             TermLetter::T => self.t,
             TermLetter::J => self.j,
             TermLetter::M => self.m,
+            TermLetter::G => self.g,
+            TermLetter::V => self.v,
+            TermLetter::Y => self.y,
+            TermLetter::N => self.n,
         }
     }
 
@@ -151,6 +167,10 @@ impl Terms {
             TermLetter::T => self.t = Some(number),
             TermLetter::J => self.j = Some(number),
             TermLetter::M => self.m = Some(number),
+            TermLetter::G => self.g = Some(number),
+            TermLetter::V => self.v = Some(number),
+            TermLetter::Y => self.y = Some(number),
+            TermLetter::N => self.n = Some(number),
         }
     }
 }

@@ -12,7 +12,7 @@ pub data FormulaLetter : Type 0 where
 
 -- terms
 pub data TermLetter : Type 0 where
-  E' F' S' I' L' T' J' M' : TermLetter
+  E' F' S' I' L' T' J' M' G' V' Y' N' : TermLetter
 
 -- data sorts
 pub data DataLetter : Type 0 where
@@ -37,6 +37,10 @@ term_at l L' = l.L
 term_at l T' = l.T
 term_at l J' = l.J
 term_at l M' = l.M
+term_at l G' = l.G
+term_at l V' = l.V
+term_at l Y' = l.Y
+term_at l N' = l.N
 
 abbrev pub data_at : Letters → DataLetter → DataSort
 data_at l h' = l.h
@@ -63,6 +67,10 @@ same_term_letter L' L' = true
 same_term_letter T' T' = true
 same_term_letter J' J' = true
 same_term_letter M' M' = true
+same_term_letter G' G' = true
+same_term_letter V' V' = true
+same_term_letter Y' Y' = true
+same_term_letter N' N' = true
 same_term_letter a b = false
 
 abbrev pub same_data_letter : DataLetter → DataLetter → Bool
