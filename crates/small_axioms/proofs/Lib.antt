@@ -1,0 +1,7 @@
+pub mod Called
+pub mod Sound
+pub mod Commands
+pub mod Walked
+pub mod Fitting
+pub mod Conditions
+pub mod Verdicts
