@@ -1,5 +1,5 @@
 -- What is asked of the variable that a command sets holds where the test says so.
-use Rattle.std.proofs.Common.{◌≡◌, refl, sym, ◌∙◌, true, false, Option, Some, None}
+use Rattle.std.proofs.Common.{◌≡◌, refl, sym, ◌∙◌, true, false, List, [], ◌∷◌, Option, Some, None}
 use Rattle.model_shapes.proofs.Truth.{false≢true}
 use Rattle.model_terms.specs.Stores.{ProgVar, named, as_var}
 use Rattle.model_terms.specs.Terms.{Term}

@@ -4,4 +4,5 @@ pub mod Commands
 pub mod Walked
 pub mod Fitting
 pub mod Conditions
-pub mod Verdicts
+pub mod Exact
+pub mod Numbered

@@ -72,7 +72,7 @@ module _ (a : AxiomPattern) (ready : row_ready (as_entailment a) ≡ true) (c : 
   walked-some e =
       let m : RowIs (λ l. line_of l line) w instance_verdict =
       subst (λ b. RowIs (λ l. line_of l line) w (verdict_if b)) e verdict in
-      let h = m.1.0.0.1.1 in
+      let h = m.1.0.0.2 in
       (m.0, record { terms = m.1.0.0.0; pre = cc; post = cc; sort = cc })
 
   -- and the other way round

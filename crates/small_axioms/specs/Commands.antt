@@ -1,6 +1,6 @@
 -- Needn't be believed: the promises speak of the table of rules. The terms of a command of the
 -- document and the variable that it sets, as the letters of its axioms.
-use Rattle.std.specs.Prelude.{List, [], ◌∷◌, Some}
+use Rattle.std.specs.Prelude.{List, [], ◌∷◌, Option, Some, None}
 use Rattle.model_terms.specs.Terms.{Term}
 use Rattle.model_terms.specs.Stores.{ProgVar}
 use Rattle.model_commands.specs.Commands.{Command, create_node, node_name, child_nodes, parent_node, list_item, append_child, remove_child, insert_before}
@@ -42,24 +42,22 @@ terms_in (remove_child e f) = e ∷ f ∷ []
 terms_in (insert_before e f g) = e ∷ f ∷ g ∷ []
 terms_in c = []
 
--- what is known of the letters
-abbrev pub reading : ProgVar → Term → Known
-reading x e = record nothing { terms = record no_terms { E = Some e; N = Some (prog_term x) } }
+-- what is known of the letters E, F, G and N
+abbrev pub known_terms : Option Term → Option Term → Option Term → Option Term → Known
+known_terms e f g n = record nothing {
+  terms = record no_terms { E = e; F = f; G = g; N = n };
+}
 
-abbrev pub moving : Term → Term → Known
-moving e f = record nothing { terms = record no_terms { E = Some e; F = Some f } }
+abbrev pub reading : ProgVar → Term → Known
+reading x e = known_terms (Some e) None None (Some (prog_term x))
 
 abbrev pub known_of : Command → Known
 known_of (create_node x e) = reading x e
 known_of (node_name x e) = reading x e
 known_of (child_nodes x e) = reading x e
 known_of (parent_node x e) = reading x e
-known_of (list_item x e f) = record nothing {
-  terms = record no_terms { E = Some e; F = Some f; N = Some (prog_term x) };
-}
-known_of (append_child e f) = moving e f
-known_of (remove_child e f) = moving e f
-known_of (insert_before e f g) = record nothing {
-  terms = record no_terms { E = Some e; F = Some f; G = Some g };
-}
+known_of (list_item x e f) = known_terms (Some e) (Some f) None (Some (prog_term x))
+known_of (append_child e f) = known_terms (Some e) (Some f) None None
+known_of (remove_child e f) = known_terms (Some e) (Some f) None None
+known_of (insert_before e f g) = known_terms (Some e) (Some f) (Some g) None
 known_of c = nothing

@@ -80,5 +80,5 @@ pub record IsTied (row : Row) (a : AxiomPattern) : Type 0 where
 
 abbrev pub AllTied : List Row → List AxiomPattern → Type 0
 AllTied [] [] = Unit {0}
-AllTied (row ∷ rows) (a ∷ as) = IsTied row a × AllTied rows as
-AllTied rows as = ⊥
+AllTied (row ∷ rows) (a ∷ ps) = IsTied row a × AllTied rows ps
+AllTied rows ps = ⊥

@@ -61,7 +61,7 @@ fits a c k p q d = is_kind a.kind c && (walks a k p q d && says_new a.kind k p q
 
 abbrev pub fits_one : List AxiomPattern → Command → Known → Formula → Formula → DataSort → Bool
 fits_one [] c k p q d = false
-fits_one (a ∷ as) c k p q d = fits a c k p q d || fits_one as c k p q d
+fits_one (a ∷ ps) c k p q d = fits a c k p q d || fits_one ps c k p q d
 
 -- the variable stands in what the command finds there
 abbrev pub is_in_name : Var → Option Term → Bool

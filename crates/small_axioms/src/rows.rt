@@ -153,7 +153,7 @@ const INSERT_LAST: Rows = &[
 
 /// The lines of the axiom.
 pub(crate) fn rows_of(rule: Axiom) -> Rows
-    ensures { AllTied (readings_in axioms (name_of rule)) (patterns_in result) }
+    ensures { AllTied (readings_in axioms (name_of rule)) (patterns_in result.now) }
 {
     match rule {
         Axiom::Name => NAME,

@@ -1,6 +1,6 @@
 -- The verdict by the rows of an axiom follows from the tests.
-use Rattle.std.proofs.Common.{◌≡◌, refl, sym, ap, ◌∙◌, subst, inl, inr, ⊎_elim, Bool, true, false, ◌||◌, ◌↔◌, IsTrue, ℕ, List, [], ◌∷◌, map, Option, Some, None}
-use Rattle.std.proofs.lemmas.Bool.{or_cases, or_left, or_right}
+use Rattle.std.proofs.Common.{◌≡◌, refl, sym, ap, ◌∙◌, subst, inl, inr, ⊎_elim, Bool, true, false, ◌||◌, ◌↔◌, IsTrue, ℕ, ◌==◌, List, [], ◌∷◌, length, Option, Some, None, arith}
+use Rattle.std.proofs.lemmas.Bool.{ne_eqb, or_cases, or_left, or_right}
 use Rattle.model_shapes.specs.Sorts.{DataSort}
 use Rattle.model_shapes.proofs.Truth.{false≢true}
 use Rattle.model_terms.specs.Terms.{Term}
@@ -22,55 +22,55 @@ use Rattle.small_axioms.proofs.Conditions.{unset-holds, set-fails}
 use Rattle.small_axioms.proofs.Fitting.{plain, fits-line, line-fits}
 
 -- SOME LINE of the rows, each of which is that of its conclusion
-some-line : (rows : List Row) (as : List AxiomPattern) → AllTied rows as → (P Q : Line → Type 0)
+some-line : (rows : List Row) (ps : List AxiomPattern) → AllTied rows ps → (P Q : Line → Type 0)
     → ((line : Line) → line ≡ line_for line.conclusion → P line → Q line) → SomeLine rows P
     → SomeLine rows Q
-some-line [] as t P Q f m = m
+some-line [] ps t P Q f m = m
 some-line (row ∷ rows) [] t P Q f m = absurd t
-some-line (row ∷ rows) (a ∷ as) t P Q f m =
+some-line (row ∷ rows) (a ∷ ps) t P Q f m =
     ⊎_elim (λ x. inl (x.0, f (row x.0) (plain row a t.0 x.0) x.1))
-    (λ y. inr (some-line rows as t.1 P Q f y)) m
+    (λ y. inr (some-line rows ps t.1 P Q f y)) m
 
 no-line : (rows : List Row) → SomeLine rows (λ line. ⊥) → ⊥
 no-line [] m = m
 no-line (row ∷ rows) m = ⊎_elim (λ x. x.1) (no-line rows) m
 
 -- no row makes a line where there is an argument
-pub argument-refused : (rows : List Row) (as : List AxiomPattern) → AllTied rows as
+pub argument-refused : (rows : List Row) (ps : List AxiomPattern) → AllTied rows ps
     → (e : Term) (es : List Term) (premises : Option (List Judgement)) (j : Judgement)
     → IsVerdict rows (record { arguments = e ∷ es; premises = premises; conclusion = j })
     shape_verdict
-argument-refused rows as t e es premises j m =
-    no-line rows (some-line rows as t _ (λ line. ⊥)
+argument-refused rows ps t e es premises j m =
+    no-line rows (some-line rows ps t _ (λ line. ⊥)
     (λ line h c. let f = sym (ap (λ (l : Line). l.arguments) h) ∙ c.0 in absurd cc) m)
 
 module _ (c : Command) (p q : Formula) (d : DataSort) (sorted : BindsSorted p × BindsSorted q) where
   abbrev j : Judgement
   j = triple p c q d
 
-  fits-some : (rows : List Row) (as : List AxiomPattern) → AllTied rows as
-      → fits_one as c (known_of c) p q d ≡ true → SomeLine rows (λ line. line ≡ line_for j)
+  fits-some : (rows : List Row) (ps : List AxiomPattern) → AllTied rows ps
+      → fits_one ps c (known_of c) p q d ≡ true → SomeLine rows (λ line. line ≡ line_for j)
   fits-some [] [] t e = false≢true e
-  fits-some (row ∷ rows) (a ∷ as) t e =
+  fits-some (row ∷ rows) (a ∷ ps) t e =
       ⊎_elim (λ f. inl (fits-line row a t.0 c p q d sorted f))
-      (λ f. inr (fits-some rows as t.1 f))
-      (or_cases (fits a c (known_of c) p q d) (fits_one as c (known_of c) p q d) e)
-  fits-some [] (a ∷ as) t e = absurd t
+      (λ f. inr (fits-some rows ps t.1 f))
+      (or_cases (fits a c (known_of c) p q d) (fits_one ps c (known_of c) p q d) e)
+  fits-some [] (a ∷ ps) t e = absurd t
   fits-some (row ∷ rows) [] t e = absurd t
 
-  some-fits : (rows : List Row) (as : List AxiomPattern) → AllTied rows as
-      → SomeLine rows (λ line. line.conclusion ≡ j) → fits_one as c (known_of c) p q d ≡ true
-  some-fits [] as t m = absurd m
+  some-fits : (rows : List Row) (ps : List AxiomPattern) → AllTied rows ps
+      → SomeLine rows (λ line. line.conclusion ≡ j) → fits_one ps c (known_of c) p q d ≡ true
+  some-fits [] ps t m = absurd m
   some-fits (row ∷ rows) [] t m = absurd t
-  some-fits (row ∷ rows) (a ∷ as) t m =
+  some-fits (row ∷ rows) (a ∷ ps) t m =
       ⊎_elim
-      (λ x. or_left (fits a c (known_of c) p q d) (fits_one as c (known_of c) p q d)
+      (λ x. or_left (fits a c (known_of c) p q d) (fits_one ps c (known_of c) p q d)
       (line-fits row a t.0 c p q d sorted x.0 x.1))
-      (λ y. or_right (fits a c (known_of c) p q d) (fits_one as c (known_of c) p q d)
-      (some-fits rows as t.1 y)) m
+      (λ y. or_right (fits a c (known_of c) p q d) (fits_one ps c (known_of c) p q d)
+      (some-fits rows ps t.1 y)) m
 
   -- THE VERDICT
-  module _ (rows : List Row) (as : List AxiomPattern) (t : AllTied rows as)
+  module _ (rows : List Row) (ps : List AxiomPattern) (t : AllTied rows ps)
       (premises : Option (List Judgement)) where
     abbrev w : Written
     w = record { arguments = []; premises = premises; conclusion = j }
@@ -80,28 +80,28 @@ module _ (c : Command) (p q : Formula) (d : DataSort) (sorted : BindsSorted p ×
         → line ≡ line_for j
     the-line line h e = h ∙ ap line_for e
 
-    found : (P : Line → Type 0) → P (line_for j) → fits_one as c (known_of c) p q d ≡ true
+    found : (P : Line → Type 0) → P (line_for j) → fits_one ps c (known_of c) p q d ≡ true
         → SomeLine rows P
     found P h e =
-        some-line rows as t (λ line. line ≡ line_for j) P (λ line g f. subst P (sym f) h)
-        (fits-some rows as t e)
+        some-line rows ps t (λ line. line ≡ line_for j) P (λ line g f. subst P (sym f) h)
+        (fits-some rows ps t e)
 
     none : (P : Line → Type 0) → ((line : Line) → P line → line.conclusion ≡ j)
         → (P (line_for j) → ⊥) → SomeLine rows P → ⊥
     none P f h m =
-        no-line rows (some-line rows as t P (λ line. ⊥)
+        no-line rows (some-line rows ps t P (λ line. ⊥)
         (λ line g x. h (subst P (the-line line g (f line x)) x)) m)
 
     pub exact : (fitting cites_nothing set : Bool)
-        → fits_one as c (known_of c) p q d ≡ fitting → IsTrue cites_nothing ↔ (Some [] ≡ premises)
+        → fits_one ps c (known_of c) p q d ≡ fitting → IsTrue cites_nothing ↔ (Some [] ≡ premises)
         → is_assigned c (known_of c) p q ≡ set
         → IsVerdict rows w (verdict_where fitting cites_nothing set)
-    exact false cites_nothing set e f g m =
-        false≢true (sym e ∙ some-fits rows as t
-        (some-line rows as t (Concludes w) (λ line. line.conclusion ≡ j) (λ line h x. x.1.1) m))
+    exact false cites_nothing set e f g =
+        λ m. false≢true (sym e ∙ some-fits rows ps t
+        (some-line rows ps t (Concludes w) (λ line. line.conclusion ≡ j) (λ line h x. x.2) m))
     exact true false set e f g = (
       found (Concludes w) (refl, tt, refl) e,
-      none (Follows w) (λ line x. x.0.1.1) (λ x. false≢true (f.1 x.1)),
+      none (Follows w) (λ line x. x.0.2) (λ x. false≢true (f.1 x.1)),
     )
     exact true true false e f g =
         found (MeetsAll w) (((refl, tt, refl), f.0 refl), unset-holds c p q g) e
@@ -110,7 +110,7 @@ module _ (c : Command) (p q : Formula) (d : DataSort) (sorted : BindsSorted p ×
           0,
           found (λ line. MeetsFirst 0 w line × (side_at 0 line.conditions ≡ Some assigned_side))
               ((((refl, tt, refl), f.0 refl), tt), h.0) e,
-          none (MeetsFirst 1 w) (λ line x. x.0.0.1.1) (λ x. h.1 x.1),
+          none (MeetsFirst 1 w) (λ line x. x.0.0.2) (λ x. h.1 x.1),
         )
 
 -- WHAT IS CITED is nothing, or isn't there
@@ -123,6 +123,6 @@ pub cites-none : (earlier : List Step) (ns : List ℕ) (b : Bool) → b ≡ (len
     → IsTrue b ↔ (Some [] ≡ cited earlier ns)
 cites-none earlier [] b e = (λ h. refl, λ h. e)
 cites-none earlier (n ∷ ns) b e = (
-  λ h. let f = sym e ∙ h in absurd cc,
+  λ h. false≢true (sym (ne_eqb (length (n ∷ ns)) 0 (λ f. omega arith)) ∙ (sym e ∙ h)),
   λ h. absurd (front-some (judgement_numbered n earlier) (cited earlier ns) h),
 )
