@@ -1,5 +1,5 @@
 -- The verdict by the rows of an axiom follows from the tests.
-use Rattle.std.proofs.Common.{◌≡◌, refl, sym, ap, ◌∙◌, subst, inl, inr, ⊎_elim, Bool, true, false, ◌||◌, ◌↔◌, IsTrue, ℕ, ◌==◌, List, [], ◌∷◌, length, Option, Some, None, arith}
+use Rattle.std.proofs.Common.{◌≡◌, refl, sym, ap, ◌∙◌, subst, inl, inr, ⊎_elim, Bool, true, false, ◌||◌, ◌↔◌, IsTrue, ℕ, ◌==◌, List, [], ◌∷◌, length, map, Option, Some, None, arith}
 use Rattle.std.proofs.lemmas.Bool.{ne_eqb, or_cases, or_left, or_right}
 use Rattle.model_shapes.specs.Sorts.{DataSort}
 use Rattle.model_shapes.proofs.Truth.{false≢true}
@@ -13,6 +13,8 @@ use Rattle.rule_table.specs.Entries.{Row}
 use Rattle.rule_table.specs.Letters.{Letters}
 use Rattle.rule_table.specs.Lines.{Line}
 use Rattle.rule_table.specs.Verdicts.{Written, Concludes, Follows, MeetsFirst, MeetsAll, SomeLine, side_at, IsVerdict, shape_verdict}
+use Rattle.dom_terms.specs.Terms.{term_of}
+use Rattle.dom_terms.specs.declared.terms.Term as terms
 use Rattle.letter_bindings.specs.Bodies.{BindsSorted}
 use Rattle.small_axioms.specs.Commands.{known_of}
 use Rattle.small_axioms.specs.Lines.{line_for, asked, AllTied}
@@ -126,3 +128,10 @@ cites-none earlier (n ∷ ns) b e = (
   λ h. false≢true (sym (ne_eqb (length (n ∷ ns)) 0 (λ f. omega arith)) ∙ (sym e ∙ h)),
   λ h. absurd (front-some (judgement_numbered n earlier) (cited earlier ns) h),
 )
+
+-- no argument
+pub no-arguments : (arguments : List terms.Term) → (length arguments == 0) ≡ true
+    → map term_of arguments ≡ []
+no-arguments [] e = refl
+no-arguments (a ∷ others) e =
+    false≢true (sym (ne_eqb (length (a ∷ others)) 0 (λ f. omega arith)) ∙ e)
