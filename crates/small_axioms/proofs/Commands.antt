@@ -1,5 +1,5 @@
 -- The terms of a command are the letters of its kind.
-use Rattle.std.proofs.Common.{◌≡◌, refl, sym, ap, ap₂, true, List, [], ◌∷◌, Some}
+use Rattle.std.proofs.Common.{◌≡◌, refl, sym, ap, ap₂, true, [], Some}
 use Rattle.model_shapes.specs.Sorts.{node_sort}
 use Rattle.model_shapes.proofs.Truth.{false≢true}
 use Rattle.model_terms.specs.Stores.{ProgVar, named}

@@ -1,5 +1,5 @@
 -- The verdict by the rows of an axiom follows from the tests.
-use Rattle.std.proofs.Common.{◌≡◌, refl, sym, ap, ◌∙◌, subst, inl, inr, ⊎_elim, Bool, true, false, ◌||◌, ◌↔◌, IsTrue, ℕ, ◌==◌, List, [], ◌∷◌, length, map, Option, Some, None, arith}
+use Rattle.std.proofs.Common.{◌≡◌, refl, sym, ap, ◌∙◌, subst, inl, inr, ⊎_elim, Bool, true, false, ◌↔◌, IsTrue, ℕ, ◌==◌, List, [], ◌∷◌, length, map, Option, Some, None, arith}
 use Rattle.std.proofs.lemmas.Bool.{ne_eqb, or_cases, or_left, or_right}
 use Rattle.model_shapes.specs.Sorts.{DataSort}
 use Rattle.model_shapes.proofs.Truth.{false≢true}
@@ -10,14 +10,13 @@ use Rattle.model_commands.specs.Theories.{Judgement, Step, triple}
 use Rattle.rule_table.specs.Accepted.{judgement_numbered, in_front, cited}
 use Rattle.rule_table.specs.Conditions.{assigned_side}
 use Rattle.rule_table.specs.Entries.{Row}
-use Rattle.rule_table.specs.Letters.{Letters}
 use Rattle.rule_table.specs.Lines.{Line}
 use Rattle.rule_table.specs.Verdicts.{Written, Concludes, Follows, MeetsFirst, MeetsAll, SomeLine, side_at, IsVerdict, shape_verdict}
 use Rattle.dom_terms.specs.Terms.{term_of}
 use Rattle.dom_terms.specs.declared.terms.Term as terms
 use Rattle.letter_bindings.specs.Bodies.{BindsSorted}
 use Rattle.small_axioms.specs.Commands.{known_of}
-use Rattle.small_axioms.specs.Lines.{line_for, asked, AllTied}
+use Rattle.small_axioms.specs.Lines.{line_for, AllTied}
 use Rattle.small_axioms.specs.Patterns.{AxiomPattern}
 use Rattle.small_axioms.specs.Tests.{fits, fits_one, is_assigned, verdict_where}
 use Rattle.small_axioms.proofs.Conditions.{unset-holds, set-fails}

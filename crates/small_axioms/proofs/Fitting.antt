@@ -4,7 +4,6 @@ use Rattle.model_shapes.specs.Sorts.{DataSort}
 use Rattle.model_shapes.proofs.Truth.{false≢true, both_true, and_from}
 use Rattle.model_terms.specs.Stores.{ProgVar}
 use Rattle.model_formulas.specs.Formulas.{Formula}
-use Rattle.model_formulas.specs.SameFormulas.{same_formula}
 use Rattle.model_formulas.proofs.SameFormulas.{same_formula-is, same_formula-refl}
 use Rattle.model_commands.specs.Commands.{Command, create_node}
 use Rattle.model_commands.specs.Theories.{Judgement, triple}
@@ -21,7 +20,7 @@ use Rattle.small_axioms.specs.Parts.{name_in, new_root}
 use Rattle.small_axioms.specs.Patterns.{AxiomPattern}
 use Rattle.small_axioms.specs.Tests.{is_kind, walks, is_new, says_new, fits}
 use Rattle.small_axioms.proofs.Commands.{target, IsNew, own-again, kind-self, terms-self, command-from}
-use Rattle.small_axioms.proofs.Walked.{Makes, walked-some, walked-all}
+use Rattle.small_axioms.proofs.Walked.{walked-some, walked-all}
 
 -- THE FORMULA AFTER createNode
 new-from : (kind : Kind) (a : AxiomPattern) (c : Command) (l : Letters) (p q : Formula)

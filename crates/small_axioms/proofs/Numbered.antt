@@ -3,7 +3,7 @@ use Rattle.std.proofs.Common.{◌≡◌, refl, ap, ℕ, Option, Some, None}
 use Rattle.std.specs.Option.{option_map}
 use Rattle.model_terms.specs.Terms.{Term}
 use Rattle.formula_table.specs.Forms.{term_at}
-use Rattle.formula_table.specs.Interning.{IsTerm, TermsGrow}
+use Rattle.formula_table.specs.Interning.{TermsGrow}
 use Rattle.formula_table.specs.declared.tables.Table.{Table}
 use Rattle.formula_table.proofs.KeptNumbers.{terms_grow-refl, terms_grow-trans, term-grown}
 use Rattle.small_axioms.specs.Numbers.{IsTermIn}

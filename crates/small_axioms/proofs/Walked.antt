@@ -1,6 +1,6 @@
 -- The walk over the formulas of a triple is exact: as over an entailment whose arguments are the
 -- terms of the command.
-use Rattle.std.proofs.Common.{◌≡◌, refl, sym, ap, ◌∙◌, subst, Bool, true, false, cond, is_some, [], Option, Some, None}
+use Rattle.std.proofs.Common.{◌≡◌, refl, ap, ◌∙◌, subst, Bool, true, false, cond, is_some, [], Option, Some, None}
 use Rattle.model_shapes.specs.Sorts.{DataSort, shape}
 use Rattle.model_formulas.specs.Formulas.{Formula}
 use Rattle.model_commands.specs.Commands.{Command}

@@ -1,7 +1,6 @@
 -- Each number is still that of its term when the last one was added.
 use Rattle.std.proofs.Common.{◌∙◌}
 use Rattle.formula_table.proofs.KeptNumbers.{terms_grow-refl, terms_grow-trans}
-use Rattle.formula_table.specs.declared.tables.Table.{Table}
 use Rattle.formula_table.specs.Interning.{TermsGrow}
 use Rattle.small_axioms.specs.Commands.{known_terms}
 use Rattle.small_axioms.proofs.Numbered.{still}
