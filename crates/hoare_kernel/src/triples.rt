@@ -78,7 +78,7 @@ fn verdict_named(
 {
     match triple_rule_of(name) {
         Some(rule) => verdict_of(alloc, table, rule, written, callees),
-        None => Ok(axiom_by(name, written)),
+        None => axiom_by(alloc, table, name, written),
     }
 }
 

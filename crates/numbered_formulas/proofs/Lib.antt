@@ -1,3 +1,4 @@
 pub mod FirstFound
 pub mod Under
 pub mod OneHead
+pub mod KeptVariables

@@ -14,7 +14,7 @@ mod variables;
 
 pub use closed::is_closed;
 pub use finding::bound_in;
-pub use occurring::{is_free, is_pure};
-pub use shifting::{Shift, is_shifted};
+pub use occurring::{is_free, is_in_term, is_pure, stands_free};
+pub use shifting::{Shift, is_shifted, is_term_raised};
 pub use sorting::has_sort_at;
-pub use variables::{Variable, same_variables};
+pub use variables::{Unbound, Variable, is_bound, same_variables};

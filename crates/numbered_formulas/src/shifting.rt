@@ -1,7 +1,7 @@
 // Whether one formula is another shifted: closed over a variable, raised, or opened.
 ghost use Rattle.std.specs.Prelude.{IfSome, IsNone, ◌≡◌, ◌+◌, ◌<◌, ◌^◌};
 ghost use Rattle.model_terms.specs.Variables.{bound};
-ghost use Rattle.model_terms.specs.Terms.{term_with};
+ghost use Rattle.model_terms.specs.Terms.{raised, term_with};
 ghost use Rattle.model_formulas.specs.Substitution.{formula_with};
 ghost use Rattle.model_formulas.specs.SameFormulas.{same_formula, same_term};
 ghost use Rattle.rule_table.specs.Letters.{as_logic};
@@ -146,6 +146,13 @@ fn is_bound_shifted(
         Shift::Open(_) => is_bound(table, u64::from(place) - 1, sort, to),
         Shift::Close(_) | Shift::Raise => is_bound(table, u64::from(place) + 1, sort, to),
     }
+}
+
+/// Whether the second term is the first one below one binder more.
+pub fn is_term_raised(table: &Table, from: u32, to: u32) -> bool
+    ensures { result ≡ same_term (raised (term_at table.now from)) (term_at table.now to) }
+{
+    is_raised(table, 1, from, to)
 }
 
 // whether the second term is the first one below so many more binders

@@ -9,7 +9,7 @@ ghost use Rattle.model_terms.specs.VariableTests.{same_var};
 ghost use Rattle.rule_table.specs.Letters.{as_logic};
 ghost use Rattle.numbered_formulas.specs.Variables.{variable_at};
 
-use dom_terms::{Sort, same_sort};
+use dom_terms::{Sort, ValueSort, same_sort};
 use formula_table::{Table, TermRow};
 
 /// A variable of the logic: the number of its name, and its sort.
@@ -21,6 +21,15 @@ pub struct Variable {
     pub sort: Sort,
 }
 
+/// A variable that no quantifier binds: of the logic, or of a program, whose name has the number.
+#[derive(Clone, Copy)]
+pub enum Unbound {
+    /// One of the logic.
+    Logic(Variable),
+    /// One of a program, and its sort.
+    Prog(u32, ValueSort),
+}
+
 /// Whether the two stand for one variable.
 pub fn same_variables(table: &Table, left: Variable, right: Variable) -> bool
     ensures { result ≡ same_var (as_logic (variable_at table.now left))
@@ -29,8 +38,8 @@ pub fn same_variables(table: &Table, left: Variable, right: Variable) -> bool
     table.same_names(left.name, right.name) && same_sort(left.sort, right.sort)
 }
 
-// whether the term is the bound variable
-pub(crate) fn is_bound(table: &Table, place: u64, sort: Sort, term: u32) -> bool
+/// Whether the term is the bound variable.
+pub fn is_bound(table: &Table, place: u64, sort: Sort, term: u32) -> bool
     ensures { result ≡ same_term (terms.variable (bound place (sort_of sort)))
         (term_at table.now term) }
 {

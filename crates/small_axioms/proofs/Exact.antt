@@ -1,147 +1,136 @@
--- Where a row is read off its own conclusion, the verdict follows from the tests.
-use Rattle.std.proofs.Common.{◌≡◌, refl, sym, ap, ◌∙◌, subst, inl, inr, ⊎_elim, Bool, true, false, ◌&&◌, ◌||◌, List, [], ◌∷◌, Some}
-use Rattle.model_shapes.proofs.Truth.{false≢true, both_true}
+-- The verdict by the rows of an axiom follows from the tests.
+use Rattle.std.proofs.Common.{◌≡◌, refl, sym, ap, ◌∙◌, subst, inl, inr, ⊎_elim, Bool, true, false, ◌↔◌, IsTrue, ℕ, ◌==◌, List, [], ◌∷◌, length, map, Option, Some, None, arith}
+use Rattle.std.proofs.lemmas.Bool.{ne_eqb, or_cases, or_left, or_right}
 use Rattle.model_shapes.specs.Sorts.{DataSort}
-use Rattle.model_shapes.proofs.Tests.{same_data_sort-is, same_data_sort-refl}
+use Rattle.model_shapes.proofs.Truth.{false≢true}
+use Rattle.model_terms.specs.Terms.{Term}
 use Rattle.model_formulas.specs.Formulas.{Formula}
-use Rattle.model_formulas.specs.SameFormulas.{same_formula}
-use Rattle.model_shapes.specs.Tests.{same_data_sort}
-use Rattle.model_formulas.proofs.SameFormulas.{same_formula-is, same_formula-refl}
 use Rattle.model_commands.specs.Commands.{Command}
-use Rattle.model_commands.specs.Theories.{Judgement, triple}
-use Rattle.rule_table.specs.Letters.{Letters}
-use Rattle.rule_table.specs.Lines.{Line}
-use Rattle.rule_table.specs.Conditions.{Condition, assigned_side}
+use Rattle.model_commands.specs.Theories.{Judgement, Step, triple}
+use Rattle.rule_table.specs.Accepted.{judgement_numbered, in_front, cited}
+use Rattle.rule_table.specs.Conditions.{assigned_side}
 use Rattle.rule_table.specs.Entries.{Row}
-use Rattle.rule_table.specs.Verdicts.{Written, AllMet, AllHold, first, side_at, Concludes, IsVerdict}
-use Rattle.small_axioms.specs.Parts.{pre_part, command_part, post_part, sort_part}
-use Rattle.small_axioms.specs.Tests.{same_kind, concludes, verdict_by}
+use Rattle.rule_table.specs.Lines.{Line}
+use Rattle.rule_table.specs.Verdicts.{Written, Concludes, Follows, MeetsFirst, MeetsAll, SomeLine, side_at, IsVerdict, shape_verdict}
+use Rattle.dom_terms.specs.Terms.{term_of}
+use Rattle.dom_terms.specs.declared.terms.Term as terms
+use Rattle.letter_bindings.specs.Bodies.{BindsSorted}
+use Rattle.small_axioms.specs.Commands.{known_of}
+use Rattle.small_axioms.specs.Lines.{line_for, AllTied}
+use Rattle.small_axioms.specs.Patterns.{AxiomPattern}
+use Rattle.small_axioms.specs.Tests.{fits, fits_one, is_assigned, verdict_where}
+use Rattle.small_axioms.proofs.Conditions.{unset-holds, set-fails}
+use Rattle.small_axioms.proofs.Fitting.{plain, fits-line, line-fits}
 
--- a line with nothing but a conclusion and conditions
-pub record Bare (line : Line) : Type 0 where
-  pub no_argument : line.arguments ≡ []
-  pub no_premise : line.premises ≡ []
-  pub all_met : AllMet line.requirements
+-- SOME LINE of the rows, each of which is that of its conclusion
+some-line : (rows : List Row) (ps : List AxiomPattern) → AllTied rows ps → (P Q : Line → Type 0)
+    → ((line : Line) → line ≡ line_for line.conclusion → P line → Q line) → SomeLine rows P
+    → SomeLine rows Q
+some-line [] ps t P Q f m = m
+some-line (row ∷ rows) [] t P Q f m = absurd t
+some-line (row ∷ rows) (a ∷ ps) t P Q f m =
+    ⊎_elim (λ x. inl (x.0, f (row x.0) (plain row a t.0 x.0) x.1))
+    (λ y. inr (some-line rows ps t.1 P Q f y)) m
 
--- The letters of a row are read off its conclusion.
-pub record ReadOff (row : Row) : Type 0 where
-  pub letters : Judgement → Letters
-  pub conditions : Judgement → List Condition
-  -- they make the line again
-  pub again : (l : Letters) → row (letters (row l).conclusion) ≡ row l
-  pub its_conditions : (l : Letters) → (row l).conditions ≡ conditions (row l).conclusion
-  pub bare : (l : Letters) → Bare (row l)
-  -- its conclusion is a triple of a command of the document
-  pub its_kind : (l : Letters)
-      → same_kind (command_part (row l).conclusion) (command_part (row l).conclusion) ≡ true
-  pub its_parts : (l : Letters) → (row l).conclusion
-      ≡ triple (pre_part (row l).conclusion) (command_part (row l).conclusion)
-      (post_part (row l).conclusion) (sort_part (row l).conclusion)
-  -- a command of that kind is the one that its terms make
-  pub its_command : (j : Judgement)
-      → same_kind (command_part (row (letters j)).conclusion) (command_part j) ≡ true
-      → command_part (row (letters j)).conclusion ≡ command_part j
+no-line : (rows : List Row) → SomeLine rows (λ line. ⊥) → ⊥
+no-line [] m = m
+no-line (row ∷ rows) m = ⊎_elim (λ x. x.1) (no-line rows) m
 
--- a triple alone at a step
-abbrev pub alone : Judgement → Written
-alone j = record { arguments = []; premises = Some []; conclusion = j }
+-- no row makes a line where there is an argument
+pub argument-refused : (rows : List Row) (ps : List AxiomPattern) → AllTied rows ps
+    → (e : Term) (es : List Term) (premises : Option (List Judgement)) (j : Judgement)
+    → IsVerdict rows (record { arguments = e ∷ es; premises = premises; conclusion = j })
+    shape_verdict
+argument-refused rows ps t e es premises j m =
+    no-line rows (some-line rows ps t _ (λ line. ⊥)
+    (λ line h c. let f = sym (ap (λ (l : Line). l.arguments) h) ∙ c.0 in absurd cc) m)
 
-module _ (row : Row) (r : ReadOff row) where
-  abbrev line_at : Judgement → Line
-  line_at j = row (r.letters j)
+module _ (c : Command) (p q : Formula) (d : DataSort) (sorted : BindsSorted p × BindsSorted q) where
+  abbrev j : Judgement
+  j = triple p c q d
 
-  pub concludes-self : (l : Letters) → concludes (row l) (row l).conclusion ≡ true
-  concludes-self l = λ i. r.its_kind l i
-      && (same_formula-refl (pre_part (row l).conclusion) i
-      && (same_formula-refl (post_part (row l).conclusion) i
-      && same_data_sort-refl (sort_part (row l).conclusion) i))
+  fits-some : (rows : List Row) (ps : List AxiomPattern) → AllTied rows ps
+      → fits_one ps c (known_of c) p q d ≡ true → SomeLine rows (λ line. line ≡ line_for j)
+  fits-some [] [] t e = false≢true e
+  fits-some (row ∷ rows) (a ∷ ps) t e =
+      ⊎_elim (λ f. inl (fits-line row a t.0 c p q d sorted f))
+      (λ f. inr (fits-some rows ps t.1 f))
+      (or_cases (fits a c (known_of c) p q d) (fits_one ps c (known_of c) p q d) e)
+  fits-some [] (a ∷ ps) t e = absurd t
+  fits-some (row ∷ rows) [] t e = absurd t
 
-  -- a line with the judgement is the one that is read off
-  pub only : (j : Judgement) (l : Letters) → (row l).conclusion ≡ j → row l ≡ line_at j
-  only j l e = sym (r.again l) ∙ ap line_at e
+  some-fits : (rows : List Row) (ps : List AxiomPattern) → AllTied rows ps
+      → SomeLine rows (λ line. line.conclusion ≡ j) → fits_one ps c (known_of c) p q d ≡ true
+  some-fits [] ps t m = absurd m
+  some-fits (row ∷ rows) [] t m = absurd t
+  some-fits (row ∷ rows) (a ∷ ps) t m =
+      ⊎_elim
+      (λ x. or_left (fits a c (known_of c) p q d) (fits_one ps c (known_of c) p q d)
+      (line-fits row a t.0 c p q d sorted x.0 x.1))
+      (λ y. or_right (fits a c (known_of c) p q d) (fits_one ps c (known_of c) p q d)
+      (some-fits rows ps t.1 y)) m
 
-  -- and the test says so
-  pub test-passed : (j : Judgement) (l : Letters) → (row l).conclusion ≡ j
-      → concludes (line_at j) j ≡ true
-  test-passed j l e =
-      subst (λ line. concludes line j ≡ true) (only j l e)
-      (subst (λ k. concludes (row l) k ≡ true) e (concludes-self l))
+  -- THE VERDICT
+  module _ (rows : List Row) (ps : List AxiomPattern) (t : AllTied rows ps)
+      (premises : Option (List Judgement)) where
+    abbrev w : Written
+    w = record { arguments = []; premises = premises; conclusion = j }
 
-  module _ (p : Formula) (c : Command) (q : Formula) (d : DataSort) where
-    abbrev J : Judgement
-    J = triple p c q d
+    -- a line with the judgement
+    the-line : (line : Line) → line ≡ line_for line.conclusion → line.conclusion ≡ j
+        → line ≡ line_for j
+    the-line line h e = h ∙ ap line_for e
 
-    abbrev L : Line
-    L = line_at J
+    found : (P : Line → Type 0) → P (line_for j) → fits_one ps c (known_of c) p q d ≡ true
+        → SomeLine rows P
+    found P h e =
+        some-line rows ps t (λ line. line ≡ line_for j) P (λ line g f. subst P (sym f) h)
+        (fits-some rows ps t e)
 
-    pub passed : concludes L J ≡ true → L.conclusion ≡ J
-    passed e =
-        let a : (same_kind (command_part L.conclusion) c ≡ true)
-        × ((same_formula (pre_part L.conclusion) p
-        && (same_formula (post_part L.conclusion) q
-        && same_data_sort (sort_part L.conclusion) d)) ≡ true) = both_true _ _ e in
-        let b : (same_formula (pre_part L.conclusion) p ≡ true)
-        × ((same_formula (post_part L.conclusion) q
-        && same_data_sort (sort_part L.conclusion) d) ≡ true) = both_true _ _ a.1 in
-        let s : (same_formula (post_part L.conclusion) q ≡ true)
-        × (same_data_sort (sort_part L.conclusion) d ≡ true) = both_true _ _ b.1 in
-        r.its_parts (r.letters J)
-        ∙ (λ i. triple (same_formula-is _ p b.0 i) (r.its_command J a.0 i)
-        (same_formula-is _ q s.0 i) (same_data_sort-is _ d s.1 i))
+    none : (P : Line → Type 0) → ((line : Line) → P line → line.conclusion ≡ j)
+        → (P (line_for j) → ⊥) → SomeLine rows P → ⊥
+    none P f h m =
+        no-line rows (some-line rows ps t P (λ line. ⊥)
+        (λ line g x. h (subst P (the-line line g (f line x)) x)) m)
 
-    pub concluded : concludes L J ≡ true → Concludes (alone J) L
-    concluded e = ((r.bare (r.letters J)).no_argument, (r.bare (r.letters J)).all_met, passed e)
-
-    -- the conditions of a line with the judgement
-    pub asks : (l : Letters) → (row l).conclusion ≡ J → (row l).conditions ≡ r.conditions J
-    asks l e = r.its_conditions l ∙ ap r.conditions e
-
-    pub follows : (e : concludes L J ≡ true) → Some L.premises ≡ Some []
-    follows e = ap Some (r.bare (r.letters J)).no_premise
-
-    -- THE VERDICT of one row
-    pub exact : (fits assigned : Bool) → concludes L J ≡ fits
-        → (fits ≡ true → assigned ≡ false → AllHold (r.conditions J))
-        → (fits ≡ true → assigned ≡ true → side_at 0 (r.conditions J) ≡ Some assigned_side)
-        → (fits ≡ true → assigned ≡ true → AllHold (first 1 (r.conditions J)) → ⊥)
-        → IsVerdict (row ∷ []) (alone J) (verdict_by fits assigned)
-    exact false assigned e all named none =
-        λ m. ⊎_elim (λ x. false≢true (sym e ∙ test-passed J x.0 x.1.2)) (λ z. z) m
-    exact true false e all named none =
-        inl (
-          r.letters J,
-          (
-            (concluded e, follows e),
-            subst AllHold (sym (asks (r.letters J) (passed e))) (all refl refl),
-          ),
-        )
-    exact true true e all named none = (
-      0,
-      inl (
-        r.letters J,
-        (
-          ((concluded e, follows e), tt),
-          ap (side_at 0) (asks (r.letters J) (passed e)) ∙ named refl refl,
-        ),
-      ),
-      λ m. ⊎_elim (λ x. none refl refl
-          (subst (λ cs. AllHold (first 1 cs)) (asks x.0 x.1.0.0.2) x.1.1)) (λ z. z) m,
+    pub exact : (fitting cites_nothing set : Bool)
+        → fits_one ps c (known_of c) p q d ≡ fitting → IsTrue cites_nothing ↔ (Some [] ≡ premises)
+        → is_assigned c (known_of c) p q ≡ set
+        → IsVerdict rows w (verdict_where fitting cites_nothing set)
+    exact false cites_nothing set e f g =
+        λ m. false≢true (sym e ∙ some-fits rows ps t
+        (some-line rows ps t (Concludes w) (λ line. line.conclusion ≡ j) (λ line h x. x.2) m))
+    exact true false set e f g = (
+      found (Concludes w) (refl, tt, refl) e,
+      none (Follows w) (λ line x. x.0.2) (λ x. false≢true (f.1 x.1)),
     )
+    exact true true false e f g =
+        found (MeetsAll w) (((refl, tt, refl), f.0 refl), unset-holds c p q g) e
+    exact true true true e f g =
+        let h = set-fails c p q g in (
+          0,
+          found (λ line. MeetsFirst 0 w line × (side_at 0 line.conditions ≡ Some assigned_side))
+              ((((refl, tt, refl), f.0 refl), tt), h.0) e,
+          none (MeetsFirst 1 w) (λ line x. x.0.0.2) (λ x. h.1 x.1),
+        )
 
--- THE VERDICT of two rows without conditions
-pub exact-two : (row other : Row) (r : ReadOff row) (o : ReadOff other)
-    (p : Formula) (c : Command) (q : Formula) (d : DataSort)
-    → r.conditions (triple p c q d) ≡ [] → o.conditions (triple p c q d) ≡ []
-    → (fits fits_other : Bool)
-    → concludes (row (r.letters (triple p c q d))) (triple p c q d) ≡ fits
-    → concludes (other (o.letters (triple p c q d))) (triple p c q d) ≡ fits_other
-    → IsVerdict (row ∷ other ∷ []) (alone (triple p c q d)) (verdict_by (fits || fits_other) false)
-exact-two row other r o p c q d n m false false e f =
-    ⊎_elim (λ x. false≢true (sym e ∙ test-passed row r (triple p c q d) x.0 x.1.2))
-    (⊎_elim (λ x. false≢true (sym f ∙ test-passed other o (triple p c q d) x.0 x.1.2)) (λ z. z))
-exact-two row other r o p c q d n m false true e f =
-    inr (exact other o p c q d true false f (λ t h. subst AllHold (sym m) tt)
-    (λ t h. false≢true h) (λ t h. false≢true h))
-exact-two row other r o p c q d n m true b e f =
-    ⊎_elim inl (λ z. absurd z) (exact row r p c q d true false e (λ t h. subst AllHold (sym n) tt)
-    (λ t h. false≢true h) (λ t h. false≢true h))
+-- WHAT IS CITED is nothing, or isn't there
+front-some : (j : Option Judgement) (js : Option (List Judgement)) → Some [] ≡ in_front j js → ⊥
+front-some None js e = absurd cc
+front-some (Some j) None e = absurd cc
+front-some (Some j) (Some js) e = absurd cc
+
+pub cites-none : (earlier : List Step) (ns : List ℕ) (b : Bool) → b ≡ (length ns == 0)
+    → IsTrue b ↔ (Some [] ≡ cited earlier ns)
+cites-none earlier [] b e = (λ h. refl, λ h. e)
+cites-none earlier (n ∷ ns) b e = (
+  λ h. false≢true (sym (ne_eqb (length (n ∷ ns)) 0 (λ f. omega arith)) ∙ (sym e ∙ h)),
+  λ h. absurd (front-some (judgement_numbered n earlier) (cited earlier ns) h),
+)
+
+-- no argument
+pub no-arguments : (arguments : List terms.Term) → (length arguments == 0) ≡ true
+    → map term_of arguments ≡ []
+no-arguments [] e = refl
+no-arguments (a ∷ others) e =
+    false≢true (sym (ne_eqb (length (a ∷ others)) 0 (λ f. omega arith)) ∙ e)

@@ -2,6 +2,8 @@ pub mod Names
 pub mod Called
 pub mod Steps
 pub mod Parts
-pub mod Readings
-pub mod Forms
+pub mod Commands
+pub mod Numbers
+pub mod Patterns
+pub mod Lines
 pub mod Tests

@@ -1,69 +1,96 @@
--- Needn't be believed: whether a line of an axiom has the written conclusion, and the verdict that
--- follows, as tests that compute.
-use Rattle.std.specs.Prelude.{Bool, true, false, ◌&&◌, List}
-use Rattle.std.specs.List.{list_any}
-use Rattle.model_terms.specs.Variables.{Var}
-use Rattle.model_terms.specs.VariableTests.{same_var}
-use Rattle.model_terms.specs.Stores.{as_var}
-use Rattle.model_shapes.specs.Tests.{same_data_sort}
+-- Needn't be believed: the promises speak of the table of rules. Whether a triple is that of an
+-- axiom's line, and the verdict that follows, as tests that compute.
+use Rattle.std.specs.Prelude.{◌≡◌, ◌↔◌, IsTrue, Bool, true, false, ◌&&◌, ◌||◌, List, [], ◌∷◌, Option, Some, None, is_some}
 use Rattle.model_shapes.specs.Sorts.{DataSort}
+use Rattle.model_terms.specs.Variables.{Var, prog}
+use Rattle.model_terms.specs.Terms.{Term, variable}
 use Rattle.model_formulas.specs.Formulas.{Formula}
 use Rattle.model_formulas.specs.SameFormulas.{same_formula}
 use Rattle.model_commands.specs.Commands.{Command, create_node, node_name, child_nodes, parent_node, list_item, append_child, remove_child, insert_before}
 use Rattle.model_commands.specs.Theories.{Judgement}
-use Rattle.rule_table.specs.Lines.{Line}
+use Rattle.rule_table.specs.Axioms.{axioms}
 use Rattle.rule_table.specs.Conditions.{assigned_side}
-use Rattle.rule_table.specs.Verdicts.{Verdict, instance_verdict, premises_verdict, shape_verdict, side_verdict}
-use Rattle.small_axioms.specs.Parts.{pre_part, command_part, post_part, sort_part}
+use Rattle.rule_table.specs.Verdicts.{Verdict, IsVerdict, readings_in, instance_verdict, premises_verdict, shape_verdict, side_verdict}
+use Rattle.letter_bindings.specs.Known.{Known}
+use Rattle.letter_bindings.specs.Matching.{then, match_data, match_formula}
+use Rattle.letter_bindings.specs.Settled.{settle}
+use Rattle.letter_bindings.specs.Shifts.{is_free, is_in_term}
+use Rattle.small_axioms.specs.declared.names.Axiom.{Axiom}
+use Rattle.small_axioms.specs.declared.rows.Kind.{Kind}
+use Rattle.small_axioms.specs.declared.rows.Kind.TheVariants as k
+use Rattle.small_axioms.specs.Names.{name_of}
+use Rattle.small_axioms.specs.Parts.{held, name_in, new_root}
+use Rattle.small_axioms.specs.Patterns.{AxiomPattern}
 
--- both are one command of the document, whatever its terms
-abbrev pub same_kind : Command → Command → Bool
-same_kind (create_node x e) (create_node y f) = true
-same_kind (node_name x e) (node_name y f) = true
-same_kind (child_nodes x e) (child_nodes y f) = true
-same_kind (parent_node x e) (parent_node y f) = true
-same_kind (list_item x e f) (list_item y g h) = true
-same_kind (append_child e f) (append_child g h) = true
-same_kind (remove_child e f) (remove_child g h) = true
-same_kind (insert_before e f g) (insert_before e' f' g') = true
-same_kind c d = false
+-- the command is of the kind
+abbrev pub is_kind : Kind → Command → Bool
+is_kind k.Create (create_node x e) = true
+is_kind k.Name (node_name x e) = true
+is_kind k.Children (child_nodes x e) = true
+is_kind k.Parent (parent_node x e) = true
+is_kind k.Item (list_item x e f) = true
+is_kind k.Append (append_child e f) = true
+is_kind k.Remove (remove_child e f) = true
+is_kind k.InsertBefore (insert_before e f g) = true
+is_kind kind c = false
 
--- two formulas and a sort are those of a triple, which are given first
-abbrev pub agree : Formula → Formula → DataSort → Formula → Formula → DataSort → Bool
-agree p q d p' q' d' = same_formula p' p && (same_formula q' q && same_data_sort d' d)
+-- the formulas are those of the pattern, where this is known of its letters
+abbrev pub walked : AxiomPattern → Known → Formula → Formula → DataSort → Option Known
+walked a k p q d =
+    then (match_formula a.pre p k) (λ n. then (match_formula a.post q n) (match_data a.sort d))
 
--- the conclusion of the line is the judgement, but for the terms of the command
-abbrev pub concludes : Line → Judgement → Bool
-concludes line j =
-    same_kind (command_part line.conclusion) (command_part j)
-    && agree (pre_part j) (post_part j) (sort_part j) (pre_part line.conclusion)
-    (post_part line.conclusion) (sort_part line.conclusion)
+abbrev pub settles : Option Known → Bool
+settles None = false
+settles (Some k) = is_some (settle k)
 
--- the verdict where the conclusion is the written one or not, and the variable is in the letters or
--- not
-abbrev pub verdict_by : Bool → Bool → Verdict
-verdict_by false assigned = shape_verdict
-verdict_by true false = instance_verdict
-verdict_by true true = side_verdict assigned_side
+abbrev pub walks : AxiomPattern → Known → Formula → Formula → DataSort → Bool
+walks a k p q d = settles (walked a k p q d)
 
--- the command sets a variable, and it is one of these
-abbrev pub sets_one_of : List Var → Command → Bool
-sets_one_of xs (create_node x e) = list_any (same_var (as_var x)) xs
-sets_one_of xs (node_name x e) = list_any (same_var (as_var x)) xs
-sets_one_of xs (child_nodes x e) = list_any (same_var (as_var x)) xs
-sets_one_of xs (parent_node x e) = list_any (same_var (as_var x)) xs
-sets_one_of xs (list_item x e f) = list_any (same_var (as_var x)) xs
-sets_one_of xs c = false
+-- the formula after a command that creates a node says of the new node what it is to say
+abbrev pub is_new : Option Term → Option Term → Formula → Bool
+is_new (Some x) (Some t) q = same_formula (new_root t x) q
+is_new x t q = false
 
--- the command creates a node, and the variable that it sets is one of these
-abbrev pub creates_one_of : List Var → Command → Bool
-creates_one_of xs (create_node x e) = list_any (same_var (as_var x)) xs
-creates_one_of xs c = false
+abbrev pub says_new : Kind → Known → Formula → Formula → Bool
+says_new k.Create k p q = is_new k.terms.N (name_in p) q
+says_new kind k p q = true
 
--- the verdict at a step which has no arguments or some, and cites nothing or something, from that
--- on the triple alone
-abbrev pub verdict_at : Bool → Bool → Verdict → Verdict
-verdict_at false cites_nothing alone = shape_verdict
-verdict_at true true alone = alone
-verdict_at true false shape_verdict = shape_verdict
-verdict_at true false alone = premises_verdict
+-- the triple is that of one of the lines
+abbrev pub fits : AxiomPattern → Command → Known → Formula → Formula → DataSort → Bool
+fits a c k p q d = is_kind a.kind c && (walks a k p q d && says_new a.kind k p q)
+
+abbrev pub fits_one : List AxiomPattern → Command → Known → Formula → Formula → DataSort → Bool
+fits_one [] c k p q d = false
+fits_one (a ∷ ps) c k p q d = fits a c k p q d || fits_one ps c k p q d
+
+-- the variable stands in what the command finds there
+abbrev pub is_in_name : Var → Option Term → Bool
+is_in_name x None = false
+is_in_name x (Some t) = is_in_term x t
+
+abbrev pub sets_letters : Command → Var → Formula → Formula → Bool
+sets_letters (create_node y e) x p q = is_in_name x (name_in p)
+sets_letters c x p q = is_free x (held q)
+
+-- the variable that the command sets does
+abbrev pub sets_known : Option Term → Command → Formula → Formula → Bool
+sets_known (Some (variable (prog x s))) c p q = sets_letters c (prog x s) p q
+sets_known t c p q = false
+
+abbrev pub is_assigned : Command → Known → Formula → Formula → Bool
+is_assigned c k p q = sets_known k.terms.N c p q
+
+-- the verdict where the triple is that of a line or not, nothing is cited or something, and the
+-- variable stands there or not
+abbrev pub verdict_where : Bool → Bool → Bool → Verdict
+verdict_where false cites_nothing assigned = shape_verdict
+verdict_where true false assigned = premises_verdict
+verdict_where true true false = instance_verdict
+verdict_where true true true = side_verdict assigned_side
+
+-- THE VERDICT on the judgement at any step without arguments that cites nothing or something
+abbrev pub IsVerdictAt : Axiom → Bool → Judgement → Verdict → Type 0
+IsVerdictAt rule cites_nothing j v = (premises : Option (List Judgement))
+    → IsTrue cites_nothing ↔ (Some [] ≡ premises)
+    → IsVerdict (readings_in axioms (name_of rule))
+    (record { arguments = []; premises = premises; conclusion = j }) v

@@ -7,22 +7,27 @@ ghost use Rattle.triple_laws.specs.Steps.{HoldsAnywhere};
 ghost use Rattle.small_axioms.specs.Steps.{judgement_of, written};
 
 use crate::names::axiom_of;
-use crate::verdicts::alone_verdict;
+use crate::verdicts::axiom_verdict;
 use dom_terms::{OutOfMemory, Verdict};
+use formula_table::Table;
 use std::alloc::Global;
 use theory_syntax::Triple;
 
 /// The verdict on the triple by the axiom of that name, as at a step that cites nothing and has no
 /// arguments, so it is never of the kind Premises. A name of no axiom has no rows: its verdict is
-/// that the conclusion doesn't fit. An instance holds in every context. No memory is taken.
-pub fn axiom_instance(_alloc: Global, name: &str, triple: &Triple) -> Result<Verdict, OutOfMemory>
+/// that the conclusion doesn't fit. An instance holds in every context. OutOfMemory comes only
+/// where memory is refused or 32 bits don't number the formulas.
+pub fn axiom_instance(alloc: Global, name: &str, triple: &Triple) -> Result<Verdict, OutOfMemory>
     ensures exact { IfOk result (λ v. IsVerdict (readings_in axioms name.now) (written triple.now)
         (verdict_in v)) }
     ensures sound { IfOk result
         (λ v. v ≡ Verdict.Instance → HoldsAnywhere (judgement_of triple.now)) }
 {
     match axiom_of(name) {
-        Some(axiom) => Ok(alone_verdict(axiom, triple)),
+        Some(axiom) => {
+            let mut table = Table::with_most(alloc, u32::MAX);
+            axiom_verdict(alloc, &mut table, axiom, &[], &[], triple)
+        }
         None => Ok(Verdict::Shape),
     }
 }

@@ -1,18 +1,14 @@
 //! The axioms of the commands of the document, and whether a triple is an instance of one.
 //! Promises the verdict of the table of rules on what is written at a step, by any of the eleven.
-//! No memory is taken. Stands on the theories of the program and on rule_table.
+//! Stands on the walks over patterns, which learn the letters of a line by numbers of formulas.
 #![tactic(auto)]
 
-mod axioms;
-mod forms;
 mod instances;
-mod matching;
-mod moves;
 mod names;
-mod new_roots;
-mod occurring;
+mod notation;
+mod numbering;
 mod parts;
-mod same;
+mod rows;
 mod verdicts;
 
 pub use instances::axiom_instance;

@@ -1,139 +1,107 @@
-// The parts of a formula, each with something where there is no such part: of its terms, with one
-// that is given.
+// The parts of written formulas of which side conditions speak, and the formula after createNode.
 ghost use Rattle.std.specs.Prelude.{◌≡◌};
-ghost use Rattle.model_formulas.specs.Nameless.{nameless};
-ghost use Rattle.formula_syntax.specs.Formulas.{formula_of};
-ghost use Rattle.small_axioms.specs.Forms.{plain, whole_node};
+ghost use Rattle.std.specs.Option.{option_map};
+ghost use Rattle.model_formulas.specs.SameFormulas.{same_formula};
+ghost use Rattle.formula_table.specs.Forms.{form_at, term_at};
 ghost use Rattle.small_axioms.specs.Parts as parts;
 
-use dom_terms::Term;
-use formula_syntax::Formula;
+use dom_terms::{Sort, ValueSort, same_sort};
+use formula_table::{Head, Table};
+use numbered_formulas::{is_bound, is_term_raised};
 
-/// A node: its name, its number, its children and its list number.
-#[derive(Clone, Copy)]
-pub(crate) struct Node<'a> {
-    pub(crate) name: &'a Term,
-    pub(crate) number: &'a Term,
-    pub(crate) children: &'a Formula,
-    pub(crate) list: &'a Term,
-}
+const LIST: Sort = Sort::Value(ValueSort::List);
 
-// the first of two parts, or the only one
-pub(crate) fn first_part(p: &Formula) -> &Formula
-    ensures { nameless (formula_of result.now) ≡ parts.first_part (nameless (formula_of p.now)) }
+/// N in `(N and P)` and in `([N] and P)`.
+pub(crate) fn held(table: &Table, number: u32) -> u32
+    ensures { form_at table.now result ≡ parts.held (form_at table.now number) }
 {
-    match p {
-        Formula::And(q, _) | Formula::Join(_, q, _) | Formula::App(_, q, _) => q,
-        Formula::One(q) | Formula::Root(q) => q,
-        _ => p,
+    let row = table.form(number);
+    match row.head {
+        Head::And => unrooted(table, row.left),
+        _ => number,
     }
 }
 
-// the second of two parts
-pub(crate) fn second_part(p: &Formula) -> &Formula
-    ensures { nameless (formula_of result.now) ≡ parts.second_part (nameless (formula_of p.now)) }
+// N in `[N]`
+fn unrooted(table: &Table, number: u32) -> u32
+    ensures { form_at table.now result ≡ parts.unrooted (form_at table.now number) }
 {
-    match p {
-        Formula::And(_, q) | Formula::Join(_, _, q) | Formula::App(_, _, q) => q,
-        Formula::HoleAdj(_, q) => q,
-        _ => p,
+    let row = table.form(number);
+    match row.head {
+        Head::Root => row.left,
+        _ => number,
     }
 }
 
-// the parts of a node
-pub(crate) fn node_parts<'a>(p: &'a Formula, otherwise: &'a Term) -> Node<'a>
-    ensures { whole_node result
-        ≡ parts.node_at (plain otherwise.now) (nameless (formula_of p.now)) }
+/// T in `(P and E = T)`.
+pub(crate) fn name_in(table: &Table, number: u32) -> Option<u32>
+    ensures { option_map (term_at table.now) result ≡ parts.name_in (form_at table.now number) }
 {
-    match p {
-        Formula::Node(name, number, children, list) => Node {
-            name,
-            number,
-            children,
-            list,
-        },
-        _ => Node {
-            name: otherwise,
-            number: otherwise,
-            children: p,
-            list: otherwise,
-        },
+    let row = table.form(number);
+    match row.head {
+        Head::And => right_side(table, row.right),
+        _ => None,
     }
 }
 
-// the length that is said
-pub(crate) fn length_part<'a>(p: &'a Formula, otherwise: &'a Term) -> &'a Term
-    ensures { plain result.now
-        ≡ parts.length_part (plain otherwise.now) (nameless (formula_of p.now)) }
+// T in `E = T`
+fn right_side(table: &Table, number: u32) -> Option<u32>
+    ensures { option_map (term_at table.now) result ≡ parts.right_side (form_at table.now number) }
 {
-    match p {
-        Formula::Len(length) => length,
-        _ => otherwise,
+    let row = table.form(number);
+    match row.head {
+        Head::Eq => Some(row.second),
+        _ => None,
     }
 }
 
-// the right side of an equation
-pub(crate) fn right_part<'a>(p: &'a Formula, otherwise: &'a Term) -> &'a Term
-    ensures { plain result.now
-        ≡ parts.right_part (plain otherwise.now) (nameless (formula_of p.now)) }
+/// Whether the formula is `(exists $m . [T#x[0f]%$m])`.
+pub(crate) fn is_new_root(table: &Table, name: u32, x: u32, number: u32) -> bool
+    ensures { result ≡ same_formula
+        (parts.new_root (term_at table.now name) (term_at table.now x))
+        (form_at table.now number) }
 {
-    match p {
-        Formula::Eq(_, right) => right,
-        _ => otherwise,
+    let row = table.form(number);
+    match row.head {
+        Head::Exists(sort) => { same_sort(LIST, sort) && is_root_of_new(table, name, x, row.left) }
+        _ => false,
     }
 }
 
-/// The children `((P * <T#J[Q]%M>) * R)` of a node, with one among the others.
-#[derive(Clone, Copy)]
-pub(crate) struct Family<'a> {
-    pub(crate) before: &'a Formula,
-    pub(crate) child: Node<'a>,
-    pub(crate) rest: &'a Formula,
-}
-
-// the parts of the children of a node
-pub(crate) fn family_of<'a>(node: Node<'a>, otherwise: &'a Term) -> Family<'a>
-    ensures before { nameless (formula_of result.before.now)
-        ≡ parts.before_child (whole_node node.entry) }
-    ensures child { whole_node result.child
-        ≡ parts.node_at (plain otherwise.now) (parts.child_at (whole_node node.entry)) }
-    ensures rest { nameless (formula_of result.rest.now)
-        ≡ parts.second_part (parts.children_part (whole_node node.entry)) }
+// whether the formula is `[T#x[0f]%$m]`, below the binder of `$m`
+fn is_root_of_new(table: &Table, name: u32, x: u32, number: u32) -> bool
+    ensures { result ≡ same_formula
+        (parts.root_of_new (term_at table.now name) (term_at table.now x))
+        (form_at table.now number) }
 {
-    let beside = first_part(node.children);
-    let one = second_part(beside);
-    Family {
-        before: first_part(beside),
-        child: node_parts(first_part(one), otherwise),
-        rest: second_part(node.children),
+    let row = table.form(number);
+    match row.head {
+        Head::Root => is_new_node(table, name, x, row.left),
+        _ => false,
     }
 }
 
-/// What is asked of a node that is moved: the context, the node that takes it, and itself.
-#[derive(Clone, Copy)]
-pub(crate) struct Appended<'a> {
-    pub(crate) context: &'a Formula,
-    pub(crate) taker: Node<'a>,
-    pub(crate) mover: Node<'a>,
+// whether the formula is `T#x[0f]%$m`, below the binder of `$m`
+fn is_new_node(table: &Table, name: u32, x: u32, number: u32) -> bool
+    ensures { result ≡ same_formula
+        (parts.new_node (term_at table.now name) (term_at table.now x))
+        (form_at table.now number) }
+{
+    let row = table.form(number);
+    match row.head {
+        Head::Node => {
+            is_term_raised(table, name, row.first)
+                && table.same_terms(x, row.second)
+                && is_empty_forest(table, row.left)
+                && is_bound(table, 0, LIST, row.third)
+        }
+        _ => false,
+    }
 }
 
-// its parts, in what holds before
-pub(crate) fn appended_parts<'a>(p: &'a Formula, otherwise: &'a Term) -> Appended<'a>
-    ensures context { nameless (formula_of result.context.now)
-        ≡ parts.first_part (parts.left_part (nameless (formula_of p.now))) }
-    ensures taker { whole_node result.taker
-        ≡ parts.node_at (plain otherwise.now)
-        (parts.second_part (parts.left_part (nameless (formula_of p.now)))) }
-    ensures mover { whole_node result.mover
-        ≡ parts.node_at (plain otherwise.now) (parts.mover_part (nameless (formula_of p.now))) }
+// whether the formula is `0f`
+fn is_empty_forest(table: &Table, number: u32) -> bool
+    ensures { result ≡ same_formula parts.no_trees (form_at table.now number) }
 {
-    let there = first_part(p);
-    let moved = first_part(there);
-    let left = second_part(first_part(moved));
-    let alone = second_part(moved);
-    Appended {
-        context: first_part(left),
-        taker: node_parts(second_part(left), otherwise),
-        mover: node_parts(first_part(alone), otherwise),
-    }
+    matches!(table.form(number).head, Head::EmptyForest)
 }

@@ -1,4 +1,6 @@
-use Rattle.std.proofs.Common.{List, ℕ, sym, subst}
+-- The verdict is that at a step with nothing before it, and an instance holds.
+use Rattle.std.proofs.Common.{ℕ, List, [], sym, subst}
+use Rattle.std.proofs.lemmas.Result.{IfOk-weaker}
 use Rattle.rule_table.specs.Axioms.{axioms}
 use Rattle.rule_table.specs.Verdicts.{IsVerdict, readings_in}
 use Rattle.row_patterns.specs.Verdicts.{verdict_in}
@@ -9,13 +11,16 @@ use Rattle.small_axioms.proofs.instances.axiom_instance.Goals as goal
 
 pub returns-in-Some-clause-exact : goal.returns-in-Some-clause-exact
 returns-in-Some-clause-exact c =
-    subst (λ (name : List ℕ). IsVerdict (readings_in axioms name) (written c.args.triple.now)
-    (verdict_in c.alone_verdict.result)) (sym c.in-Some.ensures) c.alone_verdict.ensures
+    IfOk-weaker c.axiom_verdict.result _ _
+    (λ v h. subst (λ (name : List ℕ). IsVerdict (readings_in axioms name)
+    (written c.args.triple.now) (verdict_in v)) (sym c.in-Some.ensures) h)
+    (c.axiom_verdict.ensures.exact [])
 
 pub returns-in-Some-clause-sound : goal.returns-in-Some-clause-sound
 returns-in-Some-clause-sound c =
-    instance-sound (name_of c.in-Some.axiom) (judgement_of c.args.triple.now)
-    c.alone_verdict.result c.alone_verdict.ensures
+    IfOk-weaker c.axiom_verdict.result _ _
+    (λ v h. instance-sound (name_of c.in-Some.axiom) (judgement_of c.args.triple.now) v h)
+    (c.axiom_verdict.ensures.exact [])
 
 pub returns-in-None-clause-sound : goal.returns-in-None-clause-sound
 returns-in-None-clause-sound c = λ e. absurd cc

@@ -1,13 +1,24 @@
--- The verdict follows from that on the triple alone.
+-- The verdict is that at any step that cites nothing or something.
+use Rattle.std.proofs.Common.{sym, subst, List}
+use Rattle.std.proofs.lemmas.Result.{IfOk-weaker}
+use Rattle.model_terms.specs.Terms.{Term}
+use Rattle.rule_table.specs.Accepted.{cited}
+use Rattle.rule_table.specs.Axioms.{axioms}
+use Rattle.rule_table.specs.Verdicts.{IsVerdict, readings_in}
 use Rattle.row_patterns.specs.Verdicts.{verdict_in}
+use Rattle.small_axioms.specs.Names.{name_of}
 use Rattle.small_axioms.specs.Steps.{judgement_of}
-use Rattle.small_axioms.proofs.AllRows.{axiom-at-step}
+use Rattle.small_axioms.proofs.Exact.{cites-none, no-arguments}
 use Rattle.small_axioms.proofs.verdicts.axiom_verdict.Goals as goal
 
-pub returns : goal.returns
-returns c =
-    λ earlier. axiom-at-step c.args.rule earlier (judgement_of c.args.triple.now)
-    c.args.citations.now c.args.arguments.now c.is_empty-has_none.result
-    c.is_empty-cites_nothing.result (verdict_in c.alone_verdict-alone.result)
-    (verdict_in c.verdict_at.result) c.is_empty-has_none.ensures
-    c.is_empty-cites_nothing.ensures c.verdict_at.ensures c.alone_verdict-alone.ensures
+pub returns-clause-exact : goal.returns-clause-exact
+returns-clause-exact c =
+    λ earlier. IfOk-weaker c.verdict_of.result _ _
+    (λ verdict h. subst (λ (es : List Term). IsVerdict (readings_in axioms (name_of c.args.rule))
+    (record {
+      arguments = es;
+      premises = cited earlier c.args.citations.now;
+      conclusion = judgement_of c.args.triple.now;
+    }) (verdict_in verdict)) (sym (no-arguments c.args.arguments.now (sym c.if-not-is_empty.ensures)))
+    (h (cited earlier c.args.citations.now) (cites-none earlier c.args.citations.now _ c.is_empty-2.ensures)))
+    c.verdict_of.ensures.ok
