@@ -45,7 +45,7 @@ RowIs row w (side_verdict name) =
     × ((l : Letters) → MeetsFirst (suc zero) w (row l) → ⊥)
 
 -- NOTHING IS KNOWN AT FIRST
-pub no-formula : (a : FormulaLetter) → place_in nothing.formulas a ≡ None
+no-formula : (a : FormulaLetter) → place_in nothing.formulas a ≡ None
 no-formula = each-formula _ (refl, refl, refl, refl, refl, refl, refl)
 
 says-none : {A : Type 0} (o : Option A) (a : A) → o ≡ None → Says o a

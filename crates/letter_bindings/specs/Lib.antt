@@ -5,4 +5,3 @@ pub mod Settled
 pub mod Lines
 pub mod Choices
 pub mod Bodies
-pub mod WithoutX
