@@ -7,30 +7,31 @@ ghost use Rattle.dom_terms.specs.Sorts.{sort_of};
 ghost use Rattle.dom_terms.specs.Terms.{logic_var_of, term_of};
 ghost use Rattle.formula_syntax.specs.Binders.{bound_by};
 
+use crate::few_names::same_variable;
 use crate::rows::TermRow;
 use crate::tables::Table;
-use dom_terms::{LogicVar, OutOfMemory, Term, same_logic_var};
+use dom_terms::{LogicVar, OutOfMemory, Term};
 use formula_syntax::Binders;
 
+// Where the binder of a variable stands.
+enum Place {
+    // there is none
+    Free,
+    // behind so many binders
+    Bound(u32),
+    // behind more than a number counts
+    Far,
+}
+
 // how many binders there are between the variable and its binder, behind those that were passed
-#[tactic(auto, using(crate::proofs::Named::name_rules))]
-fn place_behind(
-    variable: &LogicVar,
-    over: &Binders,
-    passed: u32,
-) -> Result<Option<u32>, OutOfMemory>
-    ensures free { IfOk result (λ place. IfNone place
-        (names (bound_by over.now) (logic_var_of variable.now) ≡ logic_var_of variable.now)) }
-    ensures bound { IfOk result (λ place. IfSome place (λ i. (passed ≤ i)
-        × (names (bound_by over.now) (logic_var_of variable.now)
-        ≡ bound (i - passed) (sort_of variable.now.sort)))) }
-{
+fn place_behind(variable: &LogicVar, over: &Binders, passed: u32) -> Place {
     match over {
-        Binders::Empty => Ok(None),
-        Binders::More(nearest, _) if same_logic_var(variable, nearest) => Ok(Some(passed)),
-        Binders::More(_, outer) => {
-            place_behind(variable, outer, passed.checked_add(1).ok_or(OutOfMemory)?)
-        }
+        Binders::Empty => Place::Free,
+        Binders::More(nearest, _) if same_variable(variable, nearest) => Place::Bound(passed),
+        Binders::More(_, outer) => match passed.checked_add(1) {
+            Some(passed) => place_behind(variable, outer, passed),
+            None => Place::Far,
+        },
     }
 }
 
@@ -55,35 +56,34 @@ impl Table {
             (term_with (naming (bound_by over.now)) (term_of term.now))) }
     {
         match term {
-            Term::NullNode => self.add_term(TermRow::NullNode),
-            Term::NullList => self.add_term(TermRow::NullList),
-            Term::Int(number) => self.add_term(TermRow::Int(*number)),
-            Term::Bool(truth) => self.add_term(TermRow::Bool(*truth)),
+            Term::NullNode => self.add_leaf(TermRow::NullNode),
+            Term::NullList => self.add_leaf(TermRow::NullList),
+            Term::Int(number) => self.add_leaf(TermRow::Int(*number)),
+            Term::Bool(truth) => self.add_leaf(TermRow::Bool(*truth)),
             Term::Str(text) => {
-                let text = self.add_name(text.as_str())?;
-                self.add_term(TermRow::Str(text))
+                self.add_named(text.as_str(), TermRow::Str(0))
             }
             Term::Prog(variable) => {
-                let name = self.add_name(variable.name.as_str())?;
-                self.add_term(TermRow::Prog(name, variable.sort))
+                self.add_named(variable.name.as_str(), TermRow::Prog(0, variable.sort))
             }
             Term::Logic(variable) => self.variable_below(variable, over),
             Term::Add(left, right) => {
                 let (left, right) = self.terms_below(left, right, over)?;
-                self.add_term(TermRow::Add(left, right))
+                self.add_term(TermRow::Add(left, right), left.max(right).saturating_add(1))
             }
             Term::Sub(left, right) => {
                 let (left, right) = self.terms_below(left, right, over)?;
-                self.add_term(TermRow::Sub(left, right))
+                self.add_term(TermRow::Sub(left, right), left.max(right).saturating_add(1))
             }
             Term::Cat(left, right) => {
                 let (left, right) = self.terms_below(left, right, over)?;
-                self.add_term(TermRow::Cat(left, right))
+                self.add_term(TermRow::Cat(left, right), left.max(right).saturating_add(1))
             }
         }
     }
 
     /// The number of the variable below the binders.
+    #[inline(always)]
     pub(crate) fn variable_below(
         &mut self,
         var: &LogicVar,
@@ -93,27 +93,11 @@ impl Table {
         ensures ok { IfOk result (λ number. IsTerm self.new number
             (variable (names (bound_by over.now) (logic_var_of var.now)))) }
     {
-        match over {
-            Binders::Empty => self.free_variable(var),
-            Binders::More(_, _) => match place_behind(var, over, 0)? {
-                Some(place) => self.add_term(TermRow::Bound(place, var.sort)),
-                None => self.free_variable(var),
-            },
+        match place_behind(var, over, 0) {
+            Place::Free => self.add_named(var.name.as_str(), TermRow::Logic(0, var.sort)),
+            Place::Bound(place) => self.add_leaf(TermRow::Bound(place, var.sort)),
+            Place::Far => Err(OutOfMemory),
         }
-    }
-
-    // the number of the variable, which stands free
-    #[inline(always)]
-    fn free_variable(&mut self, var: &LogicVar) -> Result<u32, OutOfMemory>
-        ensures grows { TermsGrow self.old self.new }
-        ensures ok { IfOk result (λ number. IsTerm self.new number
-            (variable (logic_var_of var.now))) }
-    {
-        if let Some(number) = self.first_free(var) {
-            return Ok(number);
-        }
-        let name = self.add_name(var.name.as_str())?;
-        self.add_term(TermRow::Logic(name, var.sort))
     }
 
     /// The numbers of both terms below the binders.

@@ -17,7 +17,7 @@ use crate::faults::TableFault;
 use crate::few_names::{FEW, same_name};
 use crate::heads::Head;
 use crate::rows::{FormRow, TermRow};
-use crate::sets;
+use crate::sets::{self, NEAR};
 use dom_terms::{LogicVar, OutOfMemory};
 use indexmap::IndexSet;
 use std::alloc::Global;
@@ -40,6 +40,9 @@ pub struct Table {
     terms: IndexSet<TermRow>,
     forms: IndexSet<FormRow>,
     most: u32,
+    last_named: u32,
+    last_term: u32,
+    last_form: u32,
     ghost whole: { HasRows names.keys terms.keys forms.keys } by { rows-prop _ _ _ },
     ghost few: { length forms.keys ≤ most },
 }
@@ -68,6 +71,9 @@ impl Table {
             terms: IndexSet::new(alloc),
             forms: IndexSet::new(alloc),
             most,
+            last_named: FEW,
+            last_term: 0,
+            last_form: 0,
         }
     }
 
@@ -82,6 +88,9 @@ impl Table {
             terms: copy_rows(alloc, &self.terms)?,
             forms: copy_rows(alloc, &self.forms)?,
             most: self.most,
+            last_named: self.last_named,
+            last_term: self.last_term,
+            last_form: self.last_form,
         })
     }
 
@@ -148,25 +157,40 @@ impl Table {
         a == b || (self.is_nameless(a) && self.is_nameless(b))
     }
 
-    /// The number of the variable, which stands free, where its row is among the first: most files
-    /// have few variables, which come early.
+    // The number of the term over this one name, where its row is among those from the place on.
     #[inline(always)]
-    pub(crate) fn first_free(&self, var: &LogicVar) -> Option<u32>
-        ensures { IfSome result
-            (λ number. IsTerm self.now number (variable (logic_var_of var.now))) }
-    {
-        let name = var.name.as_str();
-        for number in 0..FEW {
-            match self.terms.get_index(number as usize)? {
-                TermRow::Logic(known, sort) => {
-                    if *sort == var.sort && self.has_name(*known, name) {
-                        return Some(number);
-                    }
-                }
-                _ => {}
+    fn named_from(&self, name: &str, like: TermRow, from: u32, most: u32) -> Option<u32> {
+        for number in from..from.saturating_add(most) {
+            if let Some(known) = self.terms.get_index(number as usize)?.name_if_like(like)
+                && self.has_name(known, name)
+            {
+                return Some(number);
             }
         }
         None
+    }
+
+    /// The number of the term over this one name, which is added where it isn't there. It is sought
+    /// where the last one stands, and among the first: most files have few names, which come early.
+    #[inline(always)]
+    pub(crate) fn add_named(&mut self, name: &str, like: TermRow) -> Result<u32, OutOfMemory> {
+        if let Some(number) = self.named_from(name, like, self.last_named, NEAR) {
+            self.last_named = number;
+            return Ok(number);
+        }
+        if let Some(number) = self.named_from(name, like, 0, FEW) {
+            return Ok(number);
+        }
+        self.add_far_named(name, like)
+    }
+
+    // the same, with a search by hashes
+    #[inline(never)]
+    fn add_far_named(&mut self, name: &str, like: TermRow) -> Result<u32, OutOfMemory> {
+        let name = sets::add_name(&mut self.names, name)?;
+        let number = sets::insert_term(&mut self.terms, like.with_name(name))?;
+        self.last_named = number.max(FEW);
+        Ok(number)
     }
 
     // whether the number is that of the name
@@ -180,33 +204,38 @@ impl Table {
         }
     }
 
-    /// The number of the name, which is added where it isn't there.
-    pub(crate) fn add_name(&mut self, name: &str) -> Result<u32, OutOfMemory>
-        ensures grows { TermsGrow self.old self.new }
-        ensures ok { IfOk result (λ number. IsName self.new number name.now) }
-    {
-        sets::add_name(&mut self.names, name)
-    }
-
     /// The number of the term of a row, whose parts are in the table: the same.
-    pub(crate) fn add_term(&mut self, row: TermRow) -> Result<u32, OutOfMemory>
+    #[inline(always)]
+    pub(crate) fn add_term(&mut self, row: TermRow, near: u32) -> Result<u32, OutOfMemory>
         requires { TermWithin (length (names_at self.old)) (length (terms_at self.old)) row }
         ensures grows { TermsGrow self.old self.new }
         ensures ok { IfOk result (λ number. IsTerm self.new number
             (read_term (names_at self.old) (terms_at self.old) row)) }
     {
-        sets::add_term(&mut self.terms, row)
+        sets::add_term(&mut self.terms, row, near)
+    }
+
+    #[inline(always)]
+    pub(crate) fn add_leaf(&mut self, row: TermRow) -> Result<u32, OutOfMemory> {
+        let number = self.add_term(row, self.last_term)?;
+        self.last_term = number;
+        Ok(number)
     }
 
     /// The number of the formula of a row, whose parts are in the table: the same, where there is
     /// room.
+    #[inline(always)]
     pub(crate) fn add_form(&mut self, row: FormRow) -> Result<u32, TableFault>
         requires { FormWithin (length (terms_at self.old)) (length (forms_at self.old)) row }
         ensures { (a b c : Term) (p q : Formula) → IsRow self.old row a b c p q
             → Ends self.old self.new (build bound_sort row.head a b c p q ∷ [])
             (build bound_sort row.head a b c p q) result }
     {
-        sets::add_form(&mut self.forms, row, self.most)
+        let number = sets::add_form(&mut self.forms, row, self.most, self.last_form)?;
+        if row.left.max(row.right) == 0 {
+            self.last_form = number;
+        }
+        Ok(number)
     }
 
     // whether the number stands for `true`
