@@ -1,37 +1,50 @@
 // The numbers of terms, which are added to a table where they aren't there.
-ghost use Rattle.std.specs.Prelude.{◌≡◌, ◌-◌, ◌≤◌, IfOk, IfNone, IfSome};
+ghost use Rattle.std.specs.Prelude.{◌≡◌, ◌-◌, ◌≤◌, ℕ, IfOk};
 ghost use Rattle.model_terms.specs.Variables.{bound};
 ghost use Rattle.model_terms.specs.Terms.{variable, term_with};
 ghost use Rattle.model_formulas.specs.Nameless.{names, naming};
 ghost use Rattle.dom_terms.specs.Sorts.{sort_of};
 ghost use Rattle.dom_terms.specs.Terms.{logic_var_of, term_of};
 ghost use Rattle.formula_syntax.specs.Binders.{bound_by};
+ghost use Rattle.formula_table.specs.declared.interning_terms.Binding.TheVariants as b;
 
-use crate::few_names::same_variable;
+use crate::over_names::Named;
 use crate::rows::TermRow;
+use crate::same_names::same_variable;
 use crate::tables::Table;
 use dom_terms::{LogicVar, OutOfMemory, Term};
 use formula_syntax::Binders;
 
 // Where the binder of a variable stands.
-enum Place {
-    // there is none
+enum Binding {
+    // There is none.
     Free,
-    // behind so many binders
+    // It is behind so many others.
     Bound(u32),
-    // behind more than a number counts
+    // It is behind more than can be counted.
     Far,
 }
 
-// how many binders there are between the variable and its binder, behind those that were passed
-fn place_behind(variable: &LogicVar, over: &Binders, passed: u32) -> Place {
+// where the binder stands, behind those that were passed
+#[tactic(auto, using(crate::proofs::Named::name_rules))]
+fn binding_of(variable: &LogicVar, over: &Binders, passed: u32) -> Binding
+    ensures free { result ≡ b.Free
+        → names (bound_by over.now) (logic_var_of variable.now) ≡ logic_var_of variable.now }
+    ensures bound { (i : ℕ) → result ≡ b.Bound i → (passed ≤ i)
+        × (names (bound_by over.now) (logic_var_of variable.now)
+        ≡ bound (i - passed) (sort_of variable.now.sort)) }
+{
     match over {
-        Binders::Empty => Place::Free,
-        Binders::More(nearest, _) if same_variable(variable, nearest) => Place::Bound(passed),
-        Binders::More(_, outer) => match passed.checked_add(1) {
-            Some(passed) => place_behind(variable, outer, passed),
-            None => Place::Far,
-        },
+        Binders::Empty => Binding::Free,
+        Binders::More(nearest, outer) => {
+            if same_variable(variable, nearest) {
+                return Binding::Bound(passed);
+            }
+            match passed.checked_add(1) {
+                Some(passed) => binding_of(variable, outer, passed),
+                None => Binding::Far,
+            }
+        }
     }
 }
 
@@ -56,28 +69,26 @@ impl Table {
             (term_with (naming (bound_by over.now)) (term_of term.now))) }
     {
         match term {
-            Term::NullNode => self.add_leaf(TermRow::NullNode),
-            Term::NullList => self.add_leaf(TermRow::NullList),
-            Term::Int(number) => self.add_leaf(TermRow::Int(*number)),
-            Term::Bool(truth) => self.add_leaf(TermRow::Bool(*truth)),
-            Term::Str(text) => {
-                self.add_named(text.as_str(), TermRow::Str(0))
-            }
+            Term::NullNode => self.add_term(TermRow::NullNode),
+            Term::NullList => self.add_term(TermRow::NullList),
+            Term::Int(number) => self.add_term(TermRow::Int(*number)),
+            Term::Bool(truth) => self.add_term(TermRow::Bool(*truth)),
+            Term::Str(text) => self.add_named(text.as_str(), Named::Str),
             Term::Prog(variable) => {
-                self.add_named(variable.name.as_str(), TermRow::Prog(0, variable.sort))
+                self.add_named(variable.name.as_str(), Named::Prog(variable.sort))
             }
             Term::Logic(variable) => self.variable_below(variable, over),
             Term::Add(left, right) => {
                 let (left, right) = self.terms_below(left, right, over)?;
-                self.add_term(TermRow::Add(left, right), left.max(right).saturating_add(1))
+                self.add_term(TermRow::Add(left, right))
             }
             Term::Sub(left, right) => {
                 let (left, right) = self.terms_below(left, right, over)?;
-                self.add_term(TermRow::Sub(left, right), left.max(right).saturating_add(1))
+                self.add_term(TermRow::Sub(left, right))
             }
             Term::Cat(left, right) => {
                 let (left, right) = self.terms_below(left, right, over)?;
-                self.add_term(TermRow::Cat(left, right), left.max(right).saturating_add(1))
+                self.add_term(TermRow::Cat(left, right))
             }
         }
     }
@@ -93,10 +104,10 @@ impl Table {
         ensures ok { IfOk result (λ number. IsTerm self.new number
             (variable (names (bound_by over.now) (logic_var_of var.now)))) }
     {
-        match place_behind(var, over, 0) {
-            Place::Free => self.add_named(var.name.as_str(), TermRow::Logic(0, var.sort)),
-            Place::Bound(place) => self.add_leaf(TermRow::Bound(place, var.sort)),
-            Place::Far => Err(OutOfMemory),
+        match binding_of(var, over, 0) {
+            Binding::Free => self.add_named(var.name.as_str(), Named::Logic(var.sort)),
+            Binding::Bound(place) => self.add_term(TermRow::Bound(place, var.sort)),
+            Binding::Far => Err(OutOfMemory),
         }
     }
 

@@ -6,11 +6,12 @@
 
 mod copying;
 mod faults;
-mod few_names;
 mod heads;
 mod interning;
 mod interning_terms;
+mod over_names;
 mod rows;
+mod same_names;
 mod sets;
 mod tables;
 

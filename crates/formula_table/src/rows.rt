@@ -31,30 +31,6 @@ pub enum TermRow {
     Cat(u32, u32),
 }
 
-impl TermRow {
-    // the name, where the row is that of a term of the same kind and sort over a name
-    #[inline(always)]
-    pub(crate) fn name_if_like(&self, like: TermRow) -> Option<u32> {
-        match (*self, like) {
-            (TermRow::Str(name), TermRow::Str(_)) => Some(name),
-            (TermRow::Prog(name, sort), TermRow::Prog(_, own)) if sort == own => Some(name),
-            (TermRow::Logic(name, sort), TermRow::Logic(_, own)) if sort == own => Some(name),
-            _ => None,
-        }
-    }
-
-    // the row with this name
-    #[inline(always)]
-    pub(crate) fn with_name(self, name: u32) -> TermRow {
-        match self {
-            TermRow::Str(_) => TermRow::Str(name),
-            TermRow::Prog(_, sort) => TermRow::Prog(name, sort),
-            TermRow::Logic(_, sort) => TermRow::Logic(name, sort),
-            other => other,
-        }
-    }
-}
-
 /// A formula, over terms and the formulas of the rows before it. What its form doesn't use is 0.
 #[derive(Clone, Copy, PartialEq, Eq, Hash)]
 pub struct FormRow {

@@ -3,27 +3,31 @@ ghost use Rattle.std.specs.Prelude.{◌≡◌, ◌<◌, ◌≤◌, ◌↔◌, []
 ghost use Rattle.std.specs.Prelude.{IfOk, IfSome};
 ghost use Rattle.std.specs.Bool.{OnTrue};
 ghost use Rattle.model_shapes.specs.Values.{null};
-ghost use Rattle.model_terms.specs.Terms.{Term, literal, variable};
+ghost use Rattle.model_terms.specs.Terms.{Term, literal};
 ghost use Rattle.model_formulas.specs.Formulas.{Formula, truth};
 ghost use Rattle.model_formulas.specs.SameFormulas as tests;
-ghost use Rattle.dom_terms.specs.Terms.{logic_var_of};
 ghost use Rattle.formula_table.specs.Heads.{build, parts_used};
+ghost use Rattle.formula_table.specs.OverNames.{named_term};
 ghost use Rattle.formula_table.specs.Rows.{bound_sort, read_term, TermWithin, FormWithin};
 ghost use Rattle.formula_table.specs.Tables.{HasRows};
 ghost use Rattle.formula_table.specs.OneProof.{rows-prop};
 
 use crate::copying::{copy_names, copy_rows};
 use crate::faults::TableFault;
-use crate::few_names::{FEW, same_name};
 use crate::heads::Head;
+use crate::over_names::Named;
 use crate::rows::{FormRow, TermRow};
+use crate::same_names::same_name;
 use crate::sets::{self, NEAR};
-use dom_terms::{LogicVar, OutOfMemory};
+use dom_terms::OutOfMemory;
 use indexmap::IndexSet;
 use std::alloc::Global;
 
 // How many formulas a table has at most, where nothing else is said.
 const MOST: u32 = 4_000_000;
+
+// How many of the first terms are looked at for one over a name.
+const FEW: u32 = 8;
 
 /// The number of a formula of a table.
 #[derive(Clone, Copy, Debug, PartialEq, Eq)]
@@ -40,6 +44,7 @@ pub struct Table {
     terms: IndexSet<TermRow>,
     forms: IndexSet<FormRow>,
     most: u32,
+    // where those found last stand: a term over a name, another with no part, a formula with none
     last_named: u32,
     last_term: u32,
     last_form: u32,
@@ -157,40 +162,20 @@ impl Table {
         a == b || (self.is_nameless(a) && self.is_nameless(b))
     }
 
-    // The number of the term over this one name, where its row is among those from the place on.
+    // the number of the term over the name, where its row is among those from the number on
     #[inline(always)]
-    fn named_from(&self, name: &str, like: TermRow, from: u32, most: u32) -> Option<u32> {
+    fn named_from(&self, name: &str, kind: Named, from: u32, most: u32) -> Option<u32>
+        ensures { IfSome result
+            (λ number. IsTerm self.now number (named_term kind name.now)) }
+    {
         for number in from..from.saturating_add(most) {
-            if let Some(known) = self.terms.get_index(number as usize)?.name_if_like(like)
-                && self.has_name(known, name)
-            {
-                return Some(number);
+            if let Some(known) = kind.name_in(*self.terms.get_index(number as usize)?) {
+                if self.has_name(known, name) {
+                    return Some(number);
+                }
             }
         }
         None
-    }
-
-    /// The number of the term over this one name, which is added where it isn't there. It is sought
-    /// where the last one stands, and among the first: most files have few names, which come early.
-    #[inline(always)]
-    pub(crate) fn add_named(&mut self, name: &str, like: TermRow) -> Result<u32, OutOfMemory> {
-        if let Some(number) = self.named_from(name, like, self.last_named, NEAR) {
-            self.last_named = number;
-            return Ok(number);
-        }
-        if let Some(number) = self.named_from(name, like, 0, FEW) {
-            return Ok(number);
-        }
-        self.add_far_named(name, like)
-    }
-
-    // the same, with a search by hashes
-    #[inline(never)]
-    fn add_far_named(&mut self, name: &str, like: TermRow) -> Result<u32, OutOfMemory> {
-        let name = sets::add_name(&mut self.names, name)?;
-        let number = sets::insert_term(&mut self.terms, like.with_name(name))?;
-        self.last_named = number.max(FEW);
-        Ok(number)
     }
 
     // whether the number is that of the name
@@ -204,22 +189,52 @@ impl Table {
         }
     }
 
+    // the number of the name, which is added where it isn't there
+    fn add_name(&mut self, name: &str) -> Result<u32, OutOfMemory>
+        ensures grows { TermsGrow self.old self.new }
+        ensures ok { IfOk result (λ number. IsName self.new number name.now) }
+    {
+        sets::add_name(&mut self.names, name)
+    }
+
+    /// The number of the term over the name, which is added where it isn't there. It is sought first
+    /// from the last such on, and then among the first: most files have few names, which come early.
+    #[inline(always)]
+    pub(crate) fn add_named(&mut self, name: &str, kind: Named) -> Result<u32, OutOfMemory>
+        ensures grows { TermsGrow self.old self.new }
+        ensures ok { IfOk result (λ number. IsTerm self.new number (named_term kind name.now)) }
+    {
+        if let Some(number) = self.named_from(name, kind, self.last_named, NEAR) {
+            self.last_named = number;
+            return Ok(number);
+        }
+        match self.named_from(name, kind, 0, FEW) {
+            Some(number) => Ok(number),
+            None => self.insert_named(name, kind),
+        }
+    }
+
+    // the same, by hashes
+    #[inline(never)]
+    fn insert_named(&mut self, name: &str, kind: Named) -> Result<u32, OutOfMemory>
+        ensures grows { TermsGrow self.old self.new }
+        ensures ok { IfOk result (λ number. IsTerm self.new number (named_term kind name.now)) }
+    {
+        let name = self.add_name(name)?;
+        let number = self.add_term(kind.row(name))?;
+        self.last_named = number.max(FEW);
+        Ok(number)
+    }
+
     /// The number of the term of a row, whose parts are in the table: the same.
     #[inline(always)]
-    pub(crate) fn add_term(&mut self, row: TermRow, near: u32) -> Result<u32, OutOfMemory>
+    pub(crate) fn add_term(&mut self, row: TermRow) -> Result<u32, OutOfMemory>
         requires { TermWithin (length (names_at self.old)) (length (terms_at self.old)) row }
         ensures grows { TermsGrow self.old self.new }
         ensures ok { IfOk result (λ number. IsTerm self.new number
             (read_term (names_at self.old) (terms_at self.old) row)) }
     {
-        sets::add_term(&mut self.terms, row, near)
-    }
-
-    #[inline(always)]
-    pub(crate) fn add_leaf(&mut self, row: TermRow) -> Result<u32, OutOfMemory> {
-        let number = self.add_term(row, self.last_term)?;
-        self.last_term = number;
-        Ok(number)
+        sets::add_term(&mut self.terms, row, &mut self.last_term)
     }
 
     /// The number of the formula of a row, whose parts are in the table: the same, where there is
@@ -231,11 +246,7 @@ impl Table {
             → Ends self.old self.new (build bound_sort row.head a b c p q ∷ [])
             (build bound_sort row.head a b c p q) result }
     {
-        let number = sets::add_form(&mut self.forms, row, self.most, self.last_form)?;
-        if row.left.max(row.right) == 0 {
-            self.last_form = number;
-        }
-        Ok(number)
+        sets::add_form(&mut self.forms, row, self.most, &mut self.last_form)
     }
 
     // whether the number stands for `true`
