@@ -1,4 +1,3 @@
-use Rattle.std.proofs.Common.{◌∙◌, sym, ap, Some}
 use Rattle.formula_table.proofs.ReadRows.{named_there}
 use Rattle.formula_table.proofs.tables.Table.named_from.Goals as goal
 
