@@ -10,6 +10,7 @@ mod heads;
 mod interning;
 mod interning_terms;
 mod over_names;
+mod recent;
 mod rows;
 mod same_names;
 mod sets;

@@ -17,6 +17,19 @@ pub(crate) fn same_name(left: &str, right: &str) -> bool
     same_bytes(own, other)
 }
 
+/// A sum over the name: its length and its last two bytes.
+#[inline(always)]
+pub(crate) fn sum_of_name(name: &str) -> u32 {
+    match name.as_bytes() {
+        [] => 0,
+        [only] => *only as u32,
+        [.., before, last] => {
+            let length = (name.len() % 65_536) as u32;
+            length.wrapping_mul(65_536) ^ ((*before as u32) << 8) ^ (*last as u32)
+        }
+    }
+}
+
 /// Whether the variables have the same name and the same sort.
 #[inline(always)]
 pub(crate) fn same_variable(left: &LogicVar, right: &LogicVar) -> bool

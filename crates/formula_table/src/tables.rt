@@ -16,18 +16,16 @@ use crate::copying::{copy_names, copy_rows};
 use crate::faults::TableFault;
 use crate::heads::Head;
 use crate::over_names::Named;
+use crate::recent::Recent;
 use crate::rows::{FormRow, TermRow};
-use crate::same_names::same_name;
-use crate::sets::{self, NEAR};
+use crate::same_names::{same_name, sum_of_name};
+use crate::sets;
 use dom_terms::OutOfMemory;
 use indexmap::IndexSet;
 use std::alloc::Global;
 
 // How many formulas a table has at most, where nothing else is said.
 const MOST: u32 = 4_000_000;
-
-// How many of the first terms are looked at for one over a name.
-const FEW: u32 = 8;
 
 /// The number of a formula of a table.
 #[derive(Clone, Copy, Debug, PartialEq, Eq)]
@@ -44,10 +42,11 @@ pub struct Table {
     terms: IndexSet<TermRow>,
     forms: IndexSet<FormRow>,
     most: u32,
-    // where those found last stand: a term over a name, another with no part, a formula with none
+    // where terms over names, other terms and formulas were found last, and the last one over a name
+    recent_named: Recent,
+    recent_terms: Recent,
+    recent_forms: Recent,
     last_named: u32,
-    last_term: u32,
-    last_form: u32,
     ghost whole: { HasRows names.keys terms.keys forms.keys } by { rows-prop _ _ _ },
     ghost few: { length forms.keys ≤ most },
 }
@@ -76,9 +75,10 @@ impl Table {
             terms: IndexSet::new(alloc),
             forms: IndexSet::new(alloc),
             most,
-            last_named: FEW,
-            last_term: 0,
-            last_form: 0,
+            recent_named: Recent::new(),
+            recent_terms: Recent::new(),
+            recent_forms: Recent::new(),
+            last_named: 0,
         }
     }
 
@@ -93,9 +93,10 @@ impl Table {
             terms: copy_rows(alloc, &self.terms)?,
             forms: copy_rows(alloc, &self.forms)?,
             most: self.most,
-            last_named: self.last_named,
-            last_term: self.last_term,
-            last_form: self.last_form,
+            recent_named: Recent::new(),
+            recent_terms: Recent::new(),
+            recent_forms: Recent::new(),
+            last_named: 0,
         })
     }
 
@@ -162,17 +163,15 @@ impl Table {
         a == b || (self.is_nameless(a) && self.is_nameless(b))
     }
 
-    // the number of the term over the name, where its row is among those from the number on
+    // the number, where it is that of the term over the name
     #[inline(always)]
-    fn named_from(&self, name: &str, kind: Named, from: u32, most: u32) -> Option<u32>
+    fn named_at(&self, name: &str, kind: Named, number: u32) -> Option<u32>
         ensures { IfSome result
             (λ number. IsTerm self.now number (named_term kind name.now)) }
     {
-        for number in from..from.saturating_add(most) {
-            if let Some(known) = kind.name_in(*self.terms.get_index(number as usize)?) {
-                if self.has_name(known, name) {
-                    return Some(number);
-                }
+        if let Some(known) = kind.name_in(*self.terms.get_index(number as usize)?) {
+            if self.has_name(known, name) {
+                return Some(number);
             }
         }
         None
@@ -198,17 +197,37 @@ impl Table {
     }
 
     /// The number of the term over the name, which is added where it isn't there. It is sought first
-    /// from the last such on, and then among the first: most files have few names, which come early.
+    /// where one with such a name was found last, and then after the last one: formulas that are
+    /// written again have their variables in the same order.
     #[inline(always)]
     pub(crate) fn add_named(&mut self, name: &str, kind: Named) -> Result<u32, OutOfMemory>
         ensures grows { TermsGrow self.old self.new }
         ensures ok { IfOk result (λ number. IsTerm self.new number (named_term kind name.now)) }
     {
-        if let Some(number) = self.named_from(name, kind, self.last_named, NEAR) {
-            self.last_named = number;
-            return Ok(number);
+        let sum = sum_of_name(name);
+        match self.named_at(name, kind, self.recent_named.guess(sum)) {
+            Some(number) => Ok(number),
+            None => self.add_far_named(name, kind, sum),
         }
-        match self.named_from(name, kind, 0, FEW) {
+    }
+
+    // the same, where no such one was found last, and that this one was is noted
+    fn add_far_named(&mut self, name: &str, kind: Named, sum: u32) -> Result<u32, OutOfMemory>
+        ensures grows { TermsGrow self.old self.new }
+        ensures ok { IfOk result (λ number. IsTerm self.new number (named_term kind name.now)) }
+    {
+        let number = self.next_named(name, kind)?;
+        self.last_named = number;
+        self.recent_named.note(sum, number);
+        Ok(number)
+    }
+
+    // the same, sought after the last one
+    fn next_named(&mut self, name: &str, kind: Named) -> Result<u32, OutOfMemory>
+        ensures grows { TermsGrow self.old self.new }
+        ensures ok { IfOk result (λ number. IsTerm self.new number (named_term kind name.now)) }
+    {
+        match self.named_at(name, kind, self.last_named.saturating_add(1)) {
             Some(number) => Ok(number),
             None => self.insert_named(name, kind),
         }
@@ -222,7 +241,6 @@ impl Table {
     {
         let name = self.add_name(name)?;
         let number = self.add_term(kind.row(name))?;
-        self.last_named = number.max(FEW);
         Ok(number)
     }
 
@@ -234,7 +252,7 @@ impl Table {
         ensures ok { IfOk result (λ number. IsTerm self.new number
             (read_term (names_at self.old) (terms_at self.old) row)) }
     {
-        sets::add_term(&mut self.terms, row, &mut self.last_term)
+        sets::add_term(&mut self.terms, &mut self.recent_terms, row)
     }
 
     /// The number of the formula of a row, whose parts are in the table: the same, where there is
@@ -246,7 +264,7 @@ impl Table {
             → Ends self.old self.new (build bound_sort row.head a b c p q ∷ [])
             (build bound_sort row.head a b c p q) result }
     {
-        sets::add_form(&mut self.forms, row, self.most, &mut self.last_form)
+        sets::add_form(&mut self.forms, &mut self.recent_forms, row, self.most)
     }
 
     // whether the number stands for `true`
