@@ -104,6 +104,15 @@ module _ (old new : Table) (e : new.terms.keys ≡ old.terms.keys)
       pub name_found : IfOk r (λ i. IsName new i x)
       name_found = name_found_by new x (map string_bytes old.names.keys) r a
 
+-- a table of the same rows, wherever those found last stand
+pub rows_stay : (old new : Table) → new.names.keys ≡ old.names.keys
+    → new.terms.keys ≡ old.terms.keys → new.forms.keys ≡ old.forms.keys → new.most ≡ old.most
+    → TermsGrow old new
+unfolding names_at
+rows_stay old new n e f m = names_grow old new e f m new.whole.one_name
+    (keeps-same (map string_bytes old.names.keys) (map string_bytes new.names.keys)
+    (ap (map string_bytes) n))
+
 -- TERMS
 module _ (names : List Name) (old new : List TermRow) (forms : List FormRow)
     (row : TermRow) (t : IsTable names old forms)

@@ -1,7 +1,10 @@
 -- What a variable is below binders, step by step.
-use Rattle.std.proofs.Common.{◌≡◌, ℕ, ◌+◌, refl, []}
-use Rattle.model_terms.specs.Terms.{Term, literal, variable, sum, difference, appended, term_with}
-use Rattle.model_formulas.specs.Nameless.{naming}
+use Rattle.std.proofs.Common.{◌≡◌, ℕ, suc, ◌+◌, ◌-◌, ◌≤◌, refl, ap, ◌∙◌, arith, List, [], ◌∷◌, false}
+use Rattle.model_shapes.specs.Sorts.{Sort}
+use Rattle.model_terms.specs.Variables.{Var, bound}
+use Rattle.model_terms.specs.VariableTests.{same_var}
+use Rattle.model_terms.specs.Terms.{Term, literal, variable, sum, difference, appended, term_with, raised_var}
+use Rattle.model_formulas.specs.Nameless.{names, naming}
 use Rattle.formula_syntax.proofs.BoundNames.{names-here, names-there, names-prog}
 
 -- no binder changes nothing
@@ -19,6 +22,18 @@ subterms (variable x) = 1
 subterms (sum a b) = 1 + (subterms a + subterms b)
 subterms (difference a b) = 1 + (subterms a + subterms b)
 subterms (appended a b) = 1 + (subterms a + subterms b)
+
+-- behind one binder more
+pub passed_binder : (x y : Var) (ys : List Var) (p q i : ℕ) (s : Sort) → same_var x y ≡ false
+    → q ≡ p + 1 → q ≤ i → names ys x ≡ bound (i - q) s
+    → (p ≤ i) × (names (y ∷ ys) x ≡ bound (i - p) s)
+passed_binder x y ys p q i s n e h k = (
+  omega (arith, e, h),
+  names-there x y ys n ∙ (ap raised_var k ∙ ap (λ j. bound j s) step),
+)
+  where
+    step : suc (i - q) ≡ i - p
+    step = omega (arith, e, h)
 
 pub ruleset name_rules = (names-here, names-there)
 

@@ -7,21 +7,20 @@ use Rattle.std.proofs.lemmas.Bool.Decides.{eqb_tells}
 use Rattle.std.proofs.lemmas.List.{get_or_past, get_or-map, length-map}
 use Rattle.std.proofs.lemmas.Option.{slice_get_cases, slice_get_within, get_or_from_slice_get}
 use Rattle.model_shapes.specs.Values.{Name, null}
-use Rattle.model_terms.specs.Variables.{logic}
-use Rattle.model_terms.specs.Terms.{Term, literal, variable}
+use Rattle.model_terms.specs.Terms.{Term, literal}
 use Rattle.model_formulas.specs.Formulas.{Formula, truth}
-use Rattle.dom_terms.specs.Sorts.{sort_of}
-use Rattle.dom_terms.specs.declared.sorts.Sort.{Sort}
 use Rattle.formula_table.specs.Growing.{grow, EachWithin, Keeps}
 use Rattle.formula_table.specs.Heads.{build, terms_used, parts_used}
+use Rattle.formula_table.specs.OverNames.{named_row, named_term}
 use Rattle.formula_table.specs.Rows.{bound_sort, used_at, read_term, read_form, TermWithin, FormWithin}
 use Rattle.formula_table.specs.Tables.{terms_of}
 use Rattle.formula_table.specs.Forms.{names_at, terms_at, forms_at, name_at, term_at, form_at}
 use Rattle.formula_table.specs.Interning.{IsTerm}
 use Rattle.formula_table.specs.declared.heads.Head.{Head}
 use Rattle.formula_table.specs.declared.heads.Head.TheVariants as h
+use Rattle.formula_table.specs.declared.over_names.Named.{Named}
+use Rattle.formula_table.specs.declared.over_names.Named.TheVariants as n
 use Rattle.formula_table.specs.declared.rows.TermRow.{TermRow}
-use Rattle.formula_table.specs.declared.rows.TermRow.TheVariants as v
 use Rattle.formula_table.specs.declared.rows.FormRow.{FormRow}
 use Rattle.formula_table.specs.declared.tables.Table.{Table}
 use Rattle.formula_table.proofs.Growing.{grow-length, grow-at, within-at}
@@ -89,6 +88,13 @@ place-used : (used place n i : ℕ) → cond (nat_lt place used) (i < n) (i ≡ 
 place-used used place n i p u =
     subst (λ b. cond b (i < n) (i ≡ zero)) (lt-ltb place used u) p
 
+-- the row of a term over a name reads as that term
+pub named-reads : (names : List Name) (terms : List Term) (k : Named) (x : ℕ)
+    → read_term names terms (named_row k x) ≡ named_term k (get_or names x [])
+named-reads names terms n.Str x = refl
+named-reads names terms (n.Prog s) x = refl
+named-reads names terms (n.Logic s) x = refl
+
 module _ (t : Table) (i : ℕ) where
   module _ (r : FormRow) (at : Some r ≡ slice_get t.forms.keys i) where
     pub form_row : form_at t i ≡ build bound_sort r.head (term_at t r.first) (term_at t r.second)
@@ -142,13 +148,13 @@ module _ (t : Table) (i : ℕ) where
       is = term_row;
     }
 
-  -- the row of a variable that stands free
-  pub free_there : (x : ℕ) (s k : Sort) (y : Name)
-      → Some (v.Logic x s) ≡ slice_get t.terms.keys i → s ≡ k → name_at t x ≡ y
-      → IsTerm t i (variable (logic y (sort_of k)))
-  free_there x s k y at q e = subst (λ z. IsTerm t i (variable (logic z (sort_of k)))) e
-      (subst (λ m. IsTerm t i (variable (logic (name_at t x) (sort_of m)))) q
-      (term_there (v.Logic x s) at))
+  -- the row of a term over a name
+  pub named_there : (k : Named) (x : ℕ) (r : TermRow) (y : Name)
+      → Some r ≡ slice_get t.terms.keys i → r ≡ named_row k x → name_at t x ≡ y
+      → IsTerm t i (named_term k y)
+  named_there k x r y at q e = subst (λ a. IsTerm t i a)
+      (ap (read_term (names_at t) (terms_at t)) q
+      ∙ (named-reads (names_at t) (terms_at t) k x ∙ ap (named_term k) e)) (term_there r at)
 
   pub no_term : None ≡ slice_get t.terms.keys i → term_at t i ≡ literal null
   unfolding names_at terms_at

@@ -6,3 +6,4 @@ pub mod Tables
 pub mod OneProof
 pub mod Forms
 pub mod Interning
+pub mod OverNames

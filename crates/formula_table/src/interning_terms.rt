@@ -1,35 +1,49 @@
 // The numbers of terms, which are added to a table where they aren't there.
-ghost use Rattle.std.specs.Prelude.{◌≡◌, ◌-◌, ◌≤◌, IfOk, IfNone, IfSome};
+ghost use Rattle.std.specs.Prelude.{◌≡◌, ◌-◌, ◌≤◌, ℕ, IfOk};
 ghost use Rattle.model_terms.specs.Variables.{bound};
 ghost use Rattle.model_terms.specs.Terms.{variable, term_with};
 ghost use Rattle.model_formulas.specs.Nameless.{names, naming};
 ghost use Rattle.dom_terms.specs.Sorts.{sort_of};
 ghost use Rattle.dom_terms.specs.Terms.{logic_var_of, term_of};
 ghost use Rattle.formula_syntax.specs.Binders.{bound_by};
+ghost use Rattle.formula_table.specs.declared.interning_terms.Binding.TheVariants as b;
 
+use crate::over_names::Named;
 use crate::rows::TermRow;
+use crate::same_names::same_variable;
 use crate::tables::Table;
-use dom_terms::{LogicVar, OutOfMemory, Term, same_logic_var};
+use dom_terms::{LogicVar, OutOfMemory, Term};
 use formula_syntax::Binders;
 
-// how many binders there are between the variable and its binder, behind those that were passed
+// Where the binder of a variable stands.
+enum Binding {
+    // There is none.
+    Free,
+    // It is behind so many others.
+    Bound(u32),
+    // It is behind more than can be counted.
+    Far,
+}
+
+// where the binder stands, behind those that were passed
 #[tactic(auto, using(crate::proofs::Named::name_rules))]
-fn place_behind(
-    variable: &LogicVar,
-    over: &Binders,
-    passed: u32,
-) -> Result<Option<u32>, OutOfMemory>
-    ensures free { IfOk result (λ place. IfNone place
-        (names (bound_by over.now) (logic_var_of variable.now) ≡ logic_var_of variable.now)) }
-    ensures bound { IfOk result (λ place. IfSome place (λ i. (passed ≤ i)
+fn binding_of(variable: &LogicVar, over: &Binders, passed: u32) -> Binding
+    ensures free { result ≡ b.Free
+        → names (bound_by over.now) (logic_var_of variable.now) ≡ logic_var_of variable.now }
+    ensures bound { (i : ℕ) → result ≡ b.Bound i → (passed ≤ i)
         × (names (bound_by over.now) (logic_var_of variable.now)
-        ≡ bound (i - passed) (sort_of variable.now.sort)))) }
+        ≡ bound (i - passed) (sort_of variable.now.sort)) }
 {
     match over {
-        Binders::Empty => Ok(None),
-        Binders::More(nearest, _) if same_logic_var(variable, nearest) => Ok(Some(passed)),
-        Binders::More(_, outer) => {
-            place_behind(variable, outer, passed.checked_add(1).ok_or(OutOfMemory)?)
+        Binders::Empty => Binding::Free,
+        Binders::More(nearest, outer) => {
+            if same_variable(variable, nearest) {
+                return Binding::Bound(passed);
+            }
+            match passed.checked_add(1) {
+                Some(passed) => binding_of(variable, outer, passed),
+                None => Binding::Far,
+            }
         }
     }
 }
@@ -59,13 +73,9 @@ impl Table {
             Term::NullList => self.add_term(TermRow::NullList),
             Term::Int(number) => self.add_term(TermRow::Int(*number)),
             Term::Bool(truth) => self.add_term(TermRow::Bool(*truth)),
-            Term::Str(text) => {
-                let text = self.add_name(text.as_str())?;
-                self.add_term(TermRow::Str(text))
-            }
+            Term::Str(text) => self.add_named(text.as_str(), Named::Str),
             Term::Prog(variable) => {
-                let name = self.add_name(variable.name.as_str())?;
-                self.add_term(TermRow::Prog(name, variable.sort))
+                self.add_named(variable.name.as_str(), Named::Prog(variable.sort))
             }
             Term::Logic(variable) => self.variable_below(variable, over),
             Term::Add(left, right) => {
@@ -84,6 +94,7 @@ impl Table {
     }
 
     /// The number of the variable below the binders.
+    #[inline(always)]
     pub(crate) fn variable_below(
         &mut self,
         var: &LogicVar,
@@ -93,27 +104,11 @@ impl Table {
         ensures ok { IfOk result (λ number. IsTerm self.new number
             (variable (names (bound_by over.now) (logic_var_of var.now)))) }
     {
-        match over {
-            Binders::Empty => self.free_variable(var),
-            Binders::More(_, _) => match place_behind(var, over, 0)? {
-                Some(place) => self.add_term(TermRow::Bound(place, var.sort)),
-                None => self.free_variable(var),
-            },
+        match binding_of(var, over, 0) {
+            Binding::Free => self.add_named(var.name.as_str(), Named::Logic(var.sort)),
+            Binding::Bound(place) => self.add_term(TermRow::Bound(place, var.sort)),
+            Binding::Far => Err(OutOfMemory),
         }
-    }
-
-    // the number of the variable, which stands free
-    #[inline(always)]
-    fn free_variable(&mut self, var: &LogicVar) -> Result<u32, OutOfMemory>
-        ensures grows { TermsGrow self.old self.new }
-        ensures ok { IfOk result (λ number. IsTerm self.new number
-            (variable (logic_var_of var.now))) }
-    {
-        if let Some(number) = self.first_free(var) {
-            return Ok(number);
-        }
-        let name = self.add_name(var.name.as_str())?;
-        self.add_term(TermRow::Logic(name, var.sort))
     }
 
     /// The numbers of both terms below the binders.

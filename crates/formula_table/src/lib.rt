@@ -6,11 +6,13 @@
 
 mod copying;
 mod faults;
-mod few_names;
 mod heads;
 mod interning;
 mod interning_terms;
+mod over_names;
+mod recent;
 mod rows;
+mod same_names;
 mod sets;
 mod tables;
 

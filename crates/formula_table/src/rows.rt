@@ -31,6 +31,26 @@ pub enum TermRow {
     Cat(u32, u32),
 }
 
+impl TermRow {
+    // a sum over the row
+    #[inline(always)]
+    pub(crate) fn sum(&self) -> u32 {
+        match self {
+            TermRow::NullNode => 1,
+            TermRow::NullList => 2,
+            TermRow::Bool(_) => 3,
+            TermRow::Int(number) => (number.unsigned_abs() % 1_048_576) as u32 + 64,
+            TermRow::Str(name) => name.wrapping_mul(8).wrapping_add(4),
+            TermRow::Prog(name, _) => name.wrapping_mul(8).wrapping_add(5),
+            TermRow::Logic(name, _) => name.wrapping_mul(8).wrapping_add(6),
+            TermRow::Bound(place, _) => place.wrapping_mul(8).wrapping_add(7),
+            TermRow::Add(left, right) | TermRow::Sub(left, right) | TermRow::Cat(left, right) => {
+                left.wrapping_mul(31).wrapping_add(*right)
+            }
+        }
+    }
+}
+
 /// A formula, over terms and the formulas of the rows before it. What its form doesn't use is 0.
 #[derive(Clone, Copy, PartialEq, Eq, Hash)]
 pub struct FormRow {
@@ -49,6 +69,20 @@ pub struct FormRow {
 }
 
 impl FormRow {
+    // a sum over the row
+    #[inline(always)]
+    pub(crate) fn sum(&self) -> u32 {
+        let terms = self
+            .first
+            .wrapping_mul(5)
+            .wrapping_add(self.second.wrapping_mul(3));
+        let parts = self
+            .left
+            .wrapping_mul(31)
+            .wrapping_add(self.right.wrapping_mul(1_021));
+        terms.wrapping_add(parts).wrapping_add(self.third)
+    }
+
     // the row of a form with no term and no part
     pub(crate) fn of(head: Head) -> FormRow
         ensures { result ≡ record {

@@ -3,22 +3,24 @@ ghost use Rattle.std.specs.Prelude.{◌≡◌, ◌<◌, ◌≤◌, ◌↔◌, []
 ghost use Rattle.std.specs.Prelude.{IfOk, IfSome};
 ghost use Rattle.std.specs.Bool.{OnTrue};
 ghost use Rattle.model_shapes.specs.Values.{null};
-ghost use Rattle.model_terms.specs.Terms.{Term, literal, variable};
+ghost use Rattle.model_terms.specs.Terms.{Term, literal};
 ghost use Rattle.model_formulas.specs.Formulas.{Formula, truth};
 ghost use Rattle.model_formulas.specs.SameFormulas as tests;
-ghost use Rattle.dom_terms.specs.Terms.{logic_var_of};
 ghost use Rattle.formula_table.specs.Heads.{build, parts_used};
+ghost use Rattle.formula_table.specs.OverNames.{named_term};
 ghost use Rattle.formula_table.specs.Rows.{bound_sort, read_term, TermWithin, FormWithin};
 ghost use Rattle.formula_table.specs.Tables.{HasRows};
 ghost use Rattle.formula_table.specs.OneProof.{rows-prop};
 
 use crate::copying::{copy_names, copy_rows};
 use crate::faults::TableFault;
-use crate::few_names::{FEW, same_name};
 use crate::heads::Head;
+use crate::over_names::Named;
+use crate::recent::Recent;
 use crate::rows::{FormRow, TermRow};
+use crate::same_names::{same_name, sum_of_name};
 use crate::sets;
-use dom_terms::{LogicVar, OutOfMemory};
+use dom_terms::OutOfMemory;
 use indexmap::IndexSet;
 use std::alloc::Global;
 
@@ -40,6 +42,11 @@ pub struct Table {
     terms: IndexSet<TermRow>,
     forms: IndexSet<FormRow>,
     most: u32,
+    // where terms over names, other terms and formulas were found last, and the last one over a name
+    recent_named: Recent,
+    recent_terms: Recent,
+    recent_forms: Recent,
+    last_named: u32,
     ghost whole: { HasRows names.keys terms.keys forms.keys } by { rows-prop _ _ _ },
     ghost few: { length forms.keys ≤ most },
 }
@@ -68,6 +75,10 @@ impl Table {
             terms: IndexSet::new(alloc),
             forms: IndexSet::new(alloc),
             most,
+            recent_named: Recent::new(),
+            recent_terms: Recent::new(),
+            recent_forms: Recent::new(),
+            last_named: 0,
         }
     }
 
@@ -82,6 +93,10 @@ impl Table {
             terms: copy_rows(alloc, &self.terms)?,
             forms: copy_rows(alloc, &self.forms)?,
             most: self.most,
+            recent_named: Recent::new(),
+            recent_terms: Recent::new(),
+            recent_forms: Recent::new(),
+            last_named: 0,
         })
     }
 
@@ -148,22 +163,15 @@ impl Table {
         a == b || (self.is_nameless(a) && self.is_nameless(b))
     }
 
-    /// The number of the variable, which stands free, where its row is among the first: most files
-    /// have few variables, which come early.
+    // the number, where it is that of the term over the name
     #[inline(always)]
-    pub(crate) fn first_free(&self, var: &LogicVar) -> Option<u32>
+    fn named_at(&self, name: &str, kind: Named, number: u32) -> Option<u32>
         ensures { IfSome result
-            (λ number. IsTerm self.now number (variable (logic_var_of var.now))) }
+            (λ number. IsTerm self.now number (named_term kind name.now)) }
     {
-        let name = var.name.as_str();
-        for number in 0..FEW {
-            match self.terms.get_index(number as usize)? {
-                TermRow::Logic(known, sort) => {
-                    if *sort == var.sort && self.has_name(*known, name) {
-                        return Some(number);
-                    }
-                }
-                _ => {}
+        if let Some(known) = kind.name_in(*self.terms.get_index(number as usize)?) {
+            if self.has_name(known, name) {
+                return Some(number);
             }
         }
         None
@@ -180,33 +188,83 @@ impl Table {
         }
     }
 
-    /// The number of the name, which is added where it isn't there.
-    pub(crate) fn add_name(&mut self, name: &str) -> Result<u32, OutOfMemory>
+    // the number of the name, which is added where it isn't there
+    fn add_name(&mut self, name: &str) -> Result<u32, OutOfMemory>
         ensures grows { TermsGrow self.old self.new }
         ensures ok { IfOk result (λ number. IsName self.new number name.now) }
     {
         sets::add_name(&mut self.names, name)
     }
 
+    /// The number of the term over the name, which is added where it isn't there. It is sought first
+    /// where one with such a name was found last, and then after the last one: formulas that are
+    /// written again have their variables in the same order.
+    #[inline(always)]
+    pub(crate) fn add_named(&mut self, name: &str, kind: Named) -> Result<u32, OutOfMemory>
+        ensures grows { TermsGrow self.old self.new }
+        ensures ok { IfOk result (λ number. IsTerm self.new number (named_term kind name.now)) }
+    {
+        let sum = sum_of_name(name);
+        match self.named_at(name, kind, self.recent_named.guess(sum)) {
+            Some(number) => Ok(number),
+            None => self.add_far_named(name, kind, sum),
+        }
+    }
+
+    // the same, where no such one was found last, and that this one was is noted
+    fn add_far_named(&mut self, name: &str, kind: Named, sum: u32) -> Result<u32, OutOfMemory>
+        ensures grows { TermsGrow self.old self.new }
+        ensures ok { IfOk result (λ number. IsTerm self.new number (named_term kind name.now)) }
+    {
+        let number = self.next_named(name, kind)?;
+        self.last_named = number;
+        self.recent_named.note(sum, number);
+        Ok(number)
+    }
+
+    // the same, sought after the last one
+    fn next_named(&mut self, name: &str, kind: Named) -> Result<u32, OutOfMemory>
+        ensures grows { TermsGrow self.old self.new }
+        ensures ok { IfOk result (λ number. IsTerm self.new number (named_term kind name.now)) }
+    {
+        match self.named_at(name, kind, self.last_named.saturating_add(1)) {
+            Some(number) => Ok(number),
+            None => self.insert_named(name, kind),
+        }
+    }
+
+    // the same, by hashes
+    #[inline(never)]
+    fn insert_named(&mut self, name: &str, kind: Named) -> Result<u32, OutOfMemory>
+        ensures grows { TermsGrow self.old self.new }
+        ensures ok { IfOk result (λ number. IsTerm self.new number (named_term kind name.now)) }
+    {
+        let name = self.add_name(name)?;
+        let number = self.add_term(kind.row(name))?;
+        Ok(number)
+    }
+
     /// The number of the term of a row, whose parts are in the table: the same.
+    #[inline(always)]
     pub(crate) fn add_term(&mut self, row: TermRow) -> Result<u32, OutOfMemory>
         requires { TermWithin (length (names_at self.old)) (length (terms_at self.old)) row }
         ensures grows { TermsGrow self.old self.new }
         ensures ok { IfOk result (λ number. IsTerm self.new number
             (read_term (names_at self.old) (terms_at self.old) row)) }
     {
-        sets::add_term(&mut self.terms, row)
+        sets::add_term(&mut self.terms, &mut self.recent_terms, row)
     }
 
     /// The number of the formula of a row, whose parts are in the table: the same, where there is
     /// room.
+    #[inline(always)]
     pub(crate) fn add_form(&mut self, row: FormRow) -> Result<u32, TableFault>
         requires { FormWithin (length (terms_at self.old)) (length (forms_at self.old)) row }
         ensures { (a b c : Term) (p q : Formula) → IsRow self.old row a b c p q
             → Ends self.old self.new (build bound_sort row.head a b c p q ∷ [])
             (build bound_sort row.head a b c p q) result }
     {
-        sets::add_form(&mut self.forms, row, self.most)
+        sets::add_form(&mut self.forms, &mut self.recent_forms, row, self.most)
     }
 
     // whether the number stands for `true`

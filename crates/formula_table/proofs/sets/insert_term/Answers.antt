@@ -1,7 +1,7 @@
 use Rattle.formula_table.specs.contracts.rows.TermRowPartialEq.TheImpl as tk
 use Rattle.formula_table.proofs.FoundRows.{inserted}
 use Rattle.formula_table.proofs.RowTests.{term_row-same, term_row-refl}
-use Rattle.formula_table.proofs.sets.add_term.Goals as goal
+use Rattle.formula_table.proofs.sets.insert_term.Goals as goal
 
 pub returns-clause-ok : goal.returns-clause-ok
 returns-clause-ok c = let s = c.in_ok-place.ensures.stored in

@@ -1,6 +1,6 @@
 use Rattle.std.proofs.Common.{sym, ◌∙◌, arith}
 use Rattle.formula_table.proofs.RowTests.{row-same}
-use Rattle.formula_table.proofs.sets.place_near_parts.Goals as goal
+use Rattle.formula_table.proofs.sets.place_of_form.Goals as goal
 
 pub returns-then-eq : goal.returns-then-eq
 returns-then-eq c = let same = row-same c.in_ok-there.there.now c.args.row.now
