@@ -147,7 +147,7 @@ module _ (s : Sort) where
 
       at : (o : Option Formula) → Below s k (meet same_formula o p (with_below a p k) k)
       at None = λ e h. (
-        λ b. subst (λ o. IsBodyAt k.x_sort o) (sym (get-place a b p k.belows))
+        λ b. subst (λ o. IsBodyAt k.x_sort o) (sym (get-place a p k.belows b))
             (each e h b (same_formula_letter b a)),
         e,
       )

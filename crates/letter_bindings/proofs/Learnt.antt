@@ -115,12 +115,12 @@ put-or false v o = refl
 set-place : (b a : FormulaLetter) (p : Formula) (ps : FormulaPlaces)
     → is_some (place_in (put_place a p ps) b) ≡ (same_formula_letter b a || is_some (place_in ps b))
 set-place b a p ps =
-    ap is_some (get-place a b p ps) ∙ put-or (same_formula_letter b a) p (place_in ps b)
+    ap is_some (get-place a p ps b) ∙ put-or (same_formula_letter b a) p (place_in ps b)
 
 set-term : (b a : TermLetter) (t : Term) (ts : TermPlaces)
     → is_some (term_in (put_term a t ts) b) ≡ (same_term_letter b a || is_some (term_in ts b))
 set-term b a t ts =
-    ap is_some (get-term a b t ts) ∙ put-or (same_term_letter b a) t (term_in ts b)
+    ap is_some (get-term a t ts b) ∙ put-or (same_term_letter b a) t (term_in ts b)
 
 absorbed : (b c : Bool) → (b ≡ true → c ≡ true) → (b || c) ≡ c
 absorbed true c f = sym (f refl)

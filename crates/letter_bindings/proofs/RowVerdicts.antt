@@ -16,14 +16,15 @@ use Rattle.rule_table.specs.Verdicts.{Written, Concludes, Follows, MeetsFirst, M
 use Rattle.rule_table.proofs.Decisions.{both_hold}
 use Rattle.rule_table.proofs.NewNames.{new_name, new_name-new}
 use Rattle.rule_table.proofs.Opening.{opening}
-use Rattle.rule_patterns.specs.Letter.{FormulaLetter, TermLetter, DataLetter, P', Q', R', A', B', K', H', E', F', S', I', L', T', J', M', G', V', Y', N', h', k', j', term_at, data_at}
+use Rattle.rule_patterns.specs.Letter.{FormulaLetter, DataLetter, P', Q', R', A', B', K', H', E', h', k', j', data_at}
 use Rattle.rule_patterns.specs.Patterns.{RequirementPattern, of_sort_p, x_of_sort_p, ConditionPattern, not_free_p, pure_p, LinePattern, condition_of, conditions_of, terms_of, judgement_of, judgements_of, line_of}
-use Rattle.letter_bindings.specs.Known.{place_in, term_in, data_in, Known, nothing, Says, Agrees, Exact}
+use Rattle.letter_bindings.specs.Known.{place_in, data_in, Known, nothing, Says, Agrees, Exact}
 use Rattle.letter_bindings.specs.Matching.{match_terms, match_judgement}
 use Rattle.letter_bindings.specs.Settled.{settle}
 use Rattle.letter_bindings.specs.Choices.{choice, IsBody, IsBodyAt, AllBodies, IsSortedAt, SortIsKnown, IsReady, PutIsReady, IsApart}
 use Rattle.letter_bindings.specs.Bodies.{JudgementSorted}
 use Rattle.letter_bindings.specs.Lines.{walk_conclusion, walk_premises, requirement_met, condition_met, first_side, verdict_settled, verdict_followed, verdict_concluded, row_verdict}
+use Rattle.letter_bindings.proofs.EachLetter.{each-formula, each-term}
 use Rattle.letter_bindings.proofs.Closing.{closed-body}
 use Rattle.letter_bindings.proofs.OtherVariables.{body-again}
 use Rattle.letter_bindings.proofs.WalkedLines.{conclusion-exact, premises-exact}
@@ -45,13 +46,7 @@ RowIs row w (side_verdict name) =
 
 -- NOTHING IS KNOWN AT FIRST
 no-formula : (a : FormulaLetter) → place_in nothing.formulas a ≡ None
-no-formula P' = refl
-no-formula Q' = refl
-no-formula R' = refl
-no-formula A' = refl
-no-formula B' = refl
-no-formula K' = refl
-no-formula H' = refl
+no-formula = each-formula _ (refl, refl, refl, refl, refl, refl, refl)
 
 says-none : {A : Type 0} (o : Option A) (a : A) → o ≡ None → Says o a
 says-none None a e = tt
@@ -62,7 +57,7 @@ pub nothing-agrees : (l : Letters) → Agrees l nothing
 nothing-agrees l = record {
   formulas = λ a. says-none _ _ (no-formula a);
   belows = λ a. says-none _ _ (no-formula a);
-  terms = terms;
+  terms = each-term _ (tt, tt, tt, tt, tt, tt, tt, tt, tt, tt, tt, tt);
   datas = datas;
   sort = tt;
   hole = tt;
@@ -71,20 +66,6 @@ nothing-agrees l = record {
   put = tt;
 }
   where
-    terms : (a : TermLetter) → Says (term_in nothing.terms a) (term_at l a)
-    terms E' = tt
-    terms F' = tt
-    terms S' = tt
-    terms I' = tt
-    terms L' = tt
-    terms T' = tt
-    terms J' = tt
-    terms M' = tt
-    terms G' = tt
-    terms V' = tt
-    terms Y' = tt
-    terms N' = tt
-
     datas : (a : DataLetter) → Says (data_in nothing.datas a) (data_at l a)
     datas h' = tt
     datas k' = tt
@@ -118,19 +99,17 @@ each-decided : (P : FormulaLetter → Type 0) → ((a : FormulaLetter) → Dec (
 each-decided P d = by (both_hold (d P') (both_hold (d Q') (both_hold (d R') (both_hold (d A')
     (both_hold (d B') (both_hold (d K') (d H')))))))
   where
-    by : Dec ((P P') × ((P Q') × ((P R') × ((P A') × ((P B') × ((P K') × (P H')))))))
+    by : Dec (P P' × (P Q' × (P R' × (P A' × (P B' × (P K' × P H'))))))
         → Dec ((a : FormulaLetter) → P a)
-    by (yes h) = yes (λ a. at h a)
-      where
-        at : (P P') × ((P Q') × ((P R') × ((P A') × ((P B') × ((P K') × (P H'))))))
-            → (a : FormulaLetter) → P a
-        at h P' = h.0
-        at h Q' = h.1.0
-        at h R' = h.1.1.0
-        at h A' = h.1.1.1.0
-        at h B' = h.1.1.1.1.0
-        at h K' = h.1.1.1.1.1.0
-        at h H' = h.1.1.1.1.1.1
+    by (yes h) = yes (each-formula P (
+      h.0,
+      h.1.0,
+      h.1.1.0,
+      h.1.1.1.0,
+      h.1.1.1.1.0,
+      h.1.1.1.1.1.0,
+      h.1.1.1.1.1.1,
+    ))
     by (no n) =
         no (λ f. n (f P', (f Q', (f R', (f A', (f B', (f K', f H')))))))
 

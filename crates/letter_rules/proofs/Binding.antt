@@ -7,11 +7,13 @@ use Rattle.model_formulas.specs.Substitution.{formula_with, closing}
 use Rattle.rule_table.specs.Letters.{Letters, LogicVar, as_logic}
 use Rattle.rule_table.specs.Notation.{for_some}
 use Rattle.rule_table.proofs.SomeLetters.{plain_letters}
-use Rattle.rule_patterns.specs.Letter.{FormulaLetter, P', Q', R', A', B', K', H', TermLetter, E', F', S', I', L', T', J', M', DataLetter, h', k', j', formula_at, term_at, data_at}
-use Rattle.letter_bindings.specs.Known.{FormulaPlaces, Known, Says, Agrees, nothing, no_formulas, place_in, term_in, data_in}
+use Rattle.rule_patterns.specs.Letter.{FormulaLetter, P', Q', formula_at}
+use Rattle.letter_bindings.specs.Known.{FormulaPlaces, Known, Says, Agrees, nothing, no_formulas, place_in}
 use Rattle.letter_bindings.specs.Settled.{settle}
 use Rattle.letter_bindings.specs.Choices.{IsBody, IsBodyAt, choice}
+use Rattle.letter_bindings.proofs.EachLetter.{each-formula}
 use Rattle.letter_bindings.proofs.Settling.{settled-agrees, settled-new, agrees-settles}
+use Rattle.letter_bindings.proofs.RowVerdicts.{nothing-agrees}
 use Rattle.letter_rules.specs.EliminateTests.{known_of}
 
 -- THE VARIABLE that both existentials bind
@@ -55,13 +57,7 @@ module _ (s : Sort) (before behind : Formula) where
 
   module _ (before-body : IsBody s before) (behind-body : IsBody s behind) where
     bodies : (a : FormulaLetter) → IsBodyAt (Some s) (place_in belows a)
-    bodies P' = before-body
-    bodies Q' = behind-body
-    bodies R' = tt
-    bodies A' = tt
-    bodies B' = tt
-    bodies K' = tt
-    bodies H' = tt
+    bodies = each-formula _ (before-body, behind-body, tt, tt, tt, tt, tt)
 
     -- they bind a variable of some formulas
     pub some-bound : SomeBound pre post
@@ -116,45 +112,18 @@ module _ (s : Sort) (before behind : Formula) where
 
     formulas : (a : FormulaLetter) → Says (place_in (known_of s p q before behind).formulas a)
         (formula_at letters a)
-    formulas P' = refl
-    formulas Q' = refl
-    formulas R' = tt
-    formulas A' = tt
-    formulas B' = tt
-    formulas K' = tt
-    formulas H' = tt
+    formulas = each-formula _ (refl, refl, tt, tt, tt, tt, tt)
 
     below : (a : FormulaLetter) → Says (place_in belows a)
         (formula_with (closing (as_logic b.x)) (formula_at letters a))
-    below P' = below-before
-    below Q' = below-behind
-    below R' = tt
-    below A' = tt
-    below B' = tt
-    below K' = tt
-    below H' = tt
-
-    terms : (a : TermLetter) → Says (term_in nothing.terms a) (term_at letters a)
-    terms E' = tt
-    terms F' = tt
-    terms S' = tt
-    terms I' = tt
-    terms L' = tt
-    terms T' = tt
-    terms J' = tt
-    terms M' = tt
-
-    datas : (a : DataLetter) → Says (data_in nothing.datas a) (data_at letters a)
-    datas h' = tt
-    datas k' = tt
-    datas j' = tt
+    below = each-formula _ (below-before, below-behind, tt, tt, tt, tt, tt)
 
     agrees : Agrees letters (known_of s p q before behind)
     agrees = record {
       formulas = formulas;
       belows = below;
-      terms = terms;
-      datas = datas;
+      terms = (nothing-agrees letters).terms;
+      datas = (nothing-agrees letters).datas;
       sort = tt;
       hole = tt;
       x = tt;
