@@ -2,10 +2,8 @@
 ghost use Rattle.rule_table.specs.Axioms.{axioms};
 ghost use Rattle.rule_table.specs.Verdicts.{readings_in};
 ghost use Rattle.small_axioms.specs.Lines.{AllTied};
-ghost use Rattle.small_axioms.specs.Names.{name_of};
 ghost use Rattle.small_axioms.specs.Patterns.{patterns_in};
 
-use crate::names::Axiom;
 use crate::notation::{
     ANY, CHILD, CHILD_TREE, COUNTED_NODE, COUNTED_PARENT, E, F, FOREST, G, GROVE, I, J, K, L, NODE,
     PARENT, Q, S, T, TREE, V, WITH_BOTH, WITH_LAST, WITH_NEXT, WITHOUT_CHILD, X,
@@ -138,21 +136,22 @@ const INSERT_LAST: Rows = &[
     axiom!(InsertBefore, {And(&FROM_GROVE, &AT_END)} {MOVED_LAST}; GROVE),
 ];
 
-/// The lines of the axiom.
-pub(crate) fn rows_of(rule: Axiom) -> Rows
-    ensures { AllTied (readings_in axioms (name_of rule)) (patterns_in result.now) }
+/// The lines of the axiom of that name; a name of no axiom has none.
+pub(crate) fn rows_named(name: &str) -> Rows
+    ensures { AllTied (readings_in axioms name.now) (patterns_in result.now) }
 {
-    match rule {
-        Axiom::Name => NAME,
-        Axiom::Children => CHILDREN,
-        Axiom::Item => ITEM,
-        Axiom::ItemNone => ITEM_NONE,
-        Axiom::Parent => PARENT_OF,
-        Axiom::ParentNone => PARENT_NONE,
-        Axiom::Create => CREATE,
-        Axiom::Append => APPEND,
-        Axiom::Remove => REMOVE,
-        Axiom::InsertBefore => INSERT_BEFORE,
-        Axiom::InsertLast => INSERT_LAST,
+    match name {
+        "name" => NAME,
+        "children" => CHILDREN,
+        "item" => ITEM,
+        "item_none" => ITEM_NONE,
+        "parent" => PARENT_OF,
+        "parent_none" => PARENT_NONE,
+        "create" => CREATE,
+        "append" => APPEND,
+        "remove" => REMOVE,
+        "insert_before" => INSERT_BEFORE,
+        "insert_last" => INSERT_LAST,
+        _ => &[],
     }
 }
