@@ -8,7 +8,7 @@ ghost use Rattle.triple_rules.specs.Written.{written_in};
 
 use dom_terms::{OutOfMemory, Verdict};
 use formula_table::Table;
-use small_axioms::{axiom_of, axiom_verdict};
+use small_axioms::axiom_verdict;
 use std::alloc::Global;
 use triple_rules::Written;
 
@@ -24,8 +24,5 @@ pub fn axiom_by(
     ensures kept { KeepsAll table.old table.new }
 {
     let (citations, arguments) = (written.citations, written.arguments);
-    match axiom_of(name) {
-        Some(axiom) => axiom_verdict(alloc, table, axiom, citations, arguments, written.triple),
-        None => Ok(Verdict::Shape),
-    }
+    axiom_verdict(alloc, table, name, citations, arguments, written.triple)
 }

@@ -36,15 +36,6 @@ no-line : (rows : List Row) → SomeLine rows (λ line. ⊥) → ⊥
 no-line [] m = m
 no-line (row ∷ rows) m = ⊎_elim (λ x. x.1) (no-line rows) m
 
--- no row makes a line where there is an argument
-pub argument-refused : (rows : List Row) (ps : List AxiomPattern) → AllTied rows ps
-    → (e : Term) (es : List Term) (premises : Option (List Judgement)) (j : Judgement)
-    → IsVerdict rows (record { arguments = e ∷ es; premises = premises; conclusion = j })
-    shape_verdict
-argument-refused rows ps t e es premises j m =
-    no-line rows (some-line rows ps t _ (λ line. ⊥)
-    (λ line h c. let f = sym (ap (λ (l : Line). l.arguments) h) ∙ c.0 in absurd cc) m)
-
 module _ (c : Command) (p q : Formula) (d : DataSort) (sorted : BindsSorted p × BindsSorted q) where
   abbrev j : Judgement
   j = triple p c q d

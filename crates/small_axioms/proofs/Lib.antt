@@ -1,4 +1,3 @@
-pub mod Called
 pub mod Sound
 pub mod Commands
 pub mod Walked

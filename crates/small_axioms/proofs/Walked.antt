@@ -5,7 +5,6 @@ use Rattle.model_shapes.specs.Sorts.{DataSort, shape}
 use Rattle.model_formulas.specs.Formulas.{Formula}
 use Rattle.model_commands.specs.Commands.{Command}
 use Rattle.model_commands.specs.Theories.{entails}
-use Rattle.rule_table.specs.Entries.{Row}
 use Rattle.rule_table.specs.Letters.{Letters, LogicVar}
 use Rattle.rule_table.specs.Verdicts.{Written, Verdict, instance_verdict, shape_verdict}
 use Rattle.rule_patterns.specs.Patterns.{LinePattern, line_of, terms_of, formula_of, data_of}
@@ -60,9 +59,6 @@ module _ (a : AxiomPattern) (ready : row_ready (as_entailment a) ≡ true) (c : 
       ap (λ o. verdict_concluded line w (then o (match_judgement line.conclusion w.conclusion)))
       (terms-known a.kind c kind)
       ∙ by-walk (walked a (known_of c) p q d)
-
-  row : Row
-  row l = line_of l line
 
   verdict : RowIs (λ l. line_of l line) w (verdict_if (walks a (known_of c) p q d))
   verdict = subst (RowIs (λ l. line_of l line) w) verdict-is (row-verdict-is line ready w sorted)

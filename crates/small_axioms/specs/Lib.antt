@@ -1,5 +1,3 @@
-pub mod Names
-pub mod Called
 pub mod Steps
 pub mod Parts
 pub mod Commands

@@ -6,23 +6,15 @@ use Rattle.model_terms.specs.Variables.{bound}
 use Rattle.model_terms.specs.Terms.{Term, variable, raised}
 use Rattle.model_formulas.specs.Formulas.{Formula, conjunction, equality, existential, empty, node_formula, one_root}
 
--- N in [N]
-abbrev pub unrooted : Formula → Formula
-unrooted (one_root p) = p
-unrooted p = p
-
 -- N in (N and P) and in ([N] and P)
 abbrev pub held : Formula → Formula
-held (conjunction p q) = unrooted p
+held (conjunction (one_root p) q) = p
+held (conjunction p q) = p
 held p = p
 
--- T in E = T, and in (P and E = T)
-abbrev pub right_side : Formula → Option Term
-right_side (equality a b) = Some b
-right_side p = None
-
+-- T in (P and E = T)
 abbrev pub name_in : Formula → Option Term
-name_in (conjunction p q) = right_side q
+name_in (conjunction p (equality a b)) = Some b
 name_in p = None
 
 -- (exists $m . [T#x[0f]%$m]), from T and x

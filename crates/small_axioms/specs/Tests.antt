@@ -2,6 +2,7 @@
 -- axiom's line, and the verdict that follows, as tests that compute.
 use Rattle.std.specs.Prelude.{◌≡◌, ◌↔◌, IsTrue, Bool, true, false, ◌&&◌, ◌||◌, List, [], ◌∷◌, Option, Some, None, is_some}
 use Rattle.model_shapes.specs.Sorts.{DataSort}
+use Rattle.model_shapes.specs.Values.{Name}
 use Rattle.model_terms.specs.Variables.{Var, prog}
 use Rattle.model_terms.specs.Terms.{Term, variable}
 use Rattle.model_formulas.specs.Formulas.{Formula}
@@ -15,10 +16,8 @@ use Rattle.letter_bindings.specs.Known.{Known}
 use Rattle.letter_bindings.specs.Matching.{then, match_data, match_formula}
 use Rattle.letter_bindings.specs.Settled.{settle}
 use Rattle.letter_bindings.specs.Shifts.{is_free, is_in_term}
-use Rattle.small_axioms.specs.declared.names.Axiom.{Axiom}
 use Rattle.small_axioms.specs.declared.rows.Kind.{Kind}
 use Rattle.small_axioms.specs.declared.rows.Kind.TheVariants as k
-use Rattle.small_axioms.specs.Names.{name_of}
 use Rattle.small_axioms.specs.Parts.{held, name_in, new_root}
 use Rattle.small_axioms.specs.Patterns.{AxiomPattern}
 
@@ -88,9 +87,9 @@ verdict_where true false assigned = premises_verdict
 verdict_where true true false = instance_verdict
 verdict_where true true true = side_verdict assigned_side
 
--- THE VERDICT on the judgement at any step without arguments that cites nothing or something
-abbrev pub IsVerdictAt : Axiom → Bool → Judgement → Verdict → Type 0
-IsVerdictAt rule cites_nothing j v = (premises : Option (List Judgement))
+-- THE VERDICT on the judgement by the axiom of that name, at any step without arguments that cites nothing or something
+abbrev pub IsVerdictAt : Name → Bool → Judgement → Verdict → Type 0
+IsVerdictAt name cites_nothing j v = (premises : Option (List Judgement))
     → IsTrue cites_nothing ↔ (Some [] ≡ premises)
-    → IsVerdict (readings_in axioms (name_of rule))
+    → IsVerdict (readings_in axioms name)
     (record { arguments = []; premises = premises; conclusion = j }) v

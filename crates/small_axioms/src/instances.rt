@@ -6,7 +6,6 @@ ghost use Rattle.row_patterns.specs.Verdicts.{verdict_in};
 ghost use Rattle.triple_laws.specs.Steps.{HoldsAnywhere};
 ghost use Rattle.small_axioms.specs.Steps.{judgement_of, written};
 
-use crate::names::axiom_of;
 use crate::verdicts::axiom_verdict;
 use dom_terms::{OutOfMemory, Verdict};
 use formula_table::Table;
@@ -23,11 +22,6 @@ pub fn axiom_instance(alloc: Global, name: &str, triple: &Triple) -> Result<Verd
     ensures sound { IfOk result
         (λ v. v ≡ Verdict.Instance → HoldsAnywhere (judgement_of triple.now)) }
 {
-    match axiom_of(name) {
-        Some(axiom) => {
-            let mut table = Table::with_most(alloc, u32::MAX);
-            axiom_verdict(alloc, &mut table, axiom, &[], &[], triple)
-        }
-        None => Ok(Verdict::Shape),
-    }
+    let mut table = Table::with_most(alloc, u32::MAX);
+    axiom_verdict(alloc, &mut table, name, &[], &[], triple)
 }

@@ -4,7 +4,6 @@
 #![tactic(auto)]
 
 mod instances;
-mod names;
 mod notation;
 mod numbering;
 mod parts;
@@ -12,5 +11,4 @@ mod rows;
 mod verdicts;
 
 pub use instances::axiom_instance;
-pub use names::{Axiom, axiom_of, the_rows_are_those_of_the_table};
 pub use verdicts::axiom_verdict;

@@ -51,48 +51,46 @@ pub(crate) const GROVE: DataPattern = DataPattern::Is(DataSort::Grove);
 // the letter k: any data sort
 pub(crate) const ANY: DataPattern = DataPattern::Letter(DataLetter::K);
 
+// `beside!(P, Q, R)`: `((P * Q) * R)`, of two or more
+macro_rules! beside {
+    ($left:expr, $right:expr) => { Join(Whole, &$left, &$right) };
+    ($left:expr, $right:expr, $($rest:expr),+) => {
+        beside!(Join(Whole, &$left, &$right), $($rest),+)
+    };
+}
+
+// `node!(P)`: `S#I[P]%L`
+macro_rules! node {
+    ($children:expr) => { Node(S, I, &$children, L) };
+}
+
 // `T#J[Q]%M`, the child, and `<T#J[Q]%M>`
 pub(crate) const CHILD: Pattern<'static> = Node(T, J, &Q, M);
 
 pub(crate) const CHILD_TREE: Pattern<'static> = One(&CHILD);
 
 // `<Y#V[A]%N>`, the child before which another goes
-pub(crate) const NEXT_TREE: Pattern<'static> = One(&Node(Y, V, &A, N));
+const NEXT_TREE: Pattern<'static> = One(&Node(Y, V, &A, N));
 
 // `(P and len G)`
-pub(crate) const COUNTED: Pattern<'static> = Pattern::And(&P, &Len(G));
+const COUNTED: Pattern<'static> = Pattern::And(&P, &Len(G));
 
-// `S#I[P]%L`, and the same with `(P and len G)`
-pub(crate) const NODE: Pattern<'static> = Node(S, I, &P, L);
+// the node with any children, and with so many
+pub(crate) const NODE: Pattern<'static> = node!(P);
 
-pub(crate) const COUNTED_NODE: Pattern<'static> = Node(S, I, &COUNTED, L);
+pub(crate) const COUNTED_NODE: Pattern<'static> = node!(COUNTED);
 
-// `S#I[((P * <T#J[Q]%M>) * R)]%L`, and the same with `(P and len G)` for P
-pub(crate) const PARENT: Pattern<'static> = Node(S, I, &WITH_CHILD, L);
+// with the child among them, and so many before it
+pub(crate) const PARENT: Pattern<'static> = node!(beside!(P, CHILD_TREE, R));
 
-const WITH_CHILD: Pattern<'static> = Join(Whole, &Join(Whole, &P, &CHILD_TREE), &R);
+pub(crate) const COUNTED_PARENT: Pattern<'static> = node!(beside!(COUNTED, CHILD_TREE, R));
 
-pub(crate) const COUNTED_PARENT: Pattern<'static> = Node(S, I, &COUNTED_WITH_CHILD, L);
+// without the child, and with it as the last one
+pub(crate) const WITHOUT_CHILD: Pattern<'static> = node!(beside!(P, R));
 
-const COUNTED_WITH_CHILD: Pattern<'static> = Join(Whole, &Join(Whole, &COUNTED, &CHILD_TREE), &R);
+pub(crate) const WITH_LAST: Pattern<'static> = node!(beside!(P, CHILD_TREE));
 
-// `S#I[(P * R)]%L`, and `S#I[(P * <T#J[Q]%M>)]%L`
-pub(crate) const WITHOUT_CHILD: Pattern<'static> = Node(S, I, &Join(Whole, &P, &R), L);
+// with the next child, and the child before that
+pub(crate) const WITH_NEXT: Pattern<'static> = node!(beside!(P, NEXT_TREE, R));
 
-pub(crate) const WITH_LAST: Pattern<'static> = Node(S, I, &Join(Whole, &P, &CHILD_TREE), L);
-
-// `S#I[((P * <Y#V[A]%N>) * R)]%L`, and `S#I[(((P * <T#J[Q]%M>) * <Y#V[A]%N>) * R)]%L`
-pub(crate) const WITH_NEXT: Pattern<'static> = Node(
-    S,
-    I,
-    &Join(Whole, &Join(Whole, &P, &NEXT_TREE), &R),
-    L,
-);
-
-pub(crate) const WITH_BOTH: Pattern<'static> = Node(S, I, &BOTH_CHILDREN, L);
-
-const BOTH_CHILDREN: Pattern<'static> = Join(
-    Whole,
-    &Join(Whole, &Join(Whole, &P, &CHILD_TREE), &NEXT_TREE),
-    &R,
-);
+pub(crate) const WITH_BOTH: Pattern<'static> = node!(beside!(P, CHILD_TREE, NEXT_TREE, R));

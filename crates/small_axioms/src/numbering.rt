@@ -1,11 +1,8 @@
 // What a triple says, by numbers.
 ghost use Rattle.std.specs.Prelude.{◌≡◌, IfOk};
-ghost use Rattle.std.specs.Option.{option_map};
 ghost use Rattle.model_formulas.specs.Nameless.{nameless};
 ghost use Rattle.dom_terms.specs.Sorts.{data_sort_of};
 ghost use Rattle.formula_syntax.specs.Formulas.{formula_of};
-ghost use Rattle.formula_table.specs.declared.tables.Table.{Table as tables};
-ghost use Rattle.formula_table.specs.Forms.{term_at};
 ghost use Rattle.formula_table.specs.Interning.{KeepsAll, TermsGrow};
 ghost use Rattle.theory_syntax.specs.Commands.{command_of};
 ghost use Rattle.row_walks.specs.Views.{known_at};
@@ -106,20 +103,6 @@ fn number_term(table: &mut Table, term: Option<&Term>) -> Result<Option<u32>, Ou
     }
 }
 
-// What a walk knows where these are the numbers of E, F, G and N, as far as there are some.
-fn known_terms(e: Option<u32>, f: Option<u32>, g: Option<u32>, n: Option<u32>) -> Known
-    ensures { (table : tables) → known_at table result ≡ commands.known_terms
-        (option_map (term_at table) e) (option_map (term_at table) f)
-        (option_map (term_at table) g) (option_map (term_at table) n) }
-{
-    let mut known = Known::nothing();
-    known.terms.e = e;
-    known.terms.f = f;
-    known.terms.g = g;
-    known.terms.n = n;
-    known
-}
-
 /// What a walk knows of the letters by the command: E, F and G are its terms, and N is the variable
 /// that it sets. Of a command that isn't of the document nothing is known.
 #[tactic(auto, using(crate::proofs::Numbered::numbered_rules))]
@@ -137,5 +120,10 @@ pub(crate) fn number_command(
     let e = number_term(&mut *table, parts.first)?;
     let f = number_term(&mut *table, parts.second)?;
     let g = number_term(&mut *table, parts.third)?;
-    Ok(known_terms(e, f, g, n))
+    let mut known = Known::nothing();
+    known.terms.e = e;
+    known.terms.f = f;
+    known.terms.g = g;
+    known.terms.n = n;
+    Ok(known)
 }

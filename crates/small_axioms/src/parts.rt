@@ -15,20 +15,11 @@ const LIST: Sort = Sort::Value(ValueSort::List);
 pub(crate) fn held(table: &Table, number: u32) -> u32
     ensures { form_at table.now result ≡ parts.held (form_at table.now number) }
 {
-    let row = table.form(number);
-    match row.head {
-        Head::And => unrooted(table, row.left),
-        _ => number,
-    }
-}
-
-// N in `[N]`
-fn unrooted(table: &Table, number: u32) -> u32
-    ensures { form_at table.now result ≡ parts.unrooted (form_at table.now number) }
-{
-    let row = table.form(number);
-    match row.head {
-        Head::Root => row.left,
+    let both = table.form(number);
+    let first = table.form(both.left);
+    match (both.head, first.head) {
+        (Head::And, Head::Root) => first.left,
+        (Head::And, _) => both.left,
         _ => number,
     }
 }
@@ -37,20 +28,10 @@ fn unrooted(table: &Table, number: u32) -> u32
 pub(crate) fn name_in(table: &Table, number: u32) -> Option<u32>
     ensures { option_map (term_at table.now) result ≡ parts.name_in (form_at table.now number) }
 {
-    let row = table.form(number);
-    match row.head {
-        Head::And => right_side(table, row.right),
-        _ => None,
-    }
-}
-
-// T in `E = T`
-fn right_side(table: &Table, number: u32) -> Option<u32>
-    ensures { option_map (term_at table.now) result ≡ parts.right_side (form_at table.now number) }
-{
-    let row = table.form(number);
-    match row.head {
-        Head::Eq => Some(row.second),
+    let both = table.form(number);
+    let second = table.form(both.right);
+    match (both.head, second.head) {
+        (Head::And, Head::Eq) => Some(second.second),
         _ => None,
     }
 }

@@ -2,10 +2,8 @@
 ghost use Rattle.rule_table.specs.Axioms.{axioms};
 ghost use Rattle.rule_table.specs.Verdicts.{readings_in};
 ghost use Rattle.small_axioms.specs.Lines.{AllTied};
-ghost use Rattle.small_axioms.specs.Names.{name_of};
 ghost use Rattle.small_axioms.specs.Patterns.{patterns_in};
 
-use crate::names::Axiom;
 use crate::notation::{
     ANY, CHILD, CHILD_TREE, COUNTED_NODE, COUNTED_PARENT, E, F, FOREST, G, GROVE, I, J, K, L, NODE,
     PARENT, Q, S, T, TREE, V, WITH_BOTH, WITH_LAST, WITH_NEXT, WITHOUT_CHILD, X,
@@ -14,7 +12,7 @@ use row_patterns::Pattern::{And, App, EmptyForest, EmptyGrove, Eq, HoleAdj, Le, 
 use row_patterns::{DataPattern, Pattern, TermPattern};
 
 /// A kind of commands of the document.
-#[derive(Clone, Copy, PartialEq, Eq)]
+#[derive(Clone, Copy)]
 pub(crate) enum Kind {
     /// `x := createNode(E)`
     Create,
@@ -90,24 +88,26 @@ const PARENT_NONE: Rows = &[axiom!(
 
 const CREATE: Rows = &[axiom!(Create, {And(&EmptyGrove, &Eq(E, T))} {Q}; GROVE)];
 
-// `(K @t S#I[P]%L)`, and with the child as the last one
-const TAKER: Pattern<'static> = App(TREE, &K, &NODE);
+// `before_move!(h, 0h, N, U)`: `((((0h -o (K @t N)) @h U) and E = I) and F = J)`
+macro_rules! before_move {
+    ($hole:expr, $empty:expr, $taker:expr, $mover:expr) => {
+        And(
+            &And(&App($hole, &HoleAdj(&$empty, &App(TREE, &K, &$taker)), &$mover), &Eq(E, I)),
+            &Eq(F, J),
+        )
+    };
+}
+
+// the child stands in a forest, as one of its trees; or in a grove, as one of its roots
+const FROM_FOREST: Pattern<'static> = before_move!(FOREST, EmptyForest, NODE, CHILD_TREE);
+
+const FROM_GROVE: Pattern<'static> = before_move!(GROVE, EmptyGrove, NODE, Root(&CHILD));
 
 const MOVED_LAST: Pattern<'static> = App(TREE, &K, &WITH_LAST);
 
-// `((0f -o (K @t S#I[P]%L)) @f <T#J[Q]%M>)`, and the same with `[T#J[Q]%M]` in a grove
-const FROM_FOREST: Pattern<'static> = App(FOREST, &HoleAdj(&EmptyForest, &TAKER), &CHILD_TREE);
-
-const FROM_GROVE: Pattern<'static> = App(GROVE, &HoleAdj(&EmptyGrove, &TAKER), &Root(&CHILD));
-
-// the same, `and E = I) and F = J`
-const NAMED_FOREST: Pattern<'static> = And(&And(&FROM_FOREST, &Eq(E, I)), &Eq(F, J));
-
-const NAMED_GROVE: Pattern<'static> = And(&And(&FROM_GROVE, &Eq(E, I)), &Eq(F, J));
-
 const APPEND: Rows = &[
-    axiom!(Append, {NAMED_FOREST} {MOVED_LAST}; ANY),
-    axiom!(Append, {NAMED_GROVE} {MOVED_LAST}; GROVE),
+    axiom!(Append, {FROM_FOREST} {MOVED_LAST}; ANY),
+    axiom!(Append, {FROM_GROVE} {MOVED_LAST}; GROVE),
 ];
 
 const REMOVE: Rows = &[axiom!(
@@ -117,55 +117,41 @@ const REMOVE: Rows = &[axiom!(
     GROVE
 )];
 
-// as above, where the parent has the next child
-const NEXT_TAKER: Pattern<'static> = App(TREE, &K, &WITH_NEXT);
+const TO_NEXT: Pattern<'static> = before_move!(FOREST, EmptyForest, WITH_NEXT, CHILD_TREE);
 
-const NEXT_FROM_FOREST: Pattern<'static> = App(
-    FOREST,
-    &HoleAdj(&EmptyForest, &NEXT_TAKER),
-    &CHILD_TREE,
-);
-
-const NEXT_FROM_GROVE: Pattern<'static> = App(
-    GROVE,
-    &HoleAdj(&EmptyGrove, &NEXT_TAKER),
-    &Root(&CHILD),
-);
-
-const NEXT_NAMED_FOREST: Pattern<'static> = And(&And(&NEXT_FROM_FOREST, &Eq(E, I)), &Eq(F, J));
-
-const NEXT_NAMED_GROVE: Pattern<'static> = And(&And(&NEXT_FROM_GROVE, &Eq(E, I)), &Eq(F, J));
+const ROOT_TO_NEXT: Pattern<'static> = before_move!(GROVE, EmptyGrove, WITH_NEXT, Root(&CHILD));
 
 const INSERTED: Pattern<'static> = App(TREE, &K, &WITH_BOTH);
 
 const INSERT_BEFORE: Rows = &[
-    axiom!(InsertBefore, {And(&NEXT_NAMED_FOREST, &Eq(G, V))} {INSERTED}; ANY),
-    axiom!(InsertBefore, {And(&NEXT_NAMED_GROVE, &Eq(G, V))} {INSERTED}; GROVE),
+    axiom!(InsertBefore, {And(&TO_NEXT, &Eq(G, V))} {INSERTED}; ANY),
+    axiom!(InsertBefore, {And(&ROOT_TO_NEXT, &Eq(G, V))} {INSERTED}; GROVE),
 ];
 
 // `G = null`
 const AT_END: Pattern<'static> = Eq(G, TermPattern::NullNode);
 
 const INSERT_LAST: Rows = &[
-    axiom!(InsertBefore, {And(&NAMED_FOREST, &AT_END)} {MOVED_LAST}; ANY),
-    axiom!(InsertBefore, {And(&NAMED_GROVE, &AT_END)} {MOVED_LAST}; GROVE),
+    axiom!(InsertBefore, {And(&FROM_FOREST, &AT_END)} {MOVED_LAST}; ANY),
+    axiom!(InsertBefore, {And(&FROM_GROVE, &AT_END)} {MOVED_LAST}; GROVE),
 ];
 
-/// The lines of the axiom.
-pub(crate) fn rows_of(rule: Axiom) -> Rows
-    ensures { AllTied (readings_in axioms (name_of rule)) (patterns_in result.now) }
+/// The lines of the axiom of that name; a name of no axiom has none.
+pub(crate) fn rows_named(name: &str) -> Rows
+    ensures { AllTied (readings_in axioms name.now) (patterns_in result.now) }
 {
-    match rule {
-        Axiom::Name => NAME,
-        Axiom::Children => CHILDREN,
-        Axiom::Item => ITEM,
-        Axiom::ItemNone => ITEM_NONE,
-        Axiom::Parent => PARENT_OF,
-        Axiom::ParentNone => PARENT_NONE,
-        Axiom::Create => CREATE,
-        Axiom::Append => APPEND,
-        Axiom::Remove => REMOVE,
-        Axiom::InsertBefore => INSERT_BEFORE,
-        Axiom::InsertLast => INSERT_LAST,
+    match name {
+        "name" => NAME,
+        "children" => CHILDREN,
+        "item" => ITEM,
+        "item_none" => ITEM_NONE,
+        "parent" => PARENT_OF,
+        "parent_none" => PARENT_NONE,
+        "create" => CREATE,
+        "append" => APPEND,
+        "remove" => REMOVE,
+        "insert_before" => INSERT_BEFORE,
+        "insert_last" => INSERT_LAST,
+        _ => &[],
     }
 }

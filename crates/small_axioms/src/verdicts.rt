@@ -13,15 +13,13 @@ ghost use Rattle.row_patterns.specs.Verdicts.{verdict_in};
 ghost use Rattle.row_walks.specs.Views.{known_at};
 ghost use Rattle.theory_syntax.specs.Commands.{command_of};
 ghost use Rattle.theory_syntax.specs.Judgements.{triple_of};
-ghost use Rattle.small_axioms.specs.Names.{name_of};
 ghost use Rattle.small_axioms.specs.Patterns.{pattern_in, patterns_in};
 ghost use Rattle.small_axioms.specs.Steps.{judgement_of};
 ghost use Rattle.small_axioms.specs.Tests as tests;
 
-use crate::names::Axiom;
 use crate::numbering::{Said, number_command, number_said};
 use crate::parts::{held, is_new_root, name_in};
-use crate::rows::{AxiomRow, Kind, rows_of};
+use crate::rows::{AxiomRow, Kind, rows_named};
 use dom_terms::{OutOfMemory, SideName, Term, Verdict};
 use formula_table::{Table, TableFault, TermRow};
 use numbered_formulas::{Unbound, is_in_term, stands_free};
@@ -133,18 +131,18 @@ fn verdict_where(fits: bool, cites_nothing: bool, assigned: bool) -> Verdict
 fn verdict_over(
     alloc: Global,
     table: &mut Table,
-    rule: Axiom,
+    name: &str,
     cites_nothing: bool,
     triple: &Triple,
 ) -> Result<Verdict, TableFault>
-    ensures ok { IfOk result (λ verdict. tests.IsVerdictAt rule cites_nothing
+    ensures ok { IfOk result (λ verdict. tests.IsVerdictAt name.now cites_nothing
         (judgement_of triple.now) (verdict_in verdict)) }
     ensures kept { KeepsAll table.old table.new }
 {
     let command = &triple.command;
     let said = number_said(&mut *table, triple)?;
     let known = number_command(alloc, &mut *table, command)?;
-    let fits = fits_one(table, rows_of(rule), command, &known, said);
+    let fits = fits_one(table, rows_named(name), command, &known, said);
     let assigned = is_assigned(table, command, &known, said);
     Ok(verdict_where(fits, cites_nothing, assigned))
 }
@@ -153,20 +151,20 @@ fn verdict_over(
 fn verdict_of(
     alloc: Global,
     table: &mut Table,
-    rule: Axiom,
+    name: &str,
     cites_nothing: bool,
     triple: &Triple,
 ) -> Result<Verdict, OutOfMemory>
-    ensures ok { IfOk result (λ verdict. tests.IsVerdictAt rule cites_nothing
+    ensures ok { IfOk result (λ verdict. tests.IsVerdictAt name.now cites_nothing
         (judgement_of triple.now) (verdict_in verdict)) }
     ensures kept { KeepsAll table.old table.new }
 {
-    match verdict_over(alloc, &mut *table, rule, cites_nothing, triple) {
+    match verdict_over(alloc, &mut *table, name, cites_nothing, triple) {
         Ok(verdict) => Ok(verdict),
         Err(TableFault::OutOfMemory) => Err(OutOfMemory),
         Err(TableFault::Full) => {
             let mut other = Table::with_most(alloc, u32::MAX);
-            match verdict_over(alloc, &mut other, rule, cites_nothing, triple) {
+            match verdict_over(alloc, &mut other, name, cites_nothing, triple) {
                 Ok(verdict) => Ok(verdict),
                 Err(_) => Err(OutOfMemory),
             }
@@ -174,20 +172,21 @@ fn verdict_of(
     }
 }
 
-/// The verdict on a triple by the axiom, with these citations and arguments, whatever steps stand
-/// before it. An axiom has neither premises nor arguments. The formulas are numbered in the table,
+/// The verdict on a triple by the axiom of that name, with these citations and arguments, whatever steps stand
+/// before it. An axiom has neither premises nor arguments; a name of no
+/// axiom has no lines: its verdict is that the conclusion doesn't fit. The formulas are numbered in the table,
 /// whose numbers keep their meaning. OutOfMemory comes only where memory is refused or 32 bits
 /// don't number the formulas.
 pub fn axiom_verdict(
     alloc: Global,
     table: &mut Table,
-    rule: Axiom,
+    name: &str,
     citations: &[u32],
     arguments: &[Term],
     triple: &Triple,
 ) -> Result<Verdict, OutOfMemory>
     ensures exact { (earlier : List Step) → IfOk result (λ verdict.
-        IsVerdict (readings_in axioms (name_of rule))
+        IsVerdict (readings_in axioms name.now)
         (written_at earlier citations.now (map term_of arguments.now)
         (nameless_judgement (triple_of triple.now))) (verdict_in verdict)) }
     ensures kept { KeepsAll table.old table.new }
@@ -195,5 +194,5 @@ pub fn axiom_verdict(
     if !arguments.is_empty() {
         return Ok(Verdict::Shape);
     }
-    verdict_of(alloc, table, rule, citations.is_empty(), triple)
+    verdict_of(alloc, table, name, citations.is_empty(), triple)
 }

@@ -6,7 +6,6 @@ use Rattle.rule_table.specs.Accepted.{cited}
 use Rattle.rule_table.specs.Axioms.{axioms}
 use Rattle.rule_table.specs.Verdicts.{IsVerdict, readings_in}
 use Rattle.row_patterns.specs.Verdicts.{verdict_in}
-use Rattle.small_axioms.specs.Names.{name_of}
 use Rattle.small_axioms.specs.Steps.{judgement_of}
 use Rattle.small_axioms.proofs.Exact.{cites-none, no-arguments}
 use Rattle.small_axioms.proofs.verdicts.axiom_verdict.Goals as goal
@@ -14,7 +13,7 @@ use Rattle.small_axioms.proofs.verdicts.axiom_verdict.Goals as goal
 pub returns-clause-exact : goal.returns-clause-exact
 returns-clause-exact c =
     λ earlier. IfOk-weaker c.verdict_of.result _ _
-    (λ verdict h. subst (λ (es : List Term). IsVerdict (readings_in axioms (name_of c.args.rule))
+    (λ verdict h. subst (λ (es : List Term). IsVerdict (readings_in axioms c.args.name.now)
     (record {
       arguments = es;
       premises = cited earlier c.args.citations.now;

@@ -9,7 +9,6 @@ use Rattle.formula_syntax.specs.Formulas.{formula_of}
 use Rattle.formula_table.specs.Forms.{form_at}
 use Rattle.letter_bindings.proofs.KeptBodies.{nameless-sorted}
 use Rattle.theory_syntax.specs.Commands.{command_of}
-use Rattle.small_axioms.specs.Names.{name_of}
 use Rattle.small_axioms.specs.Patterns.{patterns_in}
 use Rattle.small_axioms.specs.Steps.{judgement_of}
 use Rattle.small_axioms.specs.Tests.{fits_one, is_assigned}
@@ -20,8 +19,8 @@ pub returns-clause-ok : goal.returns-clause-ok
 returns-clause-ok c =
     λ premises cites.
     let triple = c.args.triple.now in
-    let rows = readings_in axioms (name_of c.args.rule) in
-    let patterns = patterns_in c.rows_of.result.now in
+    let rows = readings_in axioms c.args.name.now in
+    let patterns = patterns_in c.rows_named.result.now in
     let said = c.in_ok-said.said in
     let told = c.in_ok-said.ensures.ok in
     let known = c.in_ok-known.ensures.ok in
@@ -42,7 +41,7 @@ returns-clause-ok c =
     })) (sym c.verdict_where.ensures)
     (exact command p q d
     (nameless-sorted (formula_of triple.pre), nameless-sorted (formula_of triple.post)) rows
-    patterns c.rows_of.ensures premises c.fits_one-fits.result c.args.cites_nothing
+    patterns c.rows_named.ensures premises c.fits_one-fits.result c.args.cites_nothing
     c.is_assigned-assigned.result
     ((λ i. fits_one patterns command (sym known i) (sym pre i) (sym post i) (sym told.sort i))
     ∙ sym c.fits_one-fits.ensures)
