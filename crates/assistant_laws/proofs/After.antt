@@ -9,7 +9,7 @@ use Rattle.rule_table.specs.Accepted.{AllInstances, InstanceBy, judgement_number
 use Rattle.assistant_laws.proofs.Steps.{Below, below-more, passed, each-append}
 
 -- an instance has its premises
-premises-there : (rows : List Row) (w : Written) → IsInstance rows w
+pub premises-there : (rows : List Row) (w : Written) → IsInstance rows w
     → (js : List Judgement) × (Some js ≡ w.premises)
 premises-there [] w m = absurd m
 premises-there (row ∷ rows) w m =

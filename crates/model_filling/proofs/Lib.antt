@@ -1,8 +1,9 @@
-mod Bare
+pub mod Bare
 pub mod Calls
-mod FileTests
-mod Numbers
-mod Walks
-mod WellFormed
-mod One
-mod Answer
+pub mod FileTests
+pub mod Numbers
+pub mod Walks
+pub mod WalkEach
+pub mod WellFormed
+pub mod One
+pub mod Answer

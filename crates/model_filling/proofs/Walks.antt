@@ -120,7 +120,7 @@ module _ (theory : Theory) (f : ProcedureOf Named) where
       absurd cc
 
   -- PROVED, over the procedures of the theory handed in
-  walk-proved : (voices after : List Voice) (proof : List (StepOf Named))
+  pub walk-proved : (voices after : List Voice) (proof : List (StepOf Named))
       → Walk theory f [] [] 1 f.proof voices (proof_filled proof after)
       → IsProved (procedures_of theory) (nameless_procedure (with_proof f proof))
   walk-proved voices after proof walk =

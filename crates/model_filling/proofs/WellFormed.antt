@@ -115,6 +115,13 @@ module _ (theory : Theory) (f : ProcedureOf Named) where
       formed =
       absurd cc
 
+  pub proof-numbered : (number : ℕ) (voices after : List Voice) (proof : List (StepOf Named))
+      → Walk theory f [] [] 1 f.proof voices (proof_filled proof after)
+      → first_fault_at (steps_from theory number f 1 f.proof) ≡ None → IsNumberedFrom 1 proof
+  proof-numbered number voices after proof walk e =
+      (walk-fine [] [] 1 f.proof voices (proof_filled proof after) proof after walk refl
+      (record { numbered = tt; formed = tt; next = refl }) (formed-from number 1 f.proof e)).0
+
   -- PROOFS: numbered and well-formed steps, at the places of another theory
   module _ (others : List (ProcedureOf Named))
       (alike : map bare (procedures_of theory) ≡ map bare (map nameless_procedure others))
