@@ -2,7 +2,7 @@
 //! assistant_laws and model_filling.
 #![tactic(auto)]
 
-ghost use Rattle.std.specs.Prelude.{◌≡◌, ◌<◌, ◌≤◌, ℕ, Bool, true, List, None, IfSome};
+ghost use Rattle.std.specs.Prelude.{◌≡◌, ◌<◌, ◌≤◌, ◌+◌, ◌*◌, ℕ, Bool, true, List, None, IfSome};
 ghost use Rattle.std.specs.List.{list_all};
 ghost use Rattle.model_terms.specs.Terms.{Term};
 ghost use Rattle.model_formulas.specs.Formulas.{Named};
@@ -20,11 +20,12 @@ ghost use Rattle.model_files.specs.FileFaults.{IsWellFormedTheory};
 ghost use Rattle.model_files.specs.FileLimits.{step_count};
 ghost use Rattle.model_grammar.specs.Sorts.{with_sorts};
 ghost use Rattle.model_grammar.specs.TheoryWriting.{theory_lines, theory_text};
-ghost use Rattle.model_round_trip.specs.Writable.{IsWritableTheory};
+ghost use Rattle.model_round_trip.specs.Writable.{IsWritableJudgement, IsWritableTheory};
 ghost use Rattle.model_round_trip.specs.Literals.{LiteralsAreUtf8};
 ghost use Rattle.model_round_trip.specs.ReadBack.{ReadsAs};
 ghost use Rattle.model_filling.specs.Offers.{Voice};
 ghost use Rattle.model_filling.specs.Filled.{IsFilled};
+ghost use Rattle.filling_laws.specs.TextBounds.{judgement_bytes};
 ghost use Rattle.filling_laws.specs.TermsIn.{terms_of_sides};
 
 /// What an assistant gives for a gap that is well formed in its file is usable, if it is sized.
@@ -64,6 +65,21 @@ pub fn what_is_given_has_no_new_term()
         → judgement_sorted j ≡ true → list_all test (terms_of_sides j) ≡ true
         → IfSome (plan_by_filling j) (λ plan. Each (λ step.
         list_all test (terms_of_sides step.judgement) ≡ true) (steps_of number plan)) }
+{}
+
+/// The text of each of its judgements is at most three times as long as the asked one's and 256
+/// bytes; by form, if the asked one can be written.
+pub fn what_is_given_is_short()
+    ensures conjuncts { (number : ℕ) (j : JudgementOf Named) → IfSome (plan_by_conjuncts j)
+        (λ plan. Each (λ step. judgement_bytes step.judgement ≤ 3 * judgement_bytes j + 256)
+        (steps_of number plan)) }
+    ensures form { (number : ℕ) (j : JudgementOf Named) → IsWritableJudgement j
+        → IfSome (plan_by_form j)
+        (λ plan. Each (λ step. judgement_bytes step.judgement ≤ 3 * judgement_bytes j + 256)
+        (steps_of number plan)) }
+    ensures filling { (number : ℕ) (j : JudgementOf Named) → IfSome (plan_by_filling j)
+        (λ plan. Each (λ step. judgement_bytes step.judgement ≤ 3 * judgement_bytes j + 256)
+        (steps_of number plan)) }
 {}
 
 /// A well-formed theory has the sorts of its declarations.
