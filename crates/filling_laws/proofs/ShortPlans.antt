@@ -3,20 +3,20 @@
 use Rattle.std.proofs.Common.{◌≡◌, ℕ, ◌+◌, ◌*◌, ◌≤◌, Bool, true, false, cond, List, [], ◌∷◌, Some, None, IfSome, ap, codes, arith}
 use Rattle.model_shapes.specs.Sorts.{Sort, DataSort, shape, context, value, tree, forest, grove}
 use Rattle.model_terms.specs.Terms.{Term}
-use Rattle.model_formulas.specs.Formulas.{Named, whole, hole_left, hole_right, truth, conjunction, empty, bare_hole, node_formula, one_tree, one_root, concatenation, grove_sum, grove_sum_hole, application}
+use Rattle.model_formulas.specs.Formulas.{Named, whole, hole_left, hole_right, empty, bare_hole, node_formula, one_tree, one_root, concatenation, grove_sum, grove_sum_hole, application}
 use Rattle.model_formulas.specs.Nameless.{nameless}
-use Rattle.model_commands.specs.Theories.{JudgementOf, entails, triple}
+use Rattle.model_commands.specs.Theories.{entails}
 use Rattle.model_grammar.specs.Writable.{IsWritable}
-use Rattle.assistant_laws.specs.Conjuncts.{has_conjuncts_of}
 use Rattle.assistant_laws.specs.Forms.{grove_parts}
 use Rattle.assistant_laws.specs.Fillings.{filling, fills}
 use Rattle.assistant_laws.specs.Obvious.{is_obvious_by_form}
-use Rattle.assistant_laws.specs.Plans.{Plan, alone, from_one, from_two}
-use Rattle.assistant_laws.specs.ConjunctPlans.{same_named, has_conjunct, reach, gather, plan_by_conjuncts}
-use Rattle.assistant_laws.specs.Ways.{Way, onward, backward, other, turned, by_way_of}
+use Rattle.assistant_laws.specs.Plans.{Plan, alone}
+use Rattle.assistant_laws.specs.ConjunctPlans.{same_named, plan_by_conjuncts}
+use Rattle.assistant_laws.specs.Ways.{Way, onward, backward, other}
 use Rattle.assistant_laws.specs.FillingPlans.{filling_plan, plan_of_application, plan_by_filling}
 use Rattle.assistant_laws.specs.FormPlans.{tidied, absorbed, absorbed_roots, from_alone, tree_plan, forest_plan, grove_plan, sum_plan, sum_of, without_named, pass, to_front, in_order, form_plan, plan_by_form}
 use Rattle.assistant_laws.proofs.Forms.{absorbed_roots-sum}
+use Rattle.filling_laws.proofs.EachFormula.{IsGood, turned-good, by_way_of-good, conjuncts-good}
 use Rattle.filling_laws.proofs.Widths.{wide, and-wide, star-wide, left-wide, right-wide, plus-wide, plus_hole-wide, application-wide, tree-wide, root-wide, around, node-wide, term-width}
 
 module _ (most : ℕ) where
@@ -24,51 +24,8 @@ module _ (most : ℕ) where
   abbrev pub Short : Named → Type 0
   Short p = 2 * wide p ≤ most
 
-  abbrev pub ShortSides : JudgementOf Named → Type 0
-  ShortSides (entails p q s) = Short p × Short q
-  ShortSides (triple p c q k) = ⊥
-
   abbrev pub IsShort : Plan → Type 0
-  IsShort (alone rule j) = ShortSides j
-  IsShort (from_one rule a j) = IsShort a × ShortSides j
-  IsShort (from_two rule a b j) = IsShort a × IsShort b × ShortSides j
-
-  -- EITHER WAY
-  turned-short : (way : Way) (p q : Named) (s : Sort) → Short p → Short q
-      → ShortSides (turned way p q s)
-  turned-short onward p q s h k = (h, k)
-  turned-short backward p q s h k = (k, h)
-
-  by_way_of-short : (way : Way) (a b : Plan) (p r : Named) (s : Sort) → IsShort a → IsShort b
-      → Short p → Short r → IsShort (by_way_of way a b p r s)
-  by_way_of-short onward a b p r s x y h k = (x, y, (h, k))
-  by_way_of-short backward a b p r s x y h k = (y, x, (k, h))
-
-  -- CONJUNCTS
-  reach-short : (s : Sort) (p target : Named) → Short p → Short target
-      → IsShort (reach s p target)
-  reach-short s (conjunction p q) target h k =
-      by_test (has_conjunct p target) (reach-short s p target (omega (arith, and-wide p q, h)) k)
-      (reach-short s q target (omega (arith, and-wide p q, h)) k)
-    where
-      by_test : (b : Bool) → IsShort (reach s p target) → IsShort (reach s q target)
-          → IsShort (cond b
-          (from_two (codes "cut") (alone (codes "and_left") (entails (conjunction p q) p s))
-          (reach s p target) (entails (conjunction p q) target s))
-          (from_two (codes "cut") (alone (codes "and_right") (entails (conjunction p q) q s))
-          (reach s q target) (entails (conjunction p q) target s)))
-      by_test true x y = ((h, omega (arith, and-wide p q, h)), x, (h, k))
-      by_test false x y = ((h, omega (arith, and-wide p q, h)), y, (h, k))
-  reach-short s p target h k = (h, k)
-
-  gather-short : (s : Sort) (left p : Named) → Short left → Short p → IsShort (gather s left p)
-  gather-short s left (conjunction p q) h k = (
-    gather-short s left p h (omega (arith, and-wide p q, k)),
-    gather-short s left q h (omega (arith, and-wide p q, k)),
-    (h, k),
-  )
-  gather-short s left truth h k = (h, k)
-  gather-short s left p h k = reach-short s left p h k
+  IsShort = IsGood Short
 
   -- FILLING
   filling-narrow : (b c : Named) → wide (filling b c) ≤ wide c + wide b
@@ -117,9 +74,9 @@ module _ (most : ℕ) where
           filling-narrow b c,
           node-wide name number (filling b c) list,
         ) in
-        by_way_of-short way _ _ _ _ _
-        (turned-short way _ _ _ x middle)
-        (filling-short c inner, turned-short way _ _ _ middle end) x end
+        by_way_of-good Short way _ _ _ _ _
+        (turned-good Short way _ _ _ x middle)
+        (filling-short c inner, turned-good Short way _ _ _ middle end) x end
     filling-short (one_tree c) x =
         let size = tree-wide c in
         let start = application-wide h (one_tree c) b in
@@ -129,9 +86,9 @@ module _ (most : ℕ) where
         omega (arith, size, start, x, application-wide h c b, tree-wide (application h c b)) in
         let end : Short (one_tree (filling b c)) =
         omega (arith, size, start, x, filling-narrow b c, tree-wide (filling b c)) in
-        by_way_of-short way _ _ _ _ _
-        (turned-short way _ _ _ x middle)
-        (filling-short c inner, turned-short way _ _ _ middle end) x end
+        by_way_of-good Short way _ _ _ _ _
+        (turned-good Short way _ _ _ x middle)
+        (filling-short c inner, turned-good Short way _ _ _ middle end) x end
     filling-short (one_root c) x =
         let size = root-wide c in
         let start = application-wide h (one_root c) b in
@@ -141,9 +98,9 @@ module _ (most : ℕ) where
         omega (arith, size, start, x, application-wide h c b, root-wide (application h c b)) in
         let end : Short (one_root (filling b c)) =
         omega (arith, size, start, x, filling-narrow b c, root-wide (filling b c)) in
-        by_way_of-short way _ _ _ _ _
-        (turned-short way _ _ _ x middle)
-        (filling-short c inner, turned-short way _ _ _ middle end) x end
+        by_way_of-good Short way _ _ _ _ _
+        (turned-good Short way _ _ _ x middle)
+        (filling-short c inner, turned-good Short way _ _ _ middle end) x end
     filling-short (concatenation hole_left c q) x =
         let size = left-wide c q in
         let start = application-wide h (concatenation hole_left c q) b in
@@ -154,9 +111,9 @@ module _ (most : ℕ) where
         let end : Short (concatenation whole (filling b c) q) =
         omega (arith, size, start, x, filling-narrow b c, star-wide (filling b c) q) in
         let part : Short q = omega (arith, size, start, x) in
-        by_way_of-short way _ _ _ _ _
-        (turned-short way _ _ _ x middle)
-        (filling-short c inner, (part, part), turned-short way _ _ _ middle end) x end
+        by_way_of-good Short way _ _ _ _ _
+        (turned-good Short way _ _ _ x middle)
+        (filling-short c inner, (part, part), turned-good Short way _ _ _ middle end) x end
     filling-short (concatenation hole_right q c) x =
         let size = right-wide q c in
         let start = application-wide h (concatenation hole_right q c) b in
@@ -167,9 +124,9 @@ module _ (most : ℕ) where
         let end : Short (concatenation whole q (filling b c)) =
         omega (arith, size, start, x, filling-narrow b c, star-wide q (filling b c)) in
         let part : Short q = omega (arith, size, start, x) in
-        by_way_of-short way _ _ _ _ _
-        (turned-short way _ _ _ x middle)
-        ((part, part), filling-short c inner, turned-short way _ _ _ middle end) x end
+        by_way_of-good Short way _ _ _ _ _
+        (turned-good Short way _ _ _ x middle)
+        ((part, part), filling-short c inner, turned-good Short way _ _ _ middle end) x end
     filling-short (grove_sum_hole c q) x =
         let size = plus_hole-wide c q in
         let start = application-wide h (grove_sum_hole c q) b in
@@ -180,11 +137,11 @@ module _ (most : ℕ) where
         let end : Short (grove_sum (filling b c) q) =
         omega (arith, size, start, x, filling-narrow b c, plus-wide (filling b c) q) in
         let part : Short q = omega (arith, size, start, x) in
-        by_way_of-short way _ _ _ _ _
-        (turned-short way _ _ _ x middle)
-        (filling-short c inner, (part, part), turned-short way _ _ _ middle end) x end
+        by_way_of-good Short way _ _ _ _ _
+        (turned-good Short way _ _ _ x middle)
+        (filling-short c inner, (part, part), turned-good Short way _ _ _ middle end) x end
     filling-short c x =
-        turned-short way _ _ _ x (omega (arith, application-wide h c b, x))
+        turned-good Short way _ _ _ x (omega (arith, application-wide h c b, x))
 
   application-short : (way : Way) (p : Named) → Short p → IsShort (plan_of_application way p)
   application-short way (application h c b) x = filling-short way h b c x
@@ -247,8 +204,8 @@ module _ (most : ℕ) (way : Way) where
       let start : 2 * wide (concatenation whole p (empty forest)) ≤ most =
       omega (arith, star-wide p (empty forest), le) in
       let own : 2 * wide p ≤ most = omega (arith, le) in
-      by_way_of-short most way _ plan p (absorbed p (empty forest)) (shape forest)
-      (turned-short most (other way) _ _ _ start own) x own end
+      by_way_of-good (Short most) way _ plan p (absorbed p (empty forest)) (shape forest)
+      (turned-good (Short most) (other way) _ _ _ start own) x own end
 
   mutual
     tree-short : (p : Named) → IsWritable p → 3 * wide p + 4 ≤ most
@@ -269,14 +226,14 @@ module _ (most : ℕ) (way : Way) where
           from_alone-short (forest_plan way p (empty forest)) p h.2
               (omega (arith, size, around, le))
               (forest-short p (empty forest) h.2 (omega (arith, size, around, le))),
-          turned-short most way _ _ _ start end,
+          turned-good (Short most) way _ _ _ start end,
         )
     tree-short p h le = (omega (arith, le), omega (arith, le))
 
     forest-short : (p t : Named) → IsWritable p → 3 * wide p + (2 * wide t + 12) ≤ most
         → IsShort most (forest_plan way p t)
     forest-short (empty forest) t h le =
-        turned-short most way _ _ _ (omega (arith, star-wide (empty forest) t, le))
+        turned-good (Short most) way _ _ _ (omega (arith, star-wide (empty forest) t, le))
         (omega (arith, le))
     forest-short (concatenation whole p q) t h le =
         let size = star-wide p q in
@@ -290,12 +247,12 @@ module _ (most : ℕ) (way : Way) where
         let end : 2 * wide (absorbed p (absorbed q t)) ≤ most =
         omega (arith, size, le, absorbed-narrow p (absorbed q t) h.0, rest-narrow) in
         let own : 2 * wide p ≤ most = omega (arith, size, le) in
-        by_way_of-short most way _ _ _ _ _
-        (turned-short most way _ _ _ start middle)
-        (by_way_of-short most way _ _ _ _ _ (
+        by_way_of-good (Short most) way _ _ _ _ _
+        (turned-good (Short most) way _ _ _ start middle)
+        (by_way_of-good (Short most) way _ _ _ _ _ (
           (own, own),
           forest-short q t h.1 (omega (arith, size, le)),
-          turned-short most way _ _ _ middle next,
+          turned-good (Short most) way _ _ _ middle next,
         )
         (forest-short p (absorbed q t) h.0 (omega (arith, size, le, rest-narrow))) middle end)
         start end
@@ -310,9 +267,9 @@ module _ (most : ℕ) (way : Way) where
         omega (arith, size, le, narrow, tree-wide (tidied p)) in
         let own : 2 * wide (one_tree p) ≤ most = omega (arith, le) in
         let rest : 2 * wide t ≤ most = omega (arith, le) in (
-          (tree-short p h (omega (arith, size, le)), turned-short most way _ _ _ own tidy),
+          (tree-short p h (omega (arith, size, le)), turned-good (Short most) way _ _ _ own tidy),
           (rest, rest),
-          turned-short most way _ _ _ start end,
+          turned-good (Short most) way _ _ _ start end,
         )
     forest-short p t h le =
         (omega (arith, star-wide p t, le), omega (arith, star-wide p t, le))
@@ -325,8 +282,8 @@ module _ (most : ℕ) (way : Way) where
       let middle : 2 * wide (grove_sum t (empty grove)) ≤ most =
       omega (arith, plus-wide t (empty grove), le) in
       let end : 2 * wide t ≤ most = omega (arith, le) in
-      by_way_of-short most way _ _ _ _ _ (turned-short most way _ _ _ start middle)
-      (turned-short most way _ _ _ middle end) start end
+      by_way_of-good (Short most) way _ _ _ _ _ (turned-good (Short most) way _ _ _ start middle)
+      (turned-good (Short most) way _ _ _ middle end) start end
   grove-short (grove_sum p q) t h le =
       let size = plus-wide p q in
       let rest-narrow = roots-narrow q t h.1 in
@@ -339,12 +296,12 @@ module _ (most : ℕ) (way : Way) where
       let end : 2 * wide (absorbed_roots p (absorbed_roots q t)) ≤ most =
       omega (arith, size, le, roots-narrow p (absorbed_roots q t) h.0, rest-narrow) in
       let own : 2 * wide p ≤ most = omega (arith, size, le) in
-      by_way_of-short most way _ _ _ _ _
-      (turned-short most way _ _ _ start middle)
-      (by_way_of-short most way _ _ _ _ _ (
+      by_way_of-good (Short most) way _ _ _ _ _
+      (turned-good (Short most) way _ _ _ start middle)
+      (by_way_of-good (Short most) way _ _ _ _ _ (
         (own, own),
         grove-short q t h.1 (omega (arith, size, le)),
-        turned-short most way _ _ _ middle next,
+        turned-good (Short most) way _ _ _ middle next,
       )
       (grove-short p (absorbed_roots q t) h.0 (omega (arith, size, le, rest-narrow))) middle end)
       start end
@@ -359,9 +316,9 @@ module _ (most : ℕ) (way : Way) where
       omega (arith, size, le, narrow, root-wide (tidied p)) in
       let own : 2 * wide (one_root p) ≤ most = omega (arith, le) in
       let rest : 2 * wide t ≤ most = omega (arith, le) in (
-        (tree-short p h (omega (arith, size, le)), turned-short most way _ _ _ own tidy),
+        (tree-short p h (omega (arith, size, le)), turned-good (Short most) way _ _ _ own tidy),
         (rest, rest),
-        turned-short most way _ _ _ start end,
+        turned-good (Short most) way _ _ _ start end,
       )
   grove-short p t h le = (omega (arith, plus-wide p t, le), omega (arith, plus-wide p t, le))
 
@@ -373,8 +330,8 @@ module _ (most : ℕ) (way : Way) where
       let end : 2 * wide (absorbed_roots p (empty grove)) ≤ most =
       omega (arith, roots-narrow p (empty grove) h, le) in
       let own : 2 * wide p ≤ most = omega (arith, le) in
-      by_way_of-short most way _ _ _ _ _
-      (turned-short most (other way) _ _ _ start own)
+      by_way_of-good (Short most) way _ _ _ _ _
+      (turned-good (Short most) (other way) _ _ _ start own)
       (grove-short p (empty grove) h (omega (arith, le))) own end
 
 -- THE ORDER OF ROOTS
@@ -500,11 +457,10 @@ allowed p q = 3 * (wide p + wide q) + 36
 
 pub conjuncts-short : (p q : Named) (s : Sort)
     → IfSome (plan_by_conjuncts (entails p q s)) (IsShort (allowed p q))
-conjuncts-short p q s = by_test (has_conjuncts_of (nameless p) (nameless q))
-  where
-    by_test : (b : Bool) → IfSome (cond b (Some (gather s p q)) None) (IsShort (allowed p q))
-    by_test true = gather-short (allowed p q) s p q (omega arith) (omega arith)
-    by_test false = tt
+conjuncts-short p q s =
+    conjuncts-good (Short (allowed p q))
+    (λ p q h. (omega (arith, and-wide p q, h), omega (arith, and-wide p q, h))) p q s (omega arith)
+    (omega arith)
 
 pub form-plan-short : (p q : Named) (s : Sort) → IsWritable p → IsWritable q
     → IfSome (plan_by_form (entails p q s)) (IsShort (allowed p q))

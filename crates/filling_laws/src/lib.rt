@@ -9,6 +9,7 @@ ghost use Rattle.model_formulas.specs.Formulas.{Named};
 ghost use Rattle.model_files.specs.FileFaults.{step_kind, judgement_sorted};
 ghost use Rattle.model_commands.specs.Each.{Each};
 ghost use Rattle.model_commands.specs.Theories.{JudgementOf, StepOf, ProcedureOf, Theory};
+ghost use Rattle.assistant_laws.specs.Bounds.{parts_of};
 ghost use Rattle.assistant_laws.specs.Plans.{steps_of};
 ghost use Rattle.assistant_laws.specs.ConjunctPlans.{plan_by_conjuncts};
 ghost use Rattle.assistant_laws.specs.FormPlans.{plan_by_form};
@@ -25,7 +26,7 @@ ghost use Rattle.model_round_trip.specs.Literals.{LiteralsAreUtf8};
 ghost use Rattle.model_round_trip.specs.ReadBack.{ReadsAs};
 ghost use Rattle.model_filling.specs.Offers.{Voice};
 ghost use Rattle.model_filling.specs.Filled.{IsFilled};
-ghost use Rattle.filling_laws.specs.TextBounds.{judgement_bytes};
+ghost use Rattle.filling_laws.specs.TextBounds.{judgement_bytes, Nests};
 ghost use Rattle.filling_laws.specs.TermsIn.{terms_of_sides};
 
 /// What an assistant gives for a gap that is well formed in its file is usable, if it is sized.
@@ -80,6 +81,20 @@ pub fn what_is_given_is_short()
     ensures filling { (number : ℕ) (j : JudgementOf Named) → IfSome (plan_by_filling j)
         (λ plan. Each (λ step. judgement_bytes step.judgement ≤ 3 * judgement_bytes j + 256)
         (steps_of number plan)) }
+{}
+
+/// Where at most so many brackets are open at each token of the asked one, at most that many, one
+/// more for each formula part of its sides, and 8 are open in each of its judgements.
+pub fn what_is_given_nests_little()
+    ensures conjuncts { (number most : ℕ) (j : JudgementOf Named) → Nests most j
+        → IfSome (plan_by_conjuncts j) (λ plan. Each (λ step.
+        Nests (most + (parts_of j + 8)) step.judgement) (steps_of number plan)) }
+    ensures form { (number most : ℕ) (j : JudgementOf Named) → Nests most j
+        → IfSome (plan_by_form j) (λ plan. Each (λ step.
+        Nests (most + (parts_of j + 8)) step.judgement) (steps_of number plan)) }
+    ensures filling { (number most : ℕ) (j : JudgementOf Named) → Nests most j
+        → IfSome (plan_by_filling j) (λ plan. Each (λ step.
+        Nests (most + (parts_of j + 8)) step.judgement) (steps_of number plan)) }
 {}
 
 /// A well-formed theory has the sorts of its declarations.
