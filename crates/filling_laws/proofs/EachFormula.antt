@@ -10,7 +10,7 @@ use Rattle.assistant_laws.specs.Conjuncts.{has_conjuncts_of}
 use Rattle.assistant_laws.specs.Plans.{Plan, alone, from_one, from_two, last_number, last_step, steps_of}
 use Rattle.assistant_laws.specs.ConjunctPlans.{has_conjunct, reach, gather, plan_by_conjuncts}
 use Rattle.assistant_laws.specs.Ways.{Way, onward, backward, turned, by_way_of}
-use Rattle.filling_laws.proofs.Declared.{each-both}
+use Rattle.assistant_laws.proofs.Steps.{each-append}
 
 module _ (Good : Named → Type 0) where
   abbrev pub GoodSides : JudgementOf Named → Type 0
@@ -80,11 +80,11 @@ module _ (Good : Named → Type 0) where
     steps-good : (n : ℕ) (plan : Plan) → IsGood plan → Each IsAsked (steps_of n plan)
     steps-good n (alone rule j) h = (judgement-good j h, tt)
     steps-good n (from_one rule a j) h =
-        each-both IsAsked (steps_of n a) (last_step n (from_one rule a j) ∷ [])
+        each-append IsAsked (steps_of n a) (last_step n (from_one rule a j) ∷ [])
         (steps-good n a h.0) (judgement-good j h.1, tt)
     steps-good n (from_two rule a b j) h =
-        each-both IsAsked (steps_of n a) _ (steps-good n a h.0)
-        (each-both IsAsked (steps_of (suc (last_number n a)) b)
+        each-append IsAsked (steps_of n a) _ (steps-good n a h.0)
+        (each-append IsAsked (steps_of (suc (last_number n a)) b)
         (last_step n (from_two rule a b j) ∷ []) (steps-good (suc (last_number n a)) b h.1)
         (judgement-good j h.2, tt))
 

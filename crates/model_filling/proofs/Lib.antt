@@ -1,4 +1,5 @@
 pub mod Bare
+pub mod Premises
 pub mod Calls
 pub mod FileTests
 pub mod Numbers
