@@ -10,3 +10,5 @@ pub mod Citations
 pub mod FilledTexts
 pub mod OwnSorts
 pub mod OwnTheories
+pub mod WithoutLines
+pub mod FilledFiles
