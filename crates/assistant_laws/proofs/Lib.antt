@@ -1,0 +1,11 @@
+pub mod Steps
+pub mod Instances
+pub mod ByConjuncts
+pub mod After
+pub mod Ways
+pub mod ByFilling
+pub mod Forms
+pub mod ByForm
+pub mod Counts
+pub mod Rows
+pub mod Worked

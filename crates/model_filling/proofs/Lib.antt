@@ -1,0 +1,10 @@
+pub mod Bare
+pub mod Premises
+pub mod Calls
+pub mod FileTests
+pub mod Numbers
+pub mod Walks
+pub mod WalkEach
+pub mod WellFormed
+pub mod One
+pub mod Answer

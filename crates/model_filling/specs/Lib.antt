@@ -1,0 +1,9 @@
+pub mod OfferLimits
+pub mod Offers
+pub mod Sizes
+pub mod Usable
+pub mod Renumbering
+pub mod Asking
+pub mod Walk
+pub mod Filled
+pub mod Kept
