@@ -1,18 +1,18 @@
 -- How the steps of a plan are written one behind the other.
-use Rattle.std.proofs.Common.{◌≡◌, ◌∙◌, ℕ, suc, ◌+◌, ◌≤◌, ◌<◌, Bool, true, false, cond, ◌||◌, List, [], ◌∷◌, ◌++◌, length, map, sum_by, Option, Some, None, Result, Ok, Err, refl, ap, ap₂, sym, subst, arith, append_assoc, append-nil, length-append}
-use Rattle.std.proofs.lemmas.List.{length-map, map-append}
+use Rattle.std.proofs.Common.{◌≡◌, ◌∙◌, ℕ, suc, Bool, true, false, cond, List, [], ◌∷◌, ◌++◌, length, map, Result, Ok, Err, IfOk, refl, ap, ap₂, sym, subst, arith, append_assoc, append-nil, length-append}
+use Rattle.std.proofs.lemmas.List.{length-map}
 use Rattle.model_shapes.specs.Values.{Name}
 use Rattle.model_formulas.specs.Formulas.{Named}
-use Rattle.model_commands.specs.Theories.{JudgementOf, by_rule, StepOf}
-use Rattle.model_filling.specs.Sizes.{offer_limits}
-use Rattle.assistant_laws.specs.Plans.{Plan, alone, from_one, from_two, last_number, last_step, steps_of, size}
+use Rattle.model_commands.specs.Theories.{JudgementOf, StepOf}
+use Rattle.assistant_laws.specs.Plans.{Plan, from_one, from_two, last_number, last_step, steps_of}
 use Rattle.assistant_laws.proofs.Steps.{size-last, size-steps}
+use Rattle.theory_syntax.specs.declared.steps.Step.{Step}
 use Rattle.theory_syntax.specs.Judgements.{step_of}
 use Rattle.step_filler.specs.declared.drafts.Draft.{Draft}
 use Rattle.step_filler.specs.declared.drafts.Stop.{Stop}
 use Rattle.step_filler.specs.declared.drafts.Stop.TheVariants as stop
 use Rattle.step_filler.specs.Offered.{are_too_many, grown, given_by}
-use Rattle.step_filler.specs.Drafts.{drafted, next, IsReady, Adds, AddsSome, Written, step_by, WritesOne, WritesPlan}
+use Rattle.step_filler.specs.Drafts.{drafted, next, IsReady, Adds, IsKept, Written, step_by, WritesOne, WritesPlan}
 
 -- the next number behind a plan
 next-behind : (plan : Plan) (a b : Draft) → Adds (steps_of (next a) plan) a b
@@ -150,20 +150,20 @@ module _ (rule : Name) (p q : Plan) (j : JudgementOf Named) where
           (x.0 i ∷ (y.0 ∙ ap (λ k. last_number k q) (next-behind p a b x.1)) i ∷ []) j
 
 -- THE OFFER of a plan whose steps were written from nothing
-pub given-all : (plan : Plan) (n k : ℕ) (a b : Draft) → drafted a ≡ [] → next a ≡ n
-    → WritesPlan plan a b (Ok k) → drafted b ≡ given_by n plan
-given-all plan n k a b none start x =
+kept-is-given : (plan : Plan) (n : ℕ) (a b : Draft) (r : Result ℕ Stop) → drafted a ≡ []
+    → next a ≡ n → WritesPlan plan a b r → IsKept r → drafted b ≡ given_by n plan
+kept-is-given plan n a b (Ok k) none start x kept =
     sym (x.1.3 []) ∙ ap (grown (drafted a)) (append-nil (steps_of (next a) plan))
     ∙ ap₂ (λ (l : List (StepOf Named)) (m : ℕ). grown l (steps_of m plan)) none start
-
-pub given-full : (plan : Plan) (n : ℕ) (a b : Draft) → drafted a ≡ [] → next a ≡ n
-    → WritesPlan plan a b (Err stop.Full) → drafted b ≡ given_by n plan
-given-full plan n a b none start x =
+kept-is-given plan n a b (Err stop.Full) none start x kept =
     sym (x.2 []) ∙ ap (grown (drafted a)) (append-nil (steps_of (next a) plan))
     ∙ ap₂ (λ (l : List (StepOf Named)) (m : ℕ). grown l (steps_of m plan)) none start
+kept-is-given plan n a b (Err stop.OutOfMemory) none start x kept = absurd kept
 
--- where memory is refused, nothing is asked
-pub no-memory : (steps : List (StepOf Named)) (last : ℕ) (a b : Draft) (r : Result ℕ Stop) (e : Stop)
-    → r ≡ Err e → e ≡ stop.OutOfMemory → Written steps last a b r
-no-memory steps last a b r e is none =
-    subst (Written steps last a b) (sym (is ∙ ap (λ (x : Stop). Err x) none)) tt
+pub finished-is-given : {E : Type 0} (plan : Plan) (n : ℕ) (a b : Draft) (r : Result ℕ Stop)
+    (result : Result (List Step) E) → drafted a ≡ [] → next a ≡ n → WritesPlan plan a b r
+    → IfOk result (λ steps. (steps ≡ b.steps) × IsKept r)
+    → IfOk result (λ steps. map step_of steps ≡ given_by n plan)
+finished-is-given plan n a b r (Ok steps) none start x done =
+    ap (map step_of) done.0 ∙ kept-is-given plan n a b r none start x done.1
+finished-is-given plan n a b r (Err e) none start x done = tt

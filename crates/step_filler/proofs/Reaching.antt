@@ -1,10 +1,10 @@
 -- The plans by conjuncts, as they are written.
-use Rattle.std.proofs.Common.{◌≡◌, ◌∙◌, ℕ, Bool, true, false, cond, codes, List, [], ◌∷◌, Result, Ok, Err, IsErrAnd, refl, ap, sym, subst}
+use Rattle.std.proofs.Common.{◌≡◌, ◌∙◌, ℕ, Bool, true, false, cond, codes, [], ◌∷◌, Result, Ok, Err, IsErrAnd, refl, ap, sym, subst}
 use Rattle.std.proofs.lemmas.Result.{err_from_is_err_and}
 use Rattle.model_shapes.specs.Sorts.{Sort}
 use Rattle.model_shapes.specs.Values.{Name}
 use Rattle.model_formulas.specs.Formulas.{Named, conjunction}
-use Rattle.model_commands.specs.Theories.{JudgementOf, entails}
+use Rattle.model_commands.specs.Theories.{entails}
 use Rattle.assistant_laws.specs.Plans.{Plan, alone, from_two}
 use Rattle.assistant_laws.specs.ConjunctPlans.{has_conjunct, reach, gather}
 use Rattle.step_filler.specs.declared.drafts.Draft.{Draft}

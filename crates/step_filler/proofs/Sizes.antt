@@ -1,5 +1,5 @@
 -- What is given is whole wherever it has the sizes of an offer.
-use Rattle.std.proofs.Common.{◌≡◌, ◌∙◌, ℕ, zero, suc, ◌+◌, ◌≤◌, ◌<◌, nat_lt, Bool, true, false, cond, ◌||◌, ◌==◌, List, [], ◌∷◌, ◌++◌, length, map, sum_by, codes, Option, Some, None, IfSome, is_some, pos, negsuc, refl, ap, sym, subst, arith, append_assoc, append-nil, length-append}
+use Rattle.std.proofs.Common.{◌≡◌, ◌∙◌, ℕ, suc, ◌+◌, ◌≤◌, Bool, true, false, cond, ◌==◌, List, [], ◌∷◌, ◌++◌, length, sum_by, codes, Option, Some, None, IfSome, is_some, refl, ap, sym, subst, arith, append_assoc, append-nil, length-append}
 use Rattle.std.proofs.lemmas.Bool.Decides.{nat_tests}
 use Rattle.std.proofs.lemmas.List.Sums.{sum_by-append, sum_by-cons}
 use Rattle.model_shapes.specs.Sorts.{tree, forest, grove}
@@ -13,12 +13,12 @@ use Rattle.model_text.specs.Tokens.{newline, quote, backslash}
 use Rattle.model_documents.specs.Printed.{escaped_byte, escaped, quoted}
 use Rattle.model_grammar.specs.Words.{the, ◌⌢◌}
 use Rattle.model_grammar.specs.Writing.{printed, spaced, text_of, var_lexemes, term_lexemes, braced, bracketed, command_lexemes}
-use Rattle.model_grammar.specs.TheoryWriting.{star_sign, at_sign, into_sign, quantified, formula_lexemes, sort_lexemes, data_sort_lexemes, reason_lexemes, judgement_lexemes, step_line, all_lexemes}
+use Rattle.model_grammar.specs.TheoryWriting.{star_sign, at_sign, into_sign, quantified, formula_lexemes, sort_lexemes, data_sort_lexemes, reason_lexemes, judgement_lexemes, step_line}
 use Rattle.model_filling.specs.Sizes.{offer_limits, offer_lexemes, IsSized}
 use Rattle.assistant_laws.specs.Plans.{Plan, steps_of}
 use Rattle.assistant_laws.specs.Proposals.{Proves}
 use Rattle.step_filler.specs.Weights.{weight_of_variable, weight_of_term, weight_of_formula, weight_of_judgement, weight_of}
-use Rattle.step_filler.specs.Offered.{are_too_many, grown, given_by, offer_of}
+use Rattle.step_filler.specs.Offered.{are_too_many, grown, offer_of}
 
 -- THE BYTES of what is printed, without those between
 bytes : List Lexeme → ℕ
@@ -33,8 +33,12 @@ bytes-append (x ∷ a) b = omega (arith, bytes-append a b)
 bytes-spaced : (a : List Lexeme) → bytes a ≤ length (spaced a)
 unfolding bytes
 bytes-spaced [] = omega arith
-bytes-spaced (x ∷ a) = omega (arith, length-append (codes " ") (printed x ++ spaced a),
-    length-append (printed x) (spaced a), bytes-spaced a)
+bytes-spaced (x ∷ a) = omega (
+  arith,
+  length-append (codes " ") (printed x ++ spaced a),
+  length-append (printed x) (spaced a),
+  bytes-spaced a,
+)
 
 bytes-text : (a : List Lexeme) → bytes a ≤ length (text_of a)
 unfolding bytes
@@ -54,30 +58,58 @@ escaped-one byte = cases (byte == quote) (byte == backslash) (byte == newline)
 
 escaped-all : (text : List ℕ) → length text ≤ length (escaped text)
 escaped-all [] = omega arith
-escaped-all (byte ∷ text) = omega (arith, length-append (escaped_byte byte) (escaped text),
-    escaped-one byte, escaped-all text)
+escaped-all (byte ∷ text) = omega (
+  arith,
+  length-append (escaped_byte byte) (escaped text),
+  escaped-one byte,
+  escaped-all text,
+)
 
 -- a sign of one byte or more, and what is beside it
 module _ (left sign right : List Lexeme) (x y : ℕ) (l : x ≤ bytes left) (r : y ≤ bytes right) where
   braced-bytes : 1 + (x + y) ≤ bytes (braced left sign right)
   unfolding bytes
-  braced-bytes = omega (arith, l, r, bytes-append left (sign ⌢ right ⌢ the "}"),
-      bytes-append sign (right ⌢ the "}"), bytes-append right (the "}"))
+  braced-bytes = omega (
+    arith,
+    l,
+    r,
+    bytes-append left (sign ⌢ right ⌢ the "}"),
+    bytes-append sign (right ⌢ the "}"),
+    bytes-append right (the "}"),
+  )
 
   bracketed-bytes : 1 + (x + y) ≤ bytes (bracketed left sign right)
   unfolding bytes
-  bracketed-bytes = omega (arith, l, r, bytes-append left (sign ⌢ right ⌢ the ")"),
-      bytes-append sign (right ⌢ the ")"), bytes-append right (the ")"))
+  bracketed-bytes = omega (
+    arith,
+    l,
+    r,
+    bytes-append left (sign ⌢ right ⌢ the ")"),
+    bytes-append sign (right ⌢ the ")"),
+    bytes-append right (the ")"),
+  )
 
   quantified-bytes : 1 + (x + y) ≤ bytes (quantified sign left right)
   unfolding bytes
-  quantified-bytes = omega (arith, l, r, bytes-append sign (left ⌢ the "." ⌢ right ⌢ the ")"),
-      bytes-append left (the "." ⌢ right ⌢ the ")"), bytes-append right (the ")"))
+  quantified-bytes = omega (
+    arith,
+    l,
+    r,
+    bytes-append sign (left ⌢ the "." ⌢ right ⌢ the ")"),
+    bytes-append left (the "." ⌢ right ⌢ the ")"),
+    bytes-append right (the ")"),
+  )
 
   between-bytes : 1 ≤ bytes sign → 1 + (x + y) ≤ bytes (left ⌢ sign ⌢ right)
   unfolding bytes
-  between-bytes some = omega (arith, l, r, some, bytes-append left (sign ⌢ right),
-      bytes-append sign right)
+  between-bytes some = omega (
+    arith,
+    l,
+    r,
+    some,
+    bytes-append left (sign ⌢ right),
+    bytes-append sign right,
+  )
 
 -- a part in brackets of its own
 module _ (p end : List Lexeme) (x : ℕ) (l : x ≤ bytes p) where
@@ -116,10 +148,16 @@ node-bytes : (a b p c : List Lexeme) (i j k m : ℕ) → i ≤ bytes a → j ≤
     → m ≤ bytes c
     → 1 + ((i + j) + (k + m)) ≤ bytes (a ⌢ the "#" ⌢ b ⌢ the "[" ⌢ p ⌢ the "]" ⌢ the "%" ⌢ c)
 unfolding bytes
-node-bytes a b p c i j k m u v w x = omega (arith, u, v, w, x,
-    bytes-append a (the "#" ⌢ b ⌢ the "[" ⌢ p ⌢ the "]" ⌢ the "%" ⌢ c),
-    bytes-append b (the "[" ⌢ p ⌢ the "]" ⌢ the "%" ⌢ c),
-    bytes-append p (the "]" ⌢ the "%" ⌢ c))
+node-bytes a b p c i j k m u v w x = omega (
+  arith,
+  u,
+  v,
+  w,
+  x,
+  bytes-append a (the "#" ⌢ b ⌢ the "[" ⌢ p ⌢ the "]" ⌢ the "%" ⌢ c),
+  bytes-append b (the "[" ⌢ p ⌢ the "]" ⌢ the "%" ⌢ c),
+  bytes-append p (the "]" ⌢ the "%" ⌢ c),
+)
 
 formula-bytes : (p : Named) → weight_of_formula p ≤ bytes (formula_lexemes p)
 unfolding bytes
@@ -179,7 +217,7 @@ formula-bytes (context_adjoint k p q) =
     (formula-bytes q)
 formula-bytes (same_as a) = term-bytes a
 formula-bytes (length_is a) = omega (arith, term-bytes a)
-formula-bytes (value_meets s a p) = 
+formula-bytes (value_meets s a p) =
     bracketed-bytes (term_lexemes a) (the "is") (formula_lexemes p) _ _ (term-bytes a)
     (formula-bytes p)
 
@@ -234,8 +272,12 @@ not-too-many steps few short = grind (arith, nat_tests, few, short)
 
 pub room-for : (version : ℕ) (steps : List (StepOf Named)) → IsSized version steps
     → are_too_many steps ≡ false
-room-for version steps sized = not-too-many steps sized.few (omega (arith, sized.short,
-    steps-bytes version steps, bytes-text (offer_lexemes version steps)))
+room-for version steps sized = not-too-many steps sized.few (omega (
+  arith,
+  sized.short,
+  steps-bytes version steps,
+  bytes-text (offer_lexemes version steps),
+))
 
 -- where the steps have room, all are given
 grown-whole : (xs ys : List (StepOf Named)) → length (xs ++ ys) ≤ offer_limits.steps
@@ -252,8 +294,12 @@ grown-whole xs (y ∷ ys) few short =
 pub sized-is-given : (version : ℕ) (steps : List (StepOf Named)) → IsSized version steps
     → grown [] steps ≡ steps
 sized-is-given version steps sized = grown-whole [] steps sized.few
-    (omega (arith, sized.short, steps-bytes version steps,
-    bytes-text (offer_lexemes version steps)))
+    (omega (
+      arith,
+      sized.short,
+      steps-bytes version steps,
+      bytes-text (offer_lexemes version steps),
+    ))
 
 -- where what is given has room, it is all
 grown-all : (xs ys : List (StepOf Named)) → are_too_many (grown xs ys) ≡ false

@@ -1,5 +1,5 @@
 -- Needn't be believed: contracts of private functions alone speak of it. How a draft of steps grows.
-use Rattle.std.specs.Prelude.{◌≡◌, ℕ, ◌+◌, ◌≤◌, ◌<◌, false, List, [], ◌∷◌, ◌++◌, length, map, sum_by, Option, Some, None, Result, Ok, Err, MatchOption}
+use Rattle.std.specs.Prelude.{◌≡◌, ℕ, ◌+◌, ◌≤◌, ◌<◌, false, List, [], ◌∷◌, ◌++◌, length, map, sum_by, Option, Result, Ok, Err, MatchOption}
 use Rattle.model_shapes.specs.Values.{Name}
 use Rattle.model_formulas.specs.Formulas.{Named}
 use Rattle.model_commands.specs.Theories.{JudgementOf, by_rule, StepOf}
@@ -51,6 +51,12 @@ abbrev pub Written : List (StepOf Named) → ℕ → Draft → Draft → Result 
 Written steps last before after (Ok n) = (n ≡ last) × Adds steps before after
 Written steps last before after (Err stop.Full) = AddsSome steps before after
 Written steps last before after (Err stop.OutOfMemory) = Unit
+
+-- memory wasn't refused
+abbrev pub IsKept : Result ℕ Stop → Type 0
+IsKept (Ok n) = Unit
+IsKept (Err stop.Full) = Unit
+IsKept (Err stop.OutOfMemory) = ⊥
 
 -- a step by a rule
 abbrev pub step_by : ℕ → Name → List ℕ → JudgementOf Named → StepOf Named

@@ -1,7 +1,7 @@
 -- How much is written for a step, at least: a byte for each part of its formulas and for each sum,
 -- difference and appending of its terms, and the bytes of its names and texts.
 use Rattle.std.specs.Prelude.{ℕ, ◌+◌, length}
-use Rattle.model_shapes.specs.Values.{Value, str}
+use Rattle.model_shapes.specs.Values.{str}
 use Rattle.model_terms.specs.Variables.{Var, prog, logic, bound}
 use Rattle.model_terms.specs.Terms.{Term, literal, variable, sum, difference, appended}
 use Rattle.model_formulas.specs.Formulas.{Named, truth, falsity, conjunction, disjunction, implication, negation, existential, universal, equality, at_most, empty, bare_hole, node_formula, one_tree, one_root, concatenation, grove_sum, grove_sum_hole, application, hole_adjoint, context_adjoint, same_as, length_is, value_meets}

@@ -117,11 +117,7 @@ fn gather(
 }
 
 // The steps for an entailment that is obvious.
-fn steps_for(
-    alloc: Global,
-    number: u32,
-    asked: &Entailment,
-) -> Result<Steps, OutOfMemory>
+fn steps_for(alloc: Global, number: u32, asked: &Entailment) -> Result<Steps, OutOfMemory>
     requires left { parts (formula_of asked.now.left) < 4294967295 }
     requires right { parts (formula_of asked.now.right) < 4294967295 }
     requires number { number ≤ 4000000000 }
@@ -130,18 +126,12 @@ fn steps_for(
         (formula_of asked.now.right))) }
 {
     let mut draft = Draft::new(alloc, number);
-    match gather(alloc, &mut draft, &asked.left, &asked.right, asked.sort) {
-        Ok(_) | Err(Stop::Full) => Ok(draft.steps),
-        Err(Stop::OutOfMemory) => Err(OutOfMemory),
-    }
+    let written = gather(alloc, &mut draft, &asked.left, &asked.right, asked.sort);
+    draft.finish(written)
 }
 
 // What is offered for the judgement.
-fn offer(
-    alloc: Global,
-    number: u32,
-    judgement: &Judgement,
-) -> Result<Option<Steps>, OutOfMemory>
+fn offer(alloc: Global, number: u32, judgement: &Judgement) -> Result<Option<Steps>, OutOfMemory>
     requires small { parts_of (judgement_of judgement.now) < 4294967295 }
     requires number { number ≤ 4000000000 }
     ensures { IfOk result (λ steps. offered steps

@@ -5,7 +5,7 @@ ghost use Rattle.dom_terms.specs.Sorts.{sort_of};
 ghost use Rattle.formula_syntax.specs.Formulas.{formula_of};
 ghost use Rattle.theory_syntax.specs.Judgements.{judgement_of, reason_of};
 ghost use Rattle.step_filler.specs.declared.drafts.Stop.TheVariants.{OutOfMemory};
-ghost use Rattle.step_filler.specs.Drafts.{IsPlace, IsReady, WritesOne, drafted, next};
+ghost use Rattle.step_filler.specs.Drafts.{IsKept, IsPlace, IsReady, WritesOne, drafted, next};
 ghost use Rattle.step_filler.specs.Offered.{are_too_many};
 
 use crate::weights::left_by_both;
@@ -143,5 +143,15 @@ impl Draft {
         })?;
         self.room = left_by_both(left, right, room);
         Ok(number)
+    }
+
+    /// The steps, when those of a plan were written or there was no room for all of them.
+    pub fn finish(self, written: Result<u32, Stop>) -> Result<Steps, OutOfMemory>
+        ensures { IfOk result (λ steps. (steps ≡ self.steps) × IsKept written) }
+    {
+        match written {
+            Ok(_) | Err(Stop::Full) => Ok(self.steps),
+            Err(Stop::OutOfMemory) => Err(OutOfMemory),
+        }
     }
 }

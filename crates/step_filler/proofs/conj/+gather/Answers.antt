@@ -11,7 +11,7 @@ returns-in_err-second-in-And t c =
     let p = formula_of c.deref.result.now in
     let q = formula_of c.deref-in-And.result.now in
     let is : right ≡ conjunction p q =
-        cc (ap formula_of c.in-And.is, c.deref.ensures, c.deref-in-And.ensures) in
+    cc (ap formula_of c.in-And.is, c.deref.ensures, c.deref-in-And.ensures) in
     gather-second (sort_of c.args.sort) (formula_of c.args.left.now) right p q is
     c.args.draft.now c.gather.new.draft c.gather-in-And.new.draft c.in_ok-first-in-And.first
     c.in_err-second-in-And.field-0.0 c.from_residual-in_err-second-in-And.result
@@ -24,7 +24,7 @@ returns-in_ok-second-in-And t c =
     let p = formula_of c.deref.result.now in
     let q = formula_of c.deref-in-And.result.now in
     let is : right ≡ conjunction p q =
-        cc (ap formula_of c.in-And.is, c.deref.ensures, c.deref-in-And.ensures) in
+    cc (ap formula_of c.in-And.is, c.deref.ensures, c.deref-in-And.ensures) in
     gather-both (sort_of c.args.sort) (formula_of c.args.left.now) right p q is
     c.args.draft.now c.gather.new.draft c.gather-in-And.new.draft c.write.new.self
     c.in_ok-first-in-And.first c.in_ok-second-in-And.second c.write.result

@@ -1,6 +1,5 @@
-use Rattle.std.proofs.Common.{◌≡◌, ◌∙◌, Bool, true, false, codes, List, [], ◌∷◌, ap, sym}
-use Rattle.model_formulas.specs.Formulas.{Named, conjunction}
-use Rattle.assistant_laws.specs.ConjunctPlans.{has_conjunct}
+use Rattle.std.proofs.Common.{◌≡◌, ◌∙◌, codes, ap, sym}
+use Rattle.model_formulas.specs.Formulas.{conjunction}
 use Rattle.dom_terms.specs.Sorts.{sort_of}
 use Rattle.formula_syntax.specs.Formulas.{formula_of}
 use Rattle.step_filler.proofs.Reaching.{by-left, by-right, cut-first, cut-second, cut-both}
@@ -14,7 +13,7 @@ returns-in_err-second t c =
     let left = formula_of c.deref.result.now in
     let right = formula_of c.deref-2.result.now in
     let is : formula ≡ conjunction left right =
-        cc (ap formula_of c.in-And.is, c.deref.ensures, c.deref-2.ensures) in
+    cc (ap formula_of c.in-And.is, c.deref.ensures, c.deref-2.ensures) in
     cut-second s formula left target (codes "and_left") _
     (by-left s formula left right target is
     (sym c.has_conjunct.ensures ∙ c.if-has_conjunct.true))
@@ -30,7 +29,7 @@ returns-then-has_conjunct t c =
     let left = formula_of c.deref.result.now in
     let right = formula_of c.deref-2.result.now in
     let is : formula ≡ conjunction left right =
-        cc (ap formula_of c.in-And.is, c.deref.ensures, c.deref-2.ensures) in
+    cc (ap formula_of c.in-And.is, c.deref.ensures, c.deref-2.ensures) in
     cut-both s formula left target (codes "and_left") _
     (by-left s formula left right target is
     (sym c.has_conjunct.ensures ∙ c.if-has_conjunct.true))
@@ -47,7 +46,7 @@ returns-in_err-first-2 t c =
     let left = formula_of c.deref.result.now in
     let right = formula_of c.deref-2.result.now in
     let is : formula ≡ conjunction left right =
-        cc (ap formula_of c.in-And.is, c.deref.ensures, c.deref-2.ensures) in
+    cc (ap formula_of c.in-And.is, c.deref.ensures, c.deref-2.ensures) in
     cut-first s formula right target (codes "and_right") _
     (by-right s formula left right target is
     (sym c.has_conjunct.ensures ∙ c.if-has_conjunct.false))
@@ -63,7 +62,7 @@ returns-in_err-second-2 t c =
     let left = formula_of c.deref.result.now in
     let right = formula_of c.deref-2.result.now in
     let is : formula ≡ conjunction left right =
-        cc (ap formula_of c.in-And.is, c.deref.ensures, c.deref-2.ensures) in
+    cc (ap formula_of c.in-And.is, c.deref.ensures, c.deref-2.ensures) in
     cut-second s formula right target (codes "and_right") _
     (by-right s formula left right target is
     (sym c.has_conjunct.ensures ∙ c.if-has_conjunct.false))
@@ -80,7 +79,7 @@ returns t c =
     let left = formula_of c.deref.result.now in
     let right = formula_of c.deref-2.result.now in
     let is : formula ≡ conjunction left right =
-        cc (ap formula_of c.in-And.is, c.deref.ensures, c.deref-2.ensures) in
+    cc (ap formula_of c.in-And.is, c.deref.ensures, c.deref-2.ensures) in
     cut-both s formula right target (codes "and_right") _
     (by-right s formula left right target is
     (sym c.has_conjunct.ensures ∙ c.if-has_conjunct.false))
