@@ -1,20 +1,18 @@
--- Which offers may stand in the place of a gap.
-use Rattle.std.specs.Prelude.{◌≡◌, ℕ, suc, List, [], ◌∷◌, Some, None, map}
+-- Needn't be believed: the program's promise doesn't speak of it. Which offers may stand in the
+-- place of a gap.
+use Rattle.std.specs.Prelude.{◌≡◌, ℕ, List, Some, None, map}
 use Rattle.model_formulas.specs.Formulas.{Named}
 use Rattle.model_commands.specs.Each.{Each}
 use Rattle.model_commands.specs.Theories.{JudgementOf, StepOf, ProcedureOf, Theory, procedures_of, nameless_step, nameless_judgement}
 use Rattle.model_files.specs.FileFaults.{step_kind}
 use Rattle.rule_table.specs.Accepted.{AllInstances, last_judgement}
+use Rattle.model_filling.specs.Offers.{IsNumberedFrom}
 use Rattle.model_filling.specs.Sizes.{IsSized}
 
--- the steps are numbered one by one from this number on
-abbrev pub IsNumberedFrom : ℕ → List (StepOf Named) → Type 0
-IsNumberedFrom n [] = Unit
-IsNumberedFrom n (step ∷ steps) = (step.number ≡ n) × IsNumberedFrom (suc n) steps
-
--- USABLE for a step of this number and judgement, behind these steps of the procedure's proof: of
--- the right sizes and numbers, each step well formed in the file and an instance over those before
--- it (so none is a gap), and the last one has the judgement, up to the names of bound variables
+-- USABLE for a gap of this number and judgement, after these earlier steps of the procedure's
+-- proof: of the right sizes and numbers; each step well formed in the file, and an instance over
+-- those before it, so that none is a gap; and the last one has the judgement, up to the names of
+-- bound variables
 pub record IsUsable (theory : Theory) (f : ProcedureOf Named) (earlier : List (StepOf Named))
     (number : ℕ) (judgement : JudgementOf Named) (steps : List (StepOf Named)) : Type 0 where
   pub sized : IsSized theory.version steps
