@@ -1,4 +1,4 @@
--- How the steps of a plan are written one behind the other.
+-- How the steps of a plan are written one after the other.
 use Rattle.std.proofs.Common.{◌≡◌, ◌∙◌, ℕ, suc, Bool, true, false, cond, List, [], ◌∷◌, ◌++◌, length, map, Result, Ok, Err, IfOk, refl, ap, ap₂, sym, subst, arith, append_assoc, append-nil, length-append}
 use Rattle.std.proofs.lemmas.List.{length-map}
 use Rattle.model_shapes.specs.Values.{Name}
@@ -11,18 +11,19 @@ use Rattle.theory_syntax.specs.Judgements.{step_of}
 use Rattle.step_filler.specs.declared.drafts.Draft.{Draft}
 use Rattle.step_filler.specs.declared.drafts.Stop.{Stop}
 use Rattle.step_filler.specs.declared.drafts.Stop.TheVariants as stop
-use Rattle.step_filler.specs.Offered.{are_too_many, grown, given_by}
+use Rattle.step_filler.specs.Given.{are_too_many, grown, given_by}
 use Rattle.step_filler.specs.Drafts.{drafted, next, IsReady, Adds, IsKept, Written, step_by, WritesOne, WritesPlan}
 
--- the next number behind a plan
-next-behind : (plan : Plan) (a b : Draft) → Adds (steps_of (next a) plan) a b
+-- the next number after a plan
+next-after : (plan : Plan) (a b : Draft) → Adds (steps_of (next a) plan) a b
     → next b ≡ suc (last_number (next a) plan)
-next-behind plan a b adds =
-    let grown : length (drafted b) ≡ length (drafted a ++ steps_of (next a) plan) = ap length adds.2 in
+next-after plan a b adds =
+    let more : length (drafted b) ≡ length (drafted a ++ steps_of (next a) plan) =
+    ap length adds.2 in
     omega (
       arith,
       adds.0,
-      grown,
+      more,
       length-append (drafted a) (steps_of (next a) plan),
       length-map a.steps step_of,
       length-map b.steps step_of,
@@ -100,11 +101,12 @@ module _ (rule : Name) (p : Plan) (j : JudgementOf Named) where
   one-written a b c n r x y =
       then-written (steps_of (next a) p) (last_step (next a) (from_one rule p j) ∷ [])
       (last_number (next a) p) (last_number (next a) (from_one rule p j)) a b c r x.1
-      (subst (λ (s : StepOf Named). Written (s ∷ []) (last_number (next a) (from_one rule p j)) b c r)
+      (subst
+      (λ (s : StepOf Named). Written (s ∷ []) (last_number (next a) (from_one rule p j)) b c r)
       same (subst (λ (k : ℕ). Written (step_by (next b) rule (n ∷ []) j ∷ []) k b c r) here y))
     where
       here : next b ≡ last_number (next a) (from_one rule p j)
-      here = next-behind p a b x.1
+      here = next-after p a b x.1
 
       same : step_by (next b) rule (n ∷ []) j ≡ last_step (next a) (from_one rule p j)
       same = λ i. step_by (here i) rule (x.0 i ∷ []) j
@@ -124,7 +126,7 @@ module _ (rule : Name) (p q : Plan) (j : JudgementOf Named) where
       (steps_of (suc (last_number (next a) p)) q ++ last_step (next a) (from_two rule p q j) ∷ [])
       (last_number (next a) p) (last_number (next a) (from_two rule p q j)) a b c (Err e) x.1
       (subst (λ (m : ℕ). Written (steps_of m q ++ last_step (next a) (from_two rule p q j) ∷ [])
-      (last_number (next a) (from_two rule p q j)) b c (Err e)) (next-behind p a b x.1)
+      (last_number (next a) (from_two rule p q j)) b c (Err e)) (next-after p a b x.1)
       (stops-first (steps_of (next b) q) (last_step (next a) (from_two rule p q j) ∷ [])
       (last_number (next b) q) (last_number (next a) (from_two rule p q j)) b c e y))
 
@@ -136,18 +138,20 @@ module _ (rule : Name) (p q : Plan) (j : JudgementOf Named) where
       (steps_of (suc (last_number (next a) p)) q ++ last_step (next a) (from_two rule p q j) ∷ [])
       (last_number (next a) p) (last_number (next a) (from_two rule p q j)) a b d r x.1
       (subst (λ (k : ℕ). Written (steps_of k q ++ last_step (next a) (from_two rule p q j) ∷ [])
-      (last_number (next a) (from_two rule p q j)) b d r) (next-behind p a b x.1)
+      (last_number (next a) (from_two rule p q j)) b d r) (next-after p a b x.1)
       (then-written (steps_of (next b) q) (last_step (next a) (from_two rule p q j) ∷ [])
       (last_number (next b) q) (last_number (next a) (from_two rule p q j)) b c d r y.1
-      (subst (λ (s : StepOf Named). Written (s ∷ []) (last_number (next a) (from_two rule p q j)) c d r)
-      same (subst (λ (k : ℕ). Written (step_by (next c) rule (n ∷ m ∷ []) j ∷ []) k c d r) here z))))
+      (subst
+      (λ (s : StepOf Named). Written (s ∷ []) (last_number (next a) (from_two rule p q j)) c d r)
+      same
+      (subst (λ (k : ℕ). Written (step_by (next c) rule (n ∷ m ∷ []) j ∷ []) k c d r) here z))))
     where
       here : next c ≡ last_number (next a) (from_two rule p q j)
-      here = next-behind q b c y.1 ∙ ap (λ k. suc (last_number k q)) (next-behind p a b x.1)
+      here = next-after q b c y.1 ∙ ap (λ k. suc (last_number k q)) (next-after p a b x.1)
 
       same : step_by (next c) rule (n ∷ m ∷ []) j ≡ last_step (next a) (from_two rule p q j)
       same = λ i. step_by (here i) rule
-          (x.0 i ∷ (y.0 ∙ ap (λ k. last_number k q) (next-behind p a b x.1)) i ∷ []) j
+          (x.0 i ∷ (y.0 ∙ ap (λ k. last_number k q) (next-after p a b x.1)) i ∷ []) j
 
 -- THE OFFER of a plan whose steps were written from nothing
 kept-is-given : (plan : Plan) (n : ℕ) (a b : Draft) (r : Result ℕ Stop) → drafted a ≡ []

@@ -14,11 +14,12 @@ use Rattle.model_documents.specs.Printed.{escaped_byte, escaped, quoted}
 use Rattle.model_grammar.specs.Words.{the, ◌⌢◌}
 use Rattle.model_grammar.specs.Writing.{printed, spaced, text_of, var_lexemes, term_lexemes, braced, bracketed, command_lexemes}
 use Rattle.model_grammar.specs.TheoryWriting.{star_sign, at_sign, into_sign, quantified, formula_lexemes, sort_lexemes, data_sort_lexemes, reason_lexemes, judgement_lexemes, step_line}
-use Rattle.model_filling.specs.Sizes.{offer_limits, offer_lexemes, IsSized}
+use Rattle.model_filling.specs.OfferLimits.{offer_limits}
+use Rattle.model_filling.specs.Sizes.{offer_lexemes, IsSized}
 use Rattle.assistant_laws.specs.Plans.{Plan, steps_of}
 use Rattle.assistant_laws.specs.Proposals.{Proves}
 use Rattle.step_filler.specs.Weights.{weight_of_variable, weight_of_term, weight_of_formula, weight_of_judgement, weight_of}
-use Rattle.step_filler.specs.Offered.{are_too_many, grown, offer_of}
+use Rattle.step_filler.specs.Given.{are_too_many, grown, offer_of}
 
 -- THE BYTES of what is printed, without those between
 bytes : List Lexeme → ℕ
@@ -113,8 +114,8 @@ module _ (left sign right : List Lexeme) (x y : ℕ) (l : x ≤ bytes left) (r :
 
 -- a part in brackets of its own
 module _ (p end : List Lexeme) (x : ℕ) (l : x ≤ bytes p) where
-  behind-bytes : x ≤ bytes (p ⌢ end)
-  behind-bytes = omega (arith, l, bytes-append p end)
+  before-bytes : x ≤ bytes (p ⌢ end)
+  before-bytes = omega (arith, l, bytes-append p end)
 
 -- TERMS
 variable-bytes : (x : Var) → weight_of_variable x ≤ bytes (var_lexemes x)
@@ -173,7 +174,7 @@ formula-bytes (implication p q) =
     bracketed-bytes (formula_lexemes p) (the "->") (formula_lexemes q) _ _ (formula-bytes p)
     (formula-bytes q)
 formula-bytes (negation p) =
-    omega (arith, behind-bytes (formula_lexemes p) (the ")") _ (formula-bytes p))
+    omega (arith, before-bytes (formula_lexemes p) (the ")") _ (formula-bytes p))
 formula-bytes (existential x p) =
     quantified-bytes (var_lexemes x) (the "exists") (formula_lexemes p) _ _ (variable-bytes x)
     (formula-bytes p)
@@ -194,9 +195,9 @@ formula-bytes (node_formula a b p c) =
     node-bytes (term_lexemes a) (term_lexemes b) (formula_lexemes p) (term_lexemes c) _ _ _ _
     (term-bytes a) (term-bytes b) (formula-bytes p) (term-bytes c)
 formula-bytes (one_tree p) =
-    omega (arith, behind-bytes (formula_lexemes p) (the ">") _ (formula-bytes p))
+    omega (arith, before-bytes (formula_lexemes p) (the ">") _ (formula-bytes p))
 formula-bytes (one_root p) =
-    omega (arith, behind-bytes (formula_lexemes p) (the "]") _ (formula-bytes p))
+    omega (arith, before-bytes (formula_lexemes p) (the "]") _ (formula-bytes p))
 formula-bytes (concatenation side p q) =
     bracketed-bytes (formula_lexemes p) (star_sign side) (formula_lexemes q) _ _ (formula-bytes p)
     (formula-bytes q)
@@ -349,7 +350,8 @@ grown-begins xs (y ∷ ys) = cases (are_too_many xs) (grown-begins (xs ++ y ∷ 
   where
     cases : (b : Bool)
         → (rest : List (StepOf Named)) × (grown (xs ++ y ∷ []) ys ++ rest ≡ (xs ++ y ∷ []) ++ ys)
-        → (rest : List (StepOf Named)) × (cond b xs (grown (xs ++ y ∷ []) ys) ++ rest ≡ xs ++ y ∷ ys)
+        → (rest : List (StepOf Named))
+        × (cond b xs (grown (xs ++ y ∷ []) ys) ++ rest ≡ xs ++ y ∷ ys)
     cases true more = (y ∷ ys, refl)
     cases false more = (more.0, more.1 ∙ append_assoc xs (y ∷ []) ys)
 
@@ -363,7 +365,8 @@ pub given-proves : (procedures : Procedures) (version number : ℕ) (j : Judgeme
     → IfSome (offer_of o number) (λ steps. IsSized version steps → Proves procedures number j steps)
 given-proves procedures version number j None proves = tt
 given-proves procedures version number j (Some plan) proves = λ sized.
-    subst (Proves procedures number j) (sym (given-sized-is-all version (steps_of number plan) sized))
+    subst (Proves procedures number j)
+    (sym (given-sized-is-all version (steps_of number plan) sized))
     proves
 
 pub offered-where-planned : (o : Option Plan) (number : ℕ) → is_some (offer_of o number) ≡ is_some o

@@ -1,16 +1,17 @@
--- Needn't be believed: contracts of private functions alone speak of it. How a draft of steps grows.
+-- Needn't be believed: contracts of private functions alone speak of it. How a draft of steps
+-- grows.
 use Rattle.std.specs.Prelude.{◌≡◌, ℕ, ◌+◌, ◌≤◌, ◌<◌, false, List, [], ◌∷◌, ◌++◌, length, map, sum_by, Option, Result, Ok, Err, MatchOption}
 use Rattle.model_shapes.specs.Values.{Name}
 use Rattle.model_formulas.specs.Formulas.{Named}
 use Rattle.model_commands.specs.Theories.{JudgementOf, by_rule, StepOf}
-use Rattle.model_filling.specs.Sizes.{offer_limits}
+use Rattle.model_filling.specs.OfferLimits.{offer_limits}
 use Rattle.assistant_laws.specs.Plans.{Plan, last_number, steps_of}
 use Rattle.theory_syntax.specs.Judgements.{step_of}
 use Rattle.step_filler.specs.declared.drafts.Draft.{Draft}
 use Rattle.step_filler.specs.declared.drafts.Stop.{Stop}
 use Rattle.step_filler.specs.declared.drafts.Stop.TheVariants as stop
 use Rattle.step_filler.specs.Weights.{weight_of}
-use Rattle.step_filler.specs.Offered.{are_too_many, grown}
+use Rattle.step_filler.specs.Given.{are_too_many, grown}
 
 -- the steps so far
 abbrev pub drafted : Draft → List (StepOf Named)
@@ -34,14 +35,15 @@ abbrev pub IsPlace : Draft → ℕ → ℕ → Type 0
 IsPlace draft number room = (are_too_many (drafted draft) ≡ false) × (number ≡ next draft)
     × (room + sum_by weight_of (drafted draft) ≡ offer_limits.bytes)
 
--- from the one to the other these steps were added, and what comes behind them comes behind the other
+-- from the one to the other these steps were added, and further ones come after the other as they
+-- would after the one and these
 abbrev pub Adds : List (StepOf Named) → Draft → Draft → Type 0
 Adds steps before after = (after.first ≡ before.first) × IsReady after
     × (drafted after ≡ drafted before ++ steps)
     × ((rest : List (StepOf Named))
     → grown (drafted before) (steps ++ rest) ≡ grown (drafted after) rest)
 
--- as many were added as there was room for, and whatever comes behind them is left out
+-- as many were added as there was room for, and whatever comes after them is left out
 abbrev pub AddsSome : List (StepOf Named) → Draft → Draft → Type 0
 AddsSome steps before after = (after.first ≡ before.first) × IsReady after
     × ((rest : List (StepOf Named)) → grown (drafted before) (steps ++ rest) ≡ drafted after)

@@ -1,5 +1,6 @@
--- How much is written for a step, at least: a byte for each part of its formulas and for each sum,
--- difference and appending of its terms, and the bytes of its names and texts.
+-- Needn't be believed: a law says that no text of steps has fewer bytes. How much is written for a
+-- step, at least: a byte for each part of its formulas, and for each sum, difference and appending
+-- in its terms, and the bytes of its names and texts.
 use Rattle.std.specs.Prelude.{ℕ, ◌+◌, length}
 use Rattle.model_shapes.specs.Values.{str}
 use Rattle.model_terms.specs.Variables.{Var, prog, logic, bound}
@@ -22,7 +23,7 @@ weight_of_term (sum a b) = 1 + (weight_of_term a + weight_of_term b)
 weight_of_term (difference a b) = 1 + (weight_of_term a + weight_of_term b)
 weight_of_term (appended a b) = 1 + (weight_of_term a + weight_of_term b)
 
--- of a formula; a variable has the bytes of its name alone
+-- of a formula; a variable has the bytes of its name alone, and `0f` and `0g` have none
 abbrev pub weight_of_formula : Named → ℕ
 weight_of_formula truth = 1
 weight_of_formula falsity = 1

@@ -10,7 +10,8 @@ ghost use Rattle.dom_terms.specs.Sorts.{sort_of};
 ghost use Rattle.formula_syntax.specs.Formulas.{formula_of};
 ghost use Rattle.theory_syntax.specs.Judgements.{judgement_of, step_of};
 ghost use Rattle.step_filler.specs.Drafts.{IsReady, WritesPlan};
-ghost use Rattle.step_filler.specs.Offered.{offer_of, offered, given_by};
+ghost use Rattle.step_filler.specs.Offered.{offered};
+ghost use Rattle.step_filler.specs.Given.{offer_of, given_by};
 
 use crate::drafts::{Draft, Stop};
 use crate::fillers::Filler;
@@ -51,7 +52,8 @@ fn has_conjunct(alloc: Global, formula: &Formula, target: &Formula) -> bool
 fn has_conjuncts_of(alloc: Global, left: &Formula, right: &Formula) -> bool
     requires left { parts (formula_of left.now) < 4294967295 }
     requires right { parts (formula_of right.now) < 4294967295 }
-    ensures { result ≡ has_conjuncts_of (nameless (formula_of left.now)) (nameless (formula_of right.now)) }
+    ensures { result
+        ≡ has_conjuncts_of (nameless (formula_of left.now)) (nameless (formula_of right.now)) }
 {
     match right {
         Formula::And(p, q) => has_conjuncts_of(alloc, left, p) && has_conjuncts_of(alloc, left, q),

@@ -1,4 +1,4 @@
-// Steps that are written one behind the other, until there are more than an offer may have.
+// Steps that are written one after the other, until they pass a size of an offer.
 ghost use Rattle.std.specs.Prelude.{◌≡◌, ◌≤◌, IfOk, MatchOption, true, []};
 ghost use Rattle.model_commands.specs.Theories.{by_rule, entails};
 ghost use Rattle.dom_terms.specs.Sorts.{sort_of};
@@ -6,7 +6,7 @@ ghost use Rattle.formula_syntax.specs.Formulas.{formula_of};
 ghost use Rattle.theory_syntax.specs.Judgements.{judgement_of, reason_of};
 ghost use Rattle.step_filler.specs.declared.drafts.Stop.TheVariants.{OutOfMemory};
 ghost use Rattle.step_filler.specs.Drafts.{IsKept, IsPlace, IsReady, WritesOne, drafted, next};
-ghost use Rattle.step_filler.specs.Offered.{are_too_many};
+ghost use Rattle.step_filler.specs.Given.{are_too_many};
 
 use crate::weights::left_by_both;
 use dom_terms::{Numbers, OutOfMemory, Sort, Terms, Text, copies, with};
@@ -22,8 +22,8 @@ const MOST_BYTES: usize = 1_048_576;
 
 /// Why no further step is written.
 #[derive(Clone, Copy, Debug, PartialEq, Eq)]
-pub enum Stop {
-    /// There are as many as an assistant gives.
+pub(crate) enum Stop {
+    /// Those that were written pass a size of an offer.
     Full,
     /// Memory was refused.
     OutOfMemory,
@@ -37,9 +37,9 @@ impl From<OutOfMemory> for Stop {
     }
 }
 
-/// Steps that are written one behind the other until they pass a size of an offer.
-#[derive(Debug, Drop)]
-pub struct Draft {
+/// Steps that are written one after the other until they pass a size of an offer.
+#[derive(Drop)]
+pub(crate) struct Draft {
     /// The number of the first step.
     pub first: u32,
     /// The steps so far.
@@ -88,7 +88,7 @@ fn entailment(
 
 impl Draft {
     /// One without steps, whose first has the number.
-    pub fn new(alloc: Global, first: u32) -> Draft
+    pub(crate) fn new(alloc: Global, first: u32) -> Draft
         requires { first ≤ 4000000000 }
         ensures ready { IsReady result }
         ensures first { next result ≡ first }
@@ -116,7 +116,7 @@ impl Draft {
     }
 
     /// Writes a step that the left formula entails the right one; its number.
-    pub fn write(
+    pub(crate) fn write(
         &mut self,
         alloc: Global,
         rule: &str,
@@ -145,8 +145,8 @@ impl Draft {
         Ok(number)
     }
 
-    /// The steps, when those of a plan were written or there was no room for all of them.
-    pub fn finish(self, written: Result<u32, Stop>) -> Result<Steps, OutOfMemory>
+    /// The steps, once those of a plan were written or there was no room for all of them.
+    pub(crate) fn finish(self, written: Result<u32, Stop>) -> Result<Steps, OutOfMemory>
         ensures { IfOk result (λ steps. (steps ≡ self.steps) × IsKept written) }
     {
         match written {

@@ -7,7 +7,7 @@ ghost use Rattle.assistant_laws.specs.Obvious.{is_obvious_by_conjuncts};
 ghost use Rattle.assistant_laws.specs.Plans.{Plan, steps_of};
 ghost use Rattle.assistant_laws.specs.Proposals.{Proves};
 ghost use Rattle.assistant_laws.specs.ConjunctPlans.{plan_by_conjuncts};
-ghost use Rattle.step_filler.specs.Offered.{given_by, offer_of};
+ghost use Rattle.step_filler.specs.Given.{given_by, offer_of};
 
 use assistant_laws::what_is_obvious_by_conjuncts_is_proved;
 

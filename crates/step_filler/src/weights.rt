@@ -1,4 +1,4 @@
-// How much room is left behind what a step writes.
+// How much of the room is left when the formulas of a step are written.
 ghost use Rattle.std.specs.Prelude.{◌+◌, length};
 ghost use Rattle.dom_terms.specs.Terms.{logic_var_of, term_of};
 ghost use Rattle.formula_syntax.specs.Formulas.{formula_of};
@@ -8,14 +8,14 @@ ghost use Rattle.step_filler.specs.Weights.{weight_of_formula, weight_of_term, w
 use dom_terms::{LogicVar, Term};
 use formula_syntax::Formula;
 
-// Behind the variable.
+// When the variable is.
 fn left_by_variable(variable: &LogicVar, room: usize) -> Option<usize>
     ensures { Leaves room (weight_of_variable (logic_var_of variable.now)) result }
 {
     room.checked_sub(variable.name.len())
 }
 
-// Behind the term.
+// When the term is.
 fn left_by_term(term: &Term, room: usize) -> Option<usize>
     ensures { Leaves room (weight_of_term (term_of term.now)) result }
 {
@@ -30,14 +30,14 @@ fn left_by_term(term: &Term, room: usize) -> Option<usize>
     }
 }
 
-// Behind both terms.
+// When both terms are.
 fn left_by_terms(a: &Term, b: &Term, room: usize) -> Option<usize>
     ensures { Leaves room (weight_of_term (term_of a.now) + weight_of_term (term_of b.now)) result }
 {
     left_by_term(b, left_by_term(a, room)?)
 }
 
-// Behind the formula.
+// When the formula is.
 fn left_by(formula: &Formula, room: usize) -> Option<usize>
     ensures { Leaves room (weight_of_formula (formula_of formula.now)) result }
 {
@@ -67,10 +67,11 @@ fn left_by(formula: &Formula, room: usize) -> Option<usize>
     }
 }
 
-// Behind both formulas.
+/// When both formulas are.
 pub(crate) fn left_by_both(left: &Formula, right: &Formula, room: usize) -> Option<usize>
     ensures { Leaves room
-        (weight_of_formula (formula_of left.now) + weight_of_formula (formula_of right.now)) result }
+        (weight_of_formula (formula_of left.now) + weight_of_formula (formula_of right.now))
+        result }
 {
     left_by(right, left_by(left, room)?)
 }

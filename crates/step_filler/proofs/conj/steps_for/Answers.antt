@@ -8,5 +8,6 @@ pub returns : goal.returns
 returns c = finished-is-given
     (gather (sort_of c.args.asked.now.sort) (formula_of c.args.asked.now.left)
     (formula_of c.args.asked.now.right))
-    c.args.number c.new-draft.result c.gather-written.new.draft c.gather-written.result c.finish.result
+    c.args.number c.new-draft.result c.gather-written.new.draft c.gather-written.result
+    c.finish.result
     c.new-draft.ensures.none c.new-draft.ensures.first c.gather-written.ensures c.finish.ensures
