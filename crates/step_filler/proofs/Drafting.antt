@@ -1,5 +1,5 @@
 -- How the steps of a plan are written one after the other.
-use Rattle.std.proofs.Common.{◌≡◌, ◌∙◌, ℕ, suc, Bool, true, false, cond, List, [], ◌∷◌, ◌++◌, length, map, Result, Ok, Err, IfOk, refl, ap, ap₂, sym, subst, arith, append_assoc, append-nil, length-append}
+use Rattle.std.proofs.Common.{◌≡◌, ◌∙◌, ℕ, suc, List, [], ◌∷◌, ◌++◌, length, map, Result, Ok, Err, IfOk, ap, ap₂, sym, subst, arith, append_assoc, append-nil, length-append}
 use Rattle.std.proofs.lemmas.List.{length-map}
 use Rattle.model_shapes.specs.Values.{Name}
 use Rattle.model_formulas.specs.Formulas.{Named}
@@ -11,8 +11,8 @@ use Rattle.theory_syntax.specs.Judgements.{step_of}
 use Rattle.step_filler.specs.declared.drafts.Draft.{Draft}
 use Rattle.step_filler.specs.declared.drafts.Stop.{Stop}
 use Rattle.step_filler.specs.declared.drafts.Stop.TheVariants as stop
-use Rattle.step_filler.specs.Given.{are_too_many, grown, given_by}
-use Rattle.step_filler.specs.Drafts.{drafted, next, IsReady, Adds, IsKept, Written, step_by, WritesOne, WritesPlan}
+use Rattle.step_filler.specs.Given.{grown, given_by}
+use Rattle.step_filler.specs.Drafts.{drafted, next, Adds, IsKept, Written, step_by, WritesOne, WritesPlan}
 
 -- the next number after a plan
 next-after : (plan : Plan) (a b : Draft) → Adds (steps_of (next a) plan) a b
@@ -30,31 +30,6 @@ next-after plan a b adds =
       size-steps plan (next a),
       size-last plan (next a),
     )
-
--- ONE STEP
-module _ (step : StepOf Named) (n : ℕ) where
-  -- where there are too many steps, it is left out
-  pub one-left_out : (a : Draft) → IsReady a → are_too_many (drafted a) ≡ true
-      → Written (step ∷ []) n a a (Err stop.Full)
-  one-left_out a ready full = (
-    refl,
-    ready,
-    λ more. ap (λ (b : Bool). cond b (drafted a) (grown (drafted a ++ step ∷ []) more)) full,
-  )
-
-  -- else it is added
-  pub one-added : (a b : Draft) → are_too_many (drafted a) ≡ false → b.first ≡ a.first → IsReady b
-      → drafted b ≡ drafted a ++ step ∷ [] → Written (step ∷ []) n a b (Ok n)
-  one-added a b room same ready added = (
-    refl,
-    (
-      same,
-      ready,
-      added,
-      λ more. ap (λ (b : Bool). cond b (drafted a) (grown (drafted a ++ step ∷ []) more)) room
-          ∙ ap (λ (l : List (StepOf Named)). grown l more) (sym added),
-    ),
-  )
 
 -- WHAT IS WRITTEN FIRST, and then more
 module _ (first rest : List (StepOf Named)) (n m : ℕ) where

@@ -1,8 +1,9 @@
-use Rattle.std.proofs.Common.{◌≡◌, ◌∙◌, codes, ap, sym}
+use Rattle.std.proofs.Common.{◌≡◌, ◌∙◌, ap, sym}
 use Rattle.model_formulas.specs.Formulas.{conjunction}
 use Rattle.dom_terms.specs.Sorts.{sort_of}
 use Rattle.formula_syntax.specs.Formulas.{formula_of}
-use Rattle.step_filler.proofs.Reaching.{by-left, by-right, cut-first, cut-second, cut-both}
+use Rattle.step_filler.proofs.Planned.{two-first, two-second, two-all}
+use Rattle.step_filler.proofs.Reaching.{by-left, by-right}
 use Rattle.step_filler.proofs.conj.+reach.Goals as goal
 
 pub returns-in_err-second : goal.returns-in_err-second
@@ -14,8 +15,7 @@ returns-in_err-second t c =
     let right = formula_of c.deref-2.result.now in
     let is : formula ≡ conjunction left right =
     cc (ap formula_of c.in-And.is, c.deref.ensures, c.deref-2.ensures) in
-    cut-second s formula left target (codes "and_left") _
-    (by-left s formula left right target is
+    two-second (by-left s formula left right target is
     (sym c.has_conjunct.ensures ∙ c.if-has_conjunct.true))
     c.args.draft.now c.write-then-has_conjunct.new.self c.reach.new.draft c.in_ok-first.first
     c.in_err-second.field-0.0 c.from_residual-in_err-second.result
@@ -30,8 +30,7 @@ returns-then-has_conjunct t c =
     let right = formula_of c.deref-2.result.now in
     let is : formula ≡ conjunction left right =
     cc (ap formula_of c.in-And.is, c.deref.ensures, c.deref-2.ensures) in
-    cut-both s formula left target (codes "and_left") _
-    (by-left s formula left right target is
+    two-all (by-left s formula left right target is
     (sym c.has_conjunct.ensures ∙ c.if-has_conjunct.true))
     c.args.draft.now c.write-then-has_conjunct.new.self c.reach.new.draft
     c.write-then-has_conjunct-2.new.self c.in_ok-first.first c.in_ok-second.second
@@ -47,8 +46,7 @@ returns-in_err-first-2 t c =
     let right = formula_of c.deref-2.result.now in
     let is : formula ≡ conjunction left right =
     cc (ap formula_of c.in-And.is, c.deref.ensures, c.deref-2.ensures) in
-    cut-first s formula right target (codes "and_right") _
-    (by-right s formula left right target is
+    two-first (by-right s formula left right target is
     (sym c.has_conjunct.ensures ∙ c.if-has_conjunct.false))
     c.args.draft.now c.write-2.new.self c.in_err-first-2.field-0.0
     c.from_residual-in_err-first-2.result c.from_residual-in_err-first-2.ensures.1
@@ -63,8 +61,7 @@ returns-in_err-second-2 t c =
     let right = formula_of c.deref-2.result.now in
     let is : formula ≡ conjunction left right =
     cc (ap formula_of c.in-And.is, c.deref.ensures, c.deref-2.ensures) in
-    cut-second s formula right target (codes "and_right") _
-    (by-right s formula left right target is
+    two-second (by-right s formula left right target is
     (sym c.has_conjunct.ensures ∙ c.if-has_conjunct.false))
     c.args.draft.now c.write-2.new.self c.reach-2.new.draft c.in_ok-first-2.first
     c.in_err-second-2.field-0.0 c.from_residual-in_err-second-2.result
@@ -80,8 +77,7 @@ returns t c =
     let right = formula_of c.deref-2.result.now in
     let is : formula ≡ conjunction left right =
     cc (ap formula_of c.in-And.is, c.deref.ensures, c.deref-2.ensures) in
-    cut-both s formula right target (codes "and_right") _
-    (by-right s formula left right target is
+    two-all (by-right s formula left right target is
     (sym c.has_conjunct.ensures ∙ c.if-has_conjunct.false))
     c.args.draft.now c.write-2.new.self c.reach-2.new.draft c.write-3.new.self
     c.in_ok-first-2.first c.in_ok-second-2.second c.write-3.result c.in_ok-first-2.ensures
