@@ -1,19 +1,12 @@
 -- Steps that are instances over themselves are so after others whose numbers are lower.
-use Rattle.std.proofs.Common.{◌≡◌, ℕ, ◌<◌, ◌≤◌, ◌==◌, Bool, true, false, cond, List, [], ◌∷◌, ◌++◌, Option, Some, None, refl, sym, subst, arith, append_assoc, append-nil, ⊎_elim, ap₂}
+use Rattle.std.proofs.Common.{◌≡◌, ℕ, ◌<◌, ◌≤◌, ◌==◌, Bool, true, false, cond, List, [], ◌∷◌, ◌++◌, Option, Some, None, refl, sym, subst, arith, append_assoc, append-nil, ap₂}
 use Rattle.model_commands.specs.Each.{Each}
 use Rattle.model_commands.specs.Theories.{Judgement, Reason, auto, by_rule, Step, Procedures}
-use Rattle.rule_table.specs.Entries.{Row}
 use Rattle.rule_table.specs.Table.{table}
-use Rattle.rule_table.specs.Verdicts.{Written, IsInstance, readings_in}
+use Rattle.rule_table.specs.Verdicts.{IsInstance, readings_in}
 use Rattle.rule_table.specs.Accepted.{AllInstances, InstanceBy, judgement_numbered, cited, in_front, written_at}
+use Rattle.model_filling.proofs.Premises.{premises-there}
 use Rattle.assistant_laws.proofs.Steps.{Below, below-more, passed, each-append}
-
--- an instance has its premises
-pub premises-there : (rows : List Row) (w : Written) → IsInstance rows w
-    → (js : List Judgement) × (Some js ≡ w.premises)
-premises-there [] w m = absurd m
-premises-there (row ∷ rows) w m =
-    ⊎_elim (λ x. ((row x.0).premises, x.1.0.1)) (λ y. premises-there rows w y) m
 
 -- a number that is found is one of theirs
 found-number : (n k : ℕ) (j : Judgement) (steps : List Step) → Each (λ step. n ≤ step.number) steps

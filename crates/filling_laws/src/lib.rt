@@ -2,29 +2,22 @@
 //! assistant_laws and model_filling.
 #![tactic(auto)]
 
-ghost use Rattle.std.specs.Prelude.{◌≡◌, ◌<◌, ◌≤◌, ℕ, Bool, true, List, None, IfSome};
+ghost use Rattle.std.specs.Prelude.{◌≡◌, ◌<◌, ◌≤◌, ◌+◌, ◌*◌, ℕ, Bool, true, List, None, IfSome};
 ghost use Rattle.std.specs.List.{list_all};
 ghost use Rattle.model_terms.specs.Terms.{Term};
 ghost use Rattle.model_formulas.specs.Formulas.{Named};
 ghost use Rattle.model_files.specs.FileFaults.{step_kind, judgement_sorted};
 ghost use Rattle.model_commands.specs.Each.{Each};
 ghost use Rattle.model_commands.specs.Theories.{JudgementOf, StepOf, ProcedureOf, Theory};
+ghost use Rattle.assistant_laws.specs.Bounds.{parts_of};
 ghost use Rattle.assistant_laws.specs.Plans.{steps_of};
 ghost use Rattle.assistant_laws.specs.ConjunctPlans.{plan_by_conjuncts};
 ghost use Rattle.assistant_laws.specs.FormPlans.{plan_by_form};
 ghost use Rattle.assistant_laws.specs.FillingPlans.{plan_by_filling};
 ghost use Rattle.model_filling.specs.Sizes.{IsSized};
 ghost use Rattle.model_filling.specs.Usable.{IsUsable};
-ghost use Rattle.model_limits.specs.Limits.{standard_limits};
-ghost use Rattle.model_files.specs.FileFaults.{IsWellFormedTheory};
-ghost use Rattle.model_files.specs.FileLimits.{step_count};
-ghost use Rattle.model_grammar.specs.Sorts.{with_sorts};
-ghost use Rattle.model_grammar.specs.TheoryWriting.{theory_lines, theory_text};
-ghost use Rattle.model_round_trip.specs.Writable.{IsWritableTheory};
-ghost use Rattle.model_round_trip.specs.Literals.{LiteralsAreUtf8};
-ghost use Rattle.model_round_trip.specs.ReadBack.{ReadsAs};
-ghost use Rattle.model_filling.specs.Offers.{Voice};
-ghost use Rattle.model_filling.specs.Filled.{IsFilled};
+ghost use Rattle.model_round_trip.specs.Writable.{IsWritableJudgement};
+ghost use Rattle.filling_laws.specs.TextBounds.{judgement_bytes, Nests};
 ghost use Rattle.filling_laws.specs.TermsIn.{terms_of_sides};
 
 /// What an assistant gives for a gap that is well formed in its file is usable, if it is sized.
@@ -66,23 +59,31 @@ pub fn what_is_given_has_no_new_term()
         list_all test (terms_of_sides step.judgement) ≡ true) (steps_of number plan)) }
 {}
 
-/// A well-formed theory has the sorts of its declarations.
-pub fn well_formed_theories_have_their_sorts()
-    ensures { (theory : Theory) → IsWellFormedTheory theory → with_sorts theory ≡ theory }
+/// The text of each of its judgements is at most three times as long as the asked one's and 256
+/// bytes; by form, if the asked one can be written.
+pub fn what_is_given_is_short()
+    ensures conjuncts { (number : ℕ) (j : JudgementOf Named) → IfSome (plan_by_conjuncts j)
+        (λ plan. Each (λ step. judgement_bytes step.judgement ≤ 3 * judgement_bytes j + 256)
+        (steps_of number plan)) }
+    ensures form { (number : ℕ) (j : JudgementOf Named) → IsWritableJudgement j
+        → IfSome (plan_by_form j)
+        (λ plan. Each (λ step. judgement_bytes step.judgement ≤ 3 * judgement_bytes j + 256)
+        (steps_of number plan)) }
+    ensures filling { (number : ℕ) (j : JudgementOf Named) → IfSome (plan_by_filling j)
+        (λ plan. Each (λ step. judgement_bytes step.judgement ≤ 3 * judgement_bytes j + 256)
+        (steps_of number plan)) }
 {}
 
-/// A filled theory can be written where the theory handed in could be, if a number can count its
-/// steps.
-pub fn filled_theories_can_be_written()
-    ensures { (theory : Theory) (voices : List Voice) (t : Theory) → IsFilled theory voices t
-        → IsWellFormedTheory theory → IsWritableTheory theory
-        → step_count t.procedures ≤ standard_limits.numeral → IsWritableTheory t }
-{}
-
-/// So its text reads as it, but for the lines of its steps, if its literals are UTF-8.
-pub fn filled_theories_read_back()
-    ensures { (theory : Theory) (voices : List Voice) (t : Theory) → IsFilled theory voices t
-        → IsWellFormedTheory theory → IsWritableTheory theory
-        → step_count t.procedures ≤ standard_limits.numeral
-        → Each LiteralsAreUtf8 (theory_lines t) → ReadsAs t (theory_text t) }
+/// Where at most so many brackets are open at each token of the asked one, at most that many, one
+/// more for each formula part of its sides, and 8 are open in each of its judgements.
+pub fn what_is_given_nests_little()
+    ensures conjuncts { (number most : ℕ) (j : JudgementOf Named) → Nests most j
+        → IfSome (plan_by_conjuncts j) (λ plan. Each (λ step.
+        Nests (most + (parts_of j + 8)) step.judgement) (steps_of number plan)) }
+    ensures form { (number most : ℕ) (j : JudgementOf Named) → Nests most j
+        → IfSome (plan_by_form j) (λ plan. Each (λ step.
+        Nests (most + (parts_of j + 8)) step.judgement) (steps_of number plan)) }
+    ensures filling { (number most : ℕ) (j : JudgementOf Named) → Nests most j
+        → IfSome (plan_by_filling j) (λ plan. Each (λ step.
+        Nests (most + (parts_of j + 8)) step.judgement) (steps_of number plan)) }
 {}

@@ -8,8 +8,8 @@ use Rattle.rule_table.specs.Table.{table}
 use Rattle.rule_table.specs.Verdicts.{readings_in}
 use Rattle.rule_table.specs.Accepted.{AllInstances, InstanceBy, judgement_numbered, cited, in_front, written_at}
 use Rattle.model_filling.specs.Offers.{IsNumberedFrom}
-use Rattle.assistant_laws.proofs.After.{premises-there}
-use Rattle.filling_laws.proofs.Declared.{each-both}
+use Rattle.model_filling.proofs.Premises.{premises-there}
+use Rattle.filled_theory_laws.proofs.Declared.{each-both}
 
 module _ (most : ℕ) where
   -- what the reason cites isn't greater

@@ -17,8 +17,8 @@ use Rattle.model_grammar.specs.Writing.{value_sort_lexemes, cond_lexemes, behind
 use Rattle.model_grammar.specs.TheoryWriting.{declaration_lexemes, procedure_lines}
 use Rattle.model_grammar.specs.Writable.{IsWritableName, IsWritableCommand, IsWritableBlock, AreWritable}
 use Rattle.model_round_trip.specs.Writable.{IsDeclarable, IsWritableProcedure}
-use Rattle.filling_laws.proofs.Declared.{each-both, each-parts, FitsName, Fits, names-fit}
-use Rattle.filling_laws.proofs.Words.{AreWords}
+use Rattle.filled_theory_laws.proofs.Declared.{each-both, each-parts, FitsName, Fits, names-fit}
+use Rattle.filled_theory_laws.proofs.Words.{AreWords}
 
 module _ (version : ℕ) where
   words-parts : (xs ys : List Lexeme) → AreWords version (xs ++ ys)

@@ -17,8 +17,8 @@ use Rattle.model_commands.specs.CommandParts.{commands_in, commands_of, targets,
 use Rattle.model_commands.specs.Each.{Each}
 use Rattle.model_files.specs.FileFaults.{is_known, is_as_declared}
 use Rattle.model_grammar.specs.Sorts.{Declared, sort_among, logic_sort_among, sort_of_variable, sorted_name, sorted_var, sorted_term, sorted_formula, sorted_cond, sorted_command, sorted_block}
-use Rattle.filling_laws.proofs.Declared.{each-parts}
-use Rattle.filling_laws.proofs.Fine.{AllPass, passes-parts}
+use Rattle.filled_theory_laws.proofs.Declared.{each-parts}
+use Rattle.filled_theory_laws.proofs.Flags.{AllPass, passes-parts}
 
 -- NAMES: a logic variable among declarations of the logic, and a program variable before those
 prog-not-logic : (logics : List Var) → list_all may_bind logics ≡ true → (name : List ℕ)

@@ -23,12 +23,12 @@ use Rattle.model_round_trip.specs.Writable.{IsWord, IsWritableJudgement, IsWrita
 use Rattle.model_text.specs.Versions.{IsOfVersion}
 use Rattle.model_filling.specs.Renumbering.{FilledGap, raised, raised_reason, renumbered}
 use Rattle.model_filling.specs.Sizes.{integers_fit, formula_integers_fit, judgement_integers_fit, step_integers_fit}
-use Rattle.filling_laws.proofs.Declared.{each-both, each-parts, all-fit, FitsName, Fits}
-use Rattle.filling_laws.proofs.WritableFormulas.{IsFitTerm, one_sort-stand, term-writable, formula-writable, judged-form, form-shape}
-use Rattle.filling_laws.proofs.WritableCommands.{IsFitAlone, command-writable}
-use Rattle.filling_laws.proofs.Words.{AreWords, formula-words, command-words, arguments-words, reason-words, entails-words, triple-words}
-use Rattle.filling_laws.proofs.RuleWords.{rule-is-word}
-use Rattle.filling_laws.proofs.Usable.{all-flags}
+use Rattle.filled_theory_laws.proofs.Declared.{each-both, each-parts, all-fit, FitsName, Fits}
+use Rattle.filled_theory_laws.proofs.WritableFormulas.{IsFitTerm, one_sort-stand, term-writable, formula-writable, judged-form, form-shape}
+use Rattle.filled_theory_laws.proofs.WritableCommands.{IsFitAlone, command-writable}
+use Rattle.filled_theory_laws.proofs.Words.{AreWords, formula-words, command-words, arguments-words, reason-words, entails-words, triple-words}
+use Rattle.filled_theory_laws.proofs.RuleWords.{rule-is-word}
+use Rattle.filled_theory_laws.proofs.Flags.{all-flags}
 
 module _ (version : ℕ) where
   terms-fit : (es : List Term) → Each (Fits version) (flat_map variables_of_term es)

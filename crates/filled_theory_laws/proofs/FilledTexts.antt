@@ -20,12 +20,12 @@ use Rattle.model_filling.specs.Filled.{WalkAll, IsFilled, with_proof, all_filled
 use Rattle.model_filling.proofs.WalkEach.{walk-each}
 use Rattle.model_filling.proofs.Walks.{walk-proved}
 use Rattle.model_filling.proofs.WellFormed.{proof-numbered}
-use Rattle.filling_laws.proofs.Declared.{each-both, each-parts, FitsName}
-use Rattle.filling_laws.proofs.WritableCommands.{found-name}
-use Rattle.filling_laws.proofs.Words.{AreWords}
-use Rattle.filling_laws.proofs.ScopesFit.{IsReadable, own-name-fits, scope-fits}
-use Rattle.filling_laws.proofs.FitSteps.{IsWritableBy, IsWritableBut, IsReadableStep, step-kept, step-writable}
-use Rattle.filling_laws.proofs.Citations.{CitesLow, numbered-low, steps-low}
+use Rattle.filled_theory_laws.proofs.Declared.{each-both, each-parts, FitsName}
+use Rattle.filled_theory_laws.proofs.WritableCommands.{found-name}
+use Rattle.filled_theory_laws.proofs.Words.{AreWords}
+use Rattle.filled_theory_laws.proofs.ScopesFit.{IsReadable, own-name-fits, scope-fits}
+use Rattle.filled_theory_laws.proofs.FitSteps.{IsWritableBy, IsWritableBut, IsReadableStep, step-kept, step-writable}
+use Rattle.filled_theory_laws.proofs.Citations.{CitesLow, numbered-low, steps-low}
 
 -- A STEP with its number and what it cites
 module _ (version : ℕ) where

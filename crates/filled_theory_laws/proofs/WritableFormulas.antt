@@ -19,8 +19,8 @@ use Rattle.model_grammar.specs.Terms.{in_formula, in_command}
 use Rattle.model_grammar.specs.Writable.{IsLogic, IsLogicTerm, IsWritableTerm, IsWritable}
 use Rattle.model_round_trip.specs.Writable.{IsShapeSort}
 use Rattle.model_filling.specs.Sizes.{integers_fit, formula_integers_fit}
-use Rattle.filling_laws.proofs.Declared.{either_true, each-parts, Fits}
-use Rattle.filling_laws.proofs.Fine.{AllPass, passes-parts}
+use Rattle.filled_theory_laws.proofs.Declared.{either_true, each-parts, Fits}
+use Rattle.filled_theory_laws.proofs.Flags.{AllPass, passes-parts}
 
 -- TERMS: no number of a node or a list stands in the term
 abbrev pub Stands : Term → Type 0

@@ -18,9 +18,9 @@ use Rattle.model_grammar.specs.Words.{the, ◌⌢◌}
 use Rattle.model_grammar.specs.Writing.{name_lexemes, var_lexemes, term_lexemes, bracketed, cond_lexemes, value_sort_lexemes, behind_commas, listed, in_brackets, command_lexemes, block_lexemes, further_commands}
 use Rattle.model_grammar.specs.TheoryWriting.{empty_sign, hole_sign, star_sign, at_sign, into_sign, formula_lexemes, data_sort_lexemes, sort_lexemes, number_lexemes, argument_lexemes, word_lexemes, reason_lexemes, judgement_lexemes}
 use Rattle.model_round_trip.proofs.Versions.{one_by_one, rule_of_version}
-use Rattle.filling_laws.proofs.Declared.{each-both, each-parts, FitsName, Fits}
-use Rattle.filling_laws.proofs.WritableFormulas.{IsFitTerm}
-use Rattle.filling_laws.proofs.WritableCommands.{IsFitAlone}
+use Rattle.filled_theory_laws.proofs.Declared.{each-both, each-parts, FitsName, Fits}
+use Rattle.filled_theory_laws.proofs.WritableFormulas.{IsFitTerm}
+use Rattle.filled_theory_laws.proofs.WritableCommands.{IsFitAlone}
 
 module _ (version : ℕ) where
   abbrev pub AreWords : List Lexeme → Type 0

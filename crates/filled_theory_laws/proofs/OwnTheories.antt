@@ -11,9 +11,9 @@ use Rattle.model_commands.specs.Theories.{JudgementOf, entails, triple, Reason, 
 use Rattle.model_files.specs.FileFaults.{unknown_kind, sort_kind, is_known, is_as_declared, scope_of, declared_by, judgement_sorted, is_judged_at, declarations, header, head_kind, proof_step, step_kind, steps_from, procedures_from, first_fault_at, IsWellFormedTheory}
 use Rattle.model_files.proofs.Places.{passes-each, first-none, both-none}
 use Rattle.model_grammar.specs.Sorts.{Declared, sorted_reason, sorted_judgement, sorted_step, declared_in, sorted_procedure, with_sorts}
-use Rattle.filling_laws.proofs.Declared.{each-parts}
-use Rattle.filling_laws.proofs.OwnSorts.{Again, vars-again, formula-again, terms-again, all-again, command-again}
-use Rattle.filling_laws.proofs.Usable.{all-flags}
+use Rattle.filled_theory_laws.proofs.Declared.{each-parts}
+use Rattle.filled_theory_laws.proofs.OwnSorts.{Again, vars-again, formula-again, terms-again, all-again, command-again}
+use Rattle.filled_theory_laws.proofs.Flags.{all-flags}
 
 module _ (theory : Theory) (bind : list_all may_bind theory.logic ≡ true)
     (f : ProcedureOf Named) where

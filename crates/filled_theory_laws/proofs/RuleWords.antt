@@ -9,7 +9,7 @@ use Rattle.model_text.specs.Lexemes.{Lexeme, terminal, name_lexeme, word_lexeme}
 use Rattle.model_text.specs.Nesting.{lexemes_of}
 use Rattle.model_text.proofs.Computing.{lexing}
 use Rattle.model_round_trip.specs.Writable.{IsWord}
-use Rattle.filling_laws.proofs.Declared.{either_true}
+use Rattle.filled_theory_laws.proofs.Declared.{either_true}
 
 -- the lexemes are this one alone
 abbrev is_only : Lexeme → List Lexeme → Bool

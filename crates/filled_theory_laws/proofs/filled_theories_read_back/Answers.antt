@@ -1,8 +1,8 @@
 use Rattle.model_filling.proofs.WellFormed.{filled-formed}
 use Rattle.model_round_trip.proofs.Laws.{theory_reads}
-use Rattle.filling_laws.proofs.FilledTexts.{filled-writable}
-use Rattle.filling_laws.proofs.OwnTheories.{theory-again}
-use Rattle.filling_laws.proofs.filled_theories_read_back.Goals as goal
+use Rattle.filled_theory_laws.proofs.FilledTexts.{filled-writable}
+use Rattle.filled_theory_laws.proofs.OwnTheories.{theory-again}
+use Rattle.filled_theory_laws.proofs.filled_theories_read_back.Goals as goal
 
 pub returns : goal.returns
 returns c theory voices t is formed writable le utf8 =

@@ -17,8 +17,8 @@ use Rattle.model_commands.specs.Theories.{Procedure, ProcedureOf, Procedures, pr
 use Rattle.model_files.specs.FileFaults.{is_of_version}
 use Rattle.model_grammar.specs.Terms.{in_command}
 use Rattle.model_grammar.specs.Writable.{IsWritableName, IsWritableTerm, IsWritableCondition, IsWritableCommand, IsWritableBlock, AreWritable}
-use Rattle.filling_laws.proofs.Declared.{either_true, each-parts, FitsName, Fits}
-use Rattle.filling_laws.proofs.WritableFormulas.{sorted-stands, IsFitTerm, term-writable, plain-writable}
+use Rattle.filled_theory_laws.proofs.Declared.{either_true, each-parts, FitsName, Fits}
+use Rattle.filled_theory_laws.proofs.WritableFormulas.{sorted-stands, IsFitTerm, term-writable, plain-writable}
 
 -- a procedure that is found has one of the names
 pub found-name : (P : List ℕ → Type 0) (fs : List (ProcedureOf Named)) → Each (λ f. P f.name) fs

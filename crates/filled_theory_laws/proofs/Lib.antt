@@ -1,0 +1,12 @@
+pub mod Flags
+pub mod Declared
+pub mod WritableFormulas
+pub mod WritableCommands
+pub mod RuleWords
+pub mod Words
+pub mod ScopesFit
+pub mod FitSteps
+pub mod Citations
+pub mod FilledTexts
+pub mod OwnSorts
+pub mod OwnTheories

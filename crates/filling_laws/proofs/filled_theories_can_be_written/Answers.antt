@@ -1,5 +1,0 @@
-use Rattle.filling_laws.proofs.FilledTexts.{filled-writable}
-use Rattle.filling_laws.proofs.filled_theories_can_be_written.Goals as goal
-
-pub returns : goal.returns
-returns c = filled-writable

@@ -1,5 +1,0 @@
-use Rattle.filling_laws.proofs.OwnTheories.{theory-again}
-use Rattle.filling_laws.proofs.well_formed_theories_have_their_sorts.Goals as goal
-
-pub returns : goal.returns
-returns c = theory-again
