@@ -29,7 +29,7 @@ fn is_same(alloc: Global, left: &Formula, right: &Formula) -> bool
 {
     match same_formula(alloc, left, right) {
         Ok(same) => same,
-        Err(OutOfMemory) => false,
+        Err(_) => unreachable!(),
     }
 }
 

@@ -1,4 +1,5 @@
-// How much of the room is left when the formulas of a step are written.
+// How many bytes of a room are left when the formulas of a step are written: none where the room is
+// too little. What is counted is less than what is written, and needs no text.
 ghost use Rattle.std.specs.Prelude.{◌+◌, length};
 ghost use Rattle.dom_terms.specs.Terms.{logic_var_of, term_of};
 ghost use Rattle.formula_syntax.specs.Formulas.{formula_of};
@@ -8,14 +9,14 @@ ghost use Rattle.step_filler.specs.Weights.{weight_of_formula, weight_of_term, w
 use dom_terms::{LogicVar, Term};
 use formula_syntax::Formula;
 
-// When the variable is.
+// Those left by the variable.
 fn left_by_variable(variable: &LogicVar, room: usize) -> Option<usize>
     ensures { Leaves room (weight_of_variable (logic_var_of variable.now)) result }
 {
     room.checked_sub(variable.name.len())
 }
 
-// When the term is.
+// Those left by the term.
 fn left_by_term(term: &Term, room: usize) -> Option<usize>
     ensures { Leaves room (weight_of_term (term_of term.now)) result }
 {
@@ -30,14 +31,14 @@ fn left_by_term(term: &Term, room: usize) -> Option<usize>
     }
 }
 
-// When both terms are.
+// Those left by both terms.
 fn left_by_terms(a: &Term, b: &Term, room: usize) -> Option<usize>
     ensures { Leaves room (weight_of_term (term_of a.now) + weight_of_term (term_of b.now)) result }
 {
     left_by_term(b, left_by_term(a, room)?)
 }
 
-// When the formula is.
+// Those left by the formula.
 fn left_by(formula: &Formula, room: usize) -> Option<usize>
     ensures { Leaves room (weight_of_formula (formula_of formula.now)) result }
 {
@@ -67,7 +68,7 @@ fn left_by(formula: &Formula, room: usize) -> Option<usize>
     }
 }
 
-/// When both formulas are.
+/// The bytes left by both formulas, if the room suffices.
 pub(crate) fn left_by_both(left: &Formula, right: &Formula, room: usize) -> Option<usize>
     ensures { Leaves room
         (weight_of_formula (formula_of left.now) + weight_of_formula (formula_of right.now))
