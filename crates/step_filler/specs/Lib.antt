@@ -1,0 +1,4 @@
+pub mod Weights
+pub mod Offered
+pub mod Given
+pub mod Drafts

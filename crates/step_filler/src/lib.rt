@@ -1,0 +1,14 @@
+//! Fillers, and the assistants: what each offers for a gap.
+//! Promises that an assistant gives steps exactly where the judgement is obvious in its kind, and
+//! which. Stands on the steps of the program.
+#![tactic(auto)]
+
+mod conj;
+mod drafts;
+mod fillers;
+mod laws;
+mod weights;
+
+pub use conj::Conj;
+pub use fillers::Filler;
+pub use laws::{what_has_the_sizes_is_whole, what_is_obvious_by_conjuncts_is_offered};
