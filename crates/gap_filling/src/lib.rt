@@ -5,6 +5,7 @@
 #![tactic(auto)]
 
 mod limits;
+mod meters;
 mod renumbering;
 
 pub use limits::filled_limit;
