@@ -1,2 +1,4 @@
+mod Marks
+mod Measures
 mod Sums
 mod Tokens

@@ -18,6 +18,7 @@ module _ (m : Meter) (name : List ℕ) where
 
   stays : (l : Lexeme) → printed l ≡ name → open_behind m.brackets l ≡ m.brackets
       → (text_within l && number_fits l) ≡ true → Room ≡ measured m (l ∷ [])
+  unfolding after
   stays l p o t = rw (p, o, t) refl
 
   reserved : bytes_eq name (codes "step") ≡ false → is_reserved name ≡ true

@@ -1,2 +1,3 @@
 pub mod Renumbered
 pub mod Measured
+pub mod Numbers

@@ -22,7 +22,7 @@ spent meter bytes brackets may =
     (record { bytes = meter.bytes; brackets = meter.brackets; fits = false })
 
 -- after a lexeme
-abbrev pub after : Meter → Lexeme → Meter
+unfoldable pub after : Meter → Lexeme → Meter
 after meter lexeme =
     spent meter (length (printed lexeme)) (open_behind meter.brackets lexeme)
     (text_within lexeme && number_fits lexeme)

@@ -4,9 +4,15 @@
 //! Stands on the kernel of proofs, on the writer of theories and on the definitions of filling.
 #![tactic(auto)]
 
+mod commands;
+mod conditions;
+mod formulas;
+mod items;
 mod limits;
 mod meters;
 mod renumbering;
+mod steps;
+mod terms;
 
 pub use limits::filled_limit;
 pub use renumbering::{FilledGap, renumbered};

@@ -91,6 +91,7 @@ impl Meter {
     }
 
     /// Takes the room for a symbol or a reserved word of the grammar.
+    #[tactic(auto, unfolding(crate::specs::Measured::after))]
     pub(crate) fn token(&mut self, token: &str)
         ensures { self.new ≡ measured self.old (terminal token.now ∷ []) }
     {
@@ -98,6 +99,7 @@ impl Meter {
     }
 
     /// Takes the room for a name.
+    #[tactic(auto, unfolding(crate::specs::Measured::after))]
     pub(crate) fn name(&mut self, name: &str)
         ensures plain { self.new ≡ measured self.old (name_lexeme name.now ∷ []) }
         ensures logic { self.new ≡ measured self.old (logic_lexeme name.now ∷ []) }
@@ -114,6 +116,7 @@ impl Meter {
     }
 
     /// Takes the room for the word `step`, on whatever line.
+    #[tactic(auto, unfolding(crate::specs::Measured::after))]
     pub(crate) fn step(&mut self)
         ensures { (line : ℕ) → self.new ≡ measured self.old (step_word line ∷ []) }
     {
@@ -121,6 +124,7 @@ impl Meter {
     }
 
     /// Takes the room for a number.
+    #[tactic(auto, unfolding(crate::specs::Measured::after))]
     pub(crate) fn numeral(&mut self, number: u64)
         ensures { self.new ≡ measured self.old (number_lexeme number ∷ []) }
     {
@@ -132,6 +136,7 @@ impl Meter {
     }
 
     /// Takes the room for a literal.
+    #[tactic(auto, unfolding(crate::specs::Measured::after))]
     pub(crate) fn literal(&mut self, text: &Text)
         ensures { self.new ≡ measured self.old (literal_lexeme text.now ∷ []) }
     {

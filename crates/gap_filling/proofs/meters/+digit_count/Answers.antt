@@ -9,9 +9,13 @@ returns-then-number-lt10 t c =
 
 pub overflow_add-result : goal.overflow_add-result
 overflow_add-result t c =
-    omega (arith, c.digit_count.ensures, c.ranges.number,
-    length-decimal-le 20 (c.args.number / 10) (omega arith) (omega (arith, c.ranges.number))
-    (omega (arith, c.ranges.number)))
+    omega (
+      arith,
+      c.digit_count.ensures,
+      c.ranges.number,
+      length-decimal-le 20 (c.args.number / 10) (omega arith) (omega (arith, c.ranges.number))
+          (omega (arith, c.ranges.number)),
+    )
 
 pub returns : goal.returns
 returns t c =
