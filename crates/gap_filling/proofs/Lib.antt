@@ -1,4 +1,5 @@
 mod Marks
 mod Measures
+mod StepRooms
 mod Sums
 mod Tokens

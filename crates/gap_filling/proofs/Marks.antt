@@ -1,5 +1,6 @@
 -- The room for parts of which each stands behind a mark: lists in brackets and blocks.
-use Rattle.std.proofs.Common.{◌≡◌, ◌∙◌, ℕ, ◌+◌, ◌<◌, ◌≤◌, List, [], ◌∷◌, ◌++◌, length, get_or, drop, map, codes, refl, sym, ap, append_assoc}
+use Rattle.std.proofs.Common.{◌≡◌, ◌∙◌, ℕ, ◌+◌, ◌<◌, ◌≤◌, List, [], ◌∷◌, ◌++◌, length, get_or, drop, map, codes, refl, sym, ap, append_assoc, add-one}
+use Rattle.std.proofs.Math.Seq.{drop-cons}
 use Rattle.std.proofs.lemmas.List.{drop_all}
 use Rattle.model_commands.specs.Commands as commands
 use Rattle.dom_terms.specs.declared.terms.ProgVar.{ProgVar}
@@ -8,7 +9,6 @@ use Rattle.dom_terms.specs.Terms.{prog_var_of, term_of}
 use Rattle.model_text.specs.Lexemes.{Lexeme, terminal, name_lexeme}
 use Rattle.model_grammar.specs.Words.{the, ◌⌢◌}
 use Rattle.model_grammar.specs.Writing.{name_lexemes, term_lexemes, in_brackets, command_lexemes, block_lexemes, further_commands}
-use Rattle.logic_text.proofs.ListLemmas.{drop_item}
 use Rattle.theory_syntax.specs.declared.commands.Command.{Command}
 use Rattle.theory_syntax.specs.Commands.{block_of}
 use Rattle.theory_writing.specs.Marked.{marked}
@@ -17,17 +17,25 @@ use Rattle.gap_filling.specs.declared.meters.Meter.{Meter}
 use Rattle.gap_filling.specs.Measured.{after, measured}
 use Rattle.gap_filling.proofs.Measures.{measured-append, measured_rules}
 
+-- the item of this turn of a loop and those of the later ones
+pub drop_at : {T : Type 0} (items : List T) (i : ℕ) (other item : T) → i < length items
+    → item ≡ get_or items i other → drop i items ≡ item ∷ drop (i + 1) items
+drop_at {T} items i other item lt is =
+    drop-cons items i other lt
+    ∙ ap (λ (k : ℕ). get_or items i other ∷ drop k items) (sym (add-one i))
+    ∙ ap (λ (z : T). z ∷ drop (i + 1) items) (sym is)
+
 -- a turn of a loop
 pub goes_on : {T : Type 0} (f : T → List Lexeme) (mark next : List ℕ) (items : List T) (i : ℕ)
-    (item : T) (meter whole : Meter) → i < length items → item ≡ get_or items i item
+    (other item : T) (meter whole : Meter) → i < length items → item ≡ get_or items i other
     → measured meter (marked mark next (map f (drop i items))) ≡ whole
     → measured (measured (measured meter (terminal mark ∷ [])) (f item))
     (marked next next (map f (drop (i + 1) items))) ≡ whole
-goes_on {T} f mark next items i item meter whole lt is so_far =
+goes_on {T} f mark next items i other item meter whole lt is so_far =
     sym (measured-append (after meter (terminal mark)) (f item)
     (marked next next (map f (drop (i + 1) items))))
     ∙ (sym (ap (λ (z : List T). measured meter (marked mark next (map f z)))
-    (drop_item items i item lt is)) ∙ so_far)
+    (drop_at items i other item lt is)) ∙ so_far)
 
 -- the end of the loop
 pub ends : {T : Type 0} (f : T → List Lexeme) (mark next : List ℕ) (items : List T) (i : ℕ)

@@ -53,12 +53,10 @@ fn measure_sort(meter: &mut Meter, sort: Sort)
     }
 }
 
-// Takes the room for numbers that are cited, each behind a mark; each has 32 bits, so it is in the
-// range of a literal.
+// Takes the room for numbers that are cited, each behind a mark.
 fn measure_marked_numbers(meter: &mut Meter, numbers: &[u32])
-    ensures room { meter.new ≡ measured meter.old
+    ensures { meter.new ≡ measured meter.old
         (marked (codes "(") (codes ",") (map number_lexemes numbers.now)) }
-    ensures small { citations_fit numbers.now ≡ true }
 {
     let mut mark = "(";
     for number in numbers {
@@ -68,7 +66,8 @@ fn measure_marked_numbers(meter: &mut Meter, numbers: &[u32])
     }
 }
 
-// Takes the room for numbers that are cited, in brackets.
+// Takes the room for numbers that are cited, in brackets. Each has 32 bits, so it is in the range of
+// a literal.
 fn measure_numbers(meter: &mut Meter, numbers: &[u32])
     ensures room { meter.new ≡ measured meter.old (in_brackets (map number_lexemes numbers.now)) }
     ensures small { citations_fit numbers.now ≡ true }

@@ -16,6 +16,7 @@ measure_block-loop-command-preserved t c = (
   rw (c.measure_command.ensures, c.token-in-loop-command.ensures)
       (goes_on lexemes_of_command c.loop-command.mark.now (codes ";")
       c.as_slice-command-items.result.now c.loop-command.command-index c.command-item.result
+      c.command-item.result
       c.loop-command.meter _
       c.loop-command-test.true c.command-item.is c.loop-command.invariant.0),
   search rules,

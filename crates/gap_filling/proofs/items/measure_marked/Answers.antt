@@ -6,7 +6,8 @@ pub loop-item-preserved : goal.loop-item-preserved
 loop-item-preserved g c = (
   rw (c.measure.ensures, c.token.ensures)
       (goes_on g.T.Item.lexemes c.loop-item.mark.now (codes ",") c.args.items.now
-      c.loop-item.item-index c.item-item.result c.loop-item.meter _
+      c.loop-item.item-index c.item-item.result c.item-item.result
+      c.loop-item.meter _
       c.loop-item-test.true c.item-item.is c.loop-item.invariant.0),
   search rules,
 )
