@@ -1,5 +1,9 @@
+mod Fitting
+mod Integers
 mod Marks
 mod Measures
+mod Sized
+mod SmallParts
 mod StepRooms
 mod Sums
 mod Tokens

@@ -11,6 +11,7 @@ mod items;
 mod limits;
 mod meters;
 mod renumbering;
+mod sizes;
 mod steps;
 mod terms;
 
