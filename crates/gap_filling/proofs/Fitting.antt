@@ -64,8 +64,7 @@ fitting [] m e = (e, omega arith, refl, refl)
 fitting (l ∷ ls) m e =
     let h = fitting ls (after m l) e in
     let p = passed m l h.0 in
-    let k : Fitting (Left m l) ls = subst (λ z. Fitting z ls) (after-fits m l p) h in
-    (
+    let k : Fitting (Left m l) ls = subst (λ z. Fitting z ls) (after-fits m l p) h in (
       p.so_far,
       omega (arith, longer l ls, k.1, leb-true (length (printed l) + 1) m.bytes p.bytes),
       rw (p.brackets, p.text) k.2,

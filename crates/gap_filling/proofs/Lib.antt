@@ -1,4 +1,6 @@
 mod Fitting
+mod Formed
+mod GoodSteps
 mod Integers
 mod Marks
 mod Measures

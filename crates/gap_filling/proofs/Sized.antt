@@ -22,27 +22,27 @@ abbrev pub room : Meter
 room = record { bytes = 1048577; brackets = 0; fits = true }
 
 module _ (version : ℕ) (steps : List (StepOf Named)) (numbers : list_all numbers_fit steps ≡ true)
-    where
-  pub is-sized : 1 ≤ length steps → length steps ≤ 10000
-      → (measured room (offer_lexemes version steps)).fits ≡ true → IsSized version steps
-  is-sized some few e =
-      let h = fitting (offer_lexemes version steps) room e in record {
-        some = some;
-        few = few;
-        short = text-shorter (offer_lexemes version steps) 1048576 h.1;
-        shallow = h.2;
-        integers = sym (fit-offer version steps numbers) ∙ h.3;
-      }
+  where
+    pub is-sized : 1 ≤ length steps → length steps ≤ 10000
+        → (measured room (offer_lexemes version steps)).fits ≡ true → IsSized version steps
+    is-sized some few e =
+        let h = fitting (offer_lexemes version steps) room e in record {
+          some = some;
+          few = few;
+          short = text-shorter (offer_lexemes version steps) 1048576 h.1;
+          shallow = h.2;
+          integers = sym (fit-offer version steps numbers) ∙ h.3;
+        }
 
-  pub sized-fits : IsSized version steps
-      → (measured room (offer_lexemes version steps)).fits ≡ true
-  sized-fits s =
-      fits (offer_lexemes version steps) room (
-        refl,
-        spaced-longer (offer_lexemes version steps) 1048576 s.short,
-        s.shallow,
-        fit-offer version steps numbers ∙ s.integers,
-      )
+    pub sized-fits : IsSized version steps
+        → (measured room (offer_lexemes version steps)).fits ≡ true
+    sized-fits s =
+        fits (offer_lexemes version steps) room (
+          refl,
+          spaced-longer (offer_lexemes version steps) 1048576 s.short,
+          s.shallow,
+          fit-offer version steps numbers ∙ s.integers,
+        )
 
 -- and then their formulas are small
 pub sized-small : (version : ℕ) (steps : List (StepOf Named))

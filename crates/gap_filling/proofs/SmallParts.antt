@@ -25,8 +25,13 @@ last-one a v = omega (arith, length-append a (terminal v ∷ []))
 two : (a s b : List Lexeme) → size s ≡ 1
     → size a + size b + 3 ≤ size (bracketed a s b)
 two a s b e =
-    omega (arith, e, length-append a (s ++ (b ++ terminal (codes ")") ∷ [])),
-    length-append s (b ++ terminal (codes ")") ∷ []), length-append b (terminal (codes ")") ∷ []))
+    omega (
+      arith,
+      e,
+      length-append a (s ++ (b ++ terminal (codes ")") ∷ [])),
+      length-append s (b ++ terminal (codes ")") ∷ []),
+      length-append b (terminal (codes ")") ∷ []),
+    )
 
 later : (a b : List Lexeme) → size b ≤ size (a ++ b)
 later a b = omega (arith, length-append a b)
@@ -64,21 +69,32 @@ written-parts (implication p q) =
 written-parts (negation p) =
     omega (arith, written-parts p, last-one (formula_lexemes p) (codes ")"))
 written-parts (existential x p) =
-    omega (arith, written-parts p, last-one (formula_lexemes p) (codes ")"),
-    later (var_lexemes x) (the "." ⌢ formula_lexemes p ⌢ the ")"))
+    omega (
+      arith,
+      written-parts p,
+      last-one (formula_lexemes p) (codes ")"),
+      later (var_lexemes x) (the "." ⌢ formula_lexemes p ⌢ the ")"),
+    )
 written-parts (universal x p) =
-    omega (arith, written-parts p, last-one (formula_lexemes p) (codes ")"),
-    later (var_lexemes x) (the "." ⌢ formula_lexemes p ⌢ the ")"))
+    omega (
+      arith,
+      written-parts p,
+      last-one (formula_lexemes p) (codes ")"),
+      later (var_lexemes x) (the "." ⌢ formula_lexemes p ⌢ the ")"),
+    )
 written-parts (equality a b) = omega arith
 written-parts (at_most a b) = omega arith
 written-parts (empty k) = omega arith
 written-parts (bare_hole k) = omega arith
 written-parts (node_formula a b p c) =
-    omega (arith, written-parts p,
-    one (formula_lexemes p) (the "]" ⌢ the "%" ⌢ term_lexemes c),
-    later (term_lexemes b) (the "[" ⌢ formula_lexemes p ⌢ the "]" ⌢ the "%" ⌢ term_lexemes c),
-    later (term_lexemes a) (the "#" ⌢ term_lexemes b ⌢ the "[" ⌢ formula_lexemes p ⌢ the "]"
-    ⌢ the "%" ⌢ term_lexemes c))
+    omega (
+      arith,
+      written-parts p,
+      one (formula_lexemes p) (the "]" ⌢ the "%" ⌢ term_lexemes c),
+      later (term_lexemes b) (the "[" ⌢ formula_lexemes p ⌢ the "]" ⌢ the "%" ⌢ term_lexemes c),
+      later (term_lexemes a) (the "#" ⌢ term_lexemes b ⌢ the "[" ⌢ formula_lexemes p ⌢ the "]"
+          ⌢ the "%" ⌢ term_lexemes c),
+    )
 written-parts (one_tree p) =
     omega (arith, written-parts p, last-one (formula_lexemes p) (codes ">"))
 written-parts (one_root p) =
@@ -102,37 +118,64 @@ written-parts (value_meets s a p) =
 small-judgement : (j : JudgementOf Named) → size (judgement_lexemes j) ≤ 4294967290
     → JudgementIsSmall j
 small-judgement (entails p q s) h = (
-  omega (arith, h, written-parts p,
-  one (formula_lexemes p) (the "entails" ⌢ formula_lexemes q ⌢ the "at" ⌢ sort_lexemes s)),
-  omega (arith, h, written-parts q,
-  one (formula_lexemes q) (the "at" ⌢ sort_lexemes s),
-  later (formula_lexemes p) (the "entails" ⌢ formula_lexemes q ⌢ the "at" ⌢ sort_lexemes s)),
+  omega (
+    arith,
+    h,
+    written-parts p,
+    one (formula_lexemes p) (the "entails" ⌢ formula_lexemes q ⌢ the "at" ⌢ sort_lexemes s),
+  ),
+  omega (
+    arith,
+    h,
+    written-parts q,
+    one (formula_lexemes q) (the "at" ⌢ sort_lexemes s),
+    later (formula_lexemes p) (the "entails" ⌢ formula_lexemes q ⌢ the "at" ⌢ sort_lexemes s),
+  ),
 )
 small-judgement (triple p c q k) h = (
-  omega (arith, h, written-parts p, one (formula_lexemes p) (the "do" ⌢ command_lexemes c
-  ⌢ the "post" ⌢ formula_lexemes q ⌢ the "at" ⌢ data_sort_lexemes k)),
-  omega (arith, h, written-parts q, one (formula_lexemes q) (the "at" ⌢ data_sort_lexemes k),
-  later (command_lexemes c) (the "post" ⌢ formula_lexemes q ⌢ the "at" ⌢ data_sort_lexemes k),
-  later (formula_lexemes p) (the "do" ⌢ command_lexemes c ⌢ the "post" ⌢ formula_lexemes q
-  ⌢ the "at" ⌢ data_sort_lexemes k)),
+  omega (
+    arith,
+    h,
+    written-parts p,
+    one (formula_lexemes p) (the "do" ⌢ command_lexemes c
+        ⌢ the "post" ⌢ formula_lexemes q ⌢ the "at" ⌢ data_sort_lexemes k),
+  ),
+  omega (
+    arith,
+    h,
+    written-parts q,
+    one (formula_lexemes q) (the "at" ⌢ data_sort_lexemes k),
+    later (command_lexemes c) (the "post" ⌢ formula_lexemes q ⌢ the "at" ⌢ data_sort_lexemes k),
+    later (formula_lexemes p) (the "do" ⌢ command_lexemes c ⌢ the "post" ⌢ formula_lexemes q
+        ⌢ the "at" ⌢ data_sort_lexemes k),
+  ),
 )
 
 small-step : (version : ℕ) (step : StepOf Named) → size (step_line version step) ≤ 4294967290
     → JudgementIsSmall step.judgement
 small-step version step h =
-    small-judgement step.judgement (omega (arith, h,
-    one (judgement_lexemes step.judgement) (the ";"),
-    later (reason_lexemes version step.reason) (the ":" ⌢ judgement_lexemes step.judgement
-    ⌢ the ";")))
+    small-judgement step.judgement (omega (
+      arith,
+      h,
+      one (judgement_lexemes step.judgement) (the ";"),
+      later (reason_lexemes version step.reason) (the ":" ⌢ judgement_lexemes step.judgement
+          ⌢ the ";"),
+    ))
 
 small-steps : (version : ℕ) (steps : List (StepOf Named))
     → size (offer_lexemes version steps) ≤ 4294967290 → StepsAreSmall steps
 small-steps version [] h = tt
 small-steps version (step ∷ steps) h = (
-  small-step version step (omega (arith, h,
-  one (step_line version step) (offer_lexemes version steps))),
-  small-steps version steps (omega (arith, h,
-  later (step_line version step) (offer_lexemes version steps))),
+  small-step version step (omega (
+    arith,
+    h,
+    one (step_line version step) (offer_lexemes version steps),
+  )),
+  small-steps version steps (omega (
+    arith,
+    h,
+    later (step_line version step) (offer_lexemes version steps),
+  )),
 )
 
 -- no fewer bytes are written for them

@@ -8,12 +8,15 @@ mod commands;
 mod conditions;
 mod formulas;
 mod items;
+mod judgements;
 mod limits;
 mod meters;
 mod renumbering;
 mod sizes;
 mod steps;
 mod terms;
+mod usable;
 
 pub use limits::filled_limit;
 pub use renumbering::{FilledGap, renumbered};
+pub use usable::{is_usable, take_usable};

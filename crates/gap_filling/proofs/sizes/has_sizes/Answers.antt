@@ -9,8 +9,7 @@ pub returns-clause-sized : goal.returns-clause-sized
 returns-clause-sized c = λ version.
     let steps = map step_of c.args.steps.now in
     let e = ap (λ (m : Meter). m.fits) (c.measure_steps.ensures.room version) in
-    let many = length-map c.args.steps.now step_of in
-    (
+    let many = length-map c.args.steps.now step_of in (
       (λ t. is-sized version steps c.measure_steps.ensures.small
           (omega (arith, many, not-empty c.args.steps.now c.if-is_empty.ensures))
           (omega (arith, many, c.if-steps-gt-MOST_STEPS.false)) (sym e ∙ t)),
