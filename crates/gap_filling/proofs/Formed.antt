@@ -1,11 +1,11 @@
 -- Steps that are well formed in a file, and their verdicts.
-use Rattle.std.proofs.Common.{◌≡◌, ◌∙◌, sym, refl, ap, ℕ, suc, zero, ◌+◌, ◌<◌, ◌==◌, ◌&&◌, List, [], ◌∷◌, length, true, Option, Some, None, slice_get, arith}
+use Rattle.std.proofs.Common.{◌≡◌, ◌∙◌, sym, refl, ap, subst, ℕ, suc, zero, ◌+◌, ◌<◌, ◌==◌, ◌&&◌, List, [], ◌∷◌, length, true, Option, Some, None, slice_get, arith}
 use Rattle.std.specs.List.{list_all}
 use Rattle.std.proofs.lemmas.Bool.{and_parts}
 use Rattle.model_formulas.specs.Formulas.{Named}
 use Rattle.model_commands.specs.CommandParts.{arguments_of}
 use Rattle.model_commands.specs.Theories.{Judgement, Reason, auto, by_rule, Step, StepOf, ProcedureOf, Procedures, Theory}
-use Rattle.model_files.specs.FileFaults.{FileKind, FileFault, sort_kind, judgement_sorted, is_argument, inside_step, proof_step, step_kind}
+use Rattle.model_files.specs.FileFaults.{FileFault, sort_kind, judgement_sorted, is_argument, inside_step, proof_step, step_kind}
 use Rattle.model_files.proofs.Places.{passes-each}
 use Rattle.rule_table.specs.Table.{table}
 use Rattle.rule_table.specs.Verdicts as verdicts
@@ -15,14 +15,18 @@ use Rattle.rule_table.proofs.VerdictLaws.{instance-alone}
 use Rattle.row_patterns.specs.Verdicts.{verdict_in}
 use Rattle.dom_terms.specs.declared.verdicts.Verdict.{Verdict}
 use Rattle.dom_terms.specs.declared.verdicts.Verdict.TheVariants as v
-use Rattle.dom_syntax.specs.Faults.{step_fault}
+use Rattle.model_files.specs.FileFaults as files
+use Rattle.dom_syntax.specs.declared.kinds.FileKind.{FileKind}
+use Rattle.dom_syntax.specs.declared.programs.ProgramFault.{ProgramFault}
+use Rattle.dom_syntax.specs.declared.programs.ProgramFault.TheVariants as faults
+use Rattle.dom_syntax.specs.Faults.{step_fault, fault_at, FaultReports}
 use Rattle.gap_filling.specs.Good.{IsFormed}
 
-no-fault : (p s : ℕ) (kind : Option FileKind) → step_fault p s kind ≡ None → kind ≡ None
+no-fault : (p s : ℕ) (kind : Option files.FileKind) → step_fault p s kind ≡ None → kind ≡ None
 no-fault p s None e = refl
 no-fault p s (Some kind) e = cc
 
-some-fault : (p s : ℕ) (kind : Option FileKind) (fault : FileFault)
+some-fault : (p s : ℕ) (kind : Option files.FileKind) (fault : FileFault)
     → step_fault p s kind ≡ Some fault → kind ≡ None → ⊥
 some-fault p s None fault e n = cc
 some-fault p s (Some kind) fault e n = cc
@@ -33,11 +37,15 @@ module _ (theory : Theory) (f : ProcedureOf Named) (step : StepOf Named) where
   unfolding IsFormed
   formed p s e = no-fault p s (step_kind theory f step.number step) e
 
-  pub not-formed : (p s : ℕ) (fault : FileFault)
-      → step_fault p s (step_kind theory f step.number step) ≡ Some fault
+  pub not-formed : (p s : ℕ) (fault : ProgramFault) (procedure place : ℕ) (kind : FileKind)
+      → fault ≡ faults.BadProgram procedure place kind
+      → FaultReports fault (step_fault p s (step_kind theory f step.number step))
       → IsFormed theory f step → ⊥
   unfolding IsFormed
-  not-formed p s fault e n = some-fault p s (step_kind theory f step.number step) fault e n
+  not-formed p s fault procedure place kind is e n =
+      some-fault p s (step_kind theory f step.number step) (fault_at procedure place kind)
+      (subst (λ (z : ProgramFault). FaultReports z
+      (step_fault p s (step_kind theory f step.number step))) is e) n
 
   -- the judgement of a step that is well formed is well sorted
   pub formed-sorted : IsFormed theory f step → judgement_sorted step.judgement ≡ true
