@@ -8,4 +8,5 @@ mod Sized
 mod SmallParts
 mod StepRooms
 mod Sums
+mod UsableSteps
 mod Tokens
