@@ -1,6 +1,6 @@
 -- When each of some lexemes fits: where there is room for all of their bytes, no bracket nor text
 -- passes its limit, and the numbers are in the range of literals.
-use Rattle.std.proofs.Common.{◌≡◌, ◌∙◌, ℕ, suc, ◌+◌, ◌-◌, ◌≤◌, Bool, true, false, ◌&&◌, cond, nat_le, List, [], ◌∷◌, ◌++◌, length, length-append, codes, None, Option, refl, sym, ap, subst, arith}
+use Rattle.std.proofs.Common.{◌≡◌, ℕ, suc, ◌+◌, ◌-◌, ◌≤◌, Bool, true, false, ◌&&◌, cond, nat_le, List, [], ◌∷◌, length, length-append, None, Option, refl, sym, ap, subst, arith}
 use Rattle.std.specs.List.{list_all}
 use Rattle.std.proofs.lemmas.Bool.{and_parts, leb-true, le-leb}
 use Rattle.model_limits.specs.Limits.{LimitKind, nesting_limit, text_limit}
@@ -10,7 +10,6 @@ use Rattle.model_text.specs.Nesting.{open_behind, text_within, token_limit}
 use Rattle.model_grammar.specs.Writing.{printed, spaced, text_of}
 use Rattle.gap_filling.specs.declared.meters.Meter.{Meter}
 use Rattle.gap_filling.specs.Measured.{number_fits, after, measured}
-use Rattle.gap_filling.proofs.Measures.{unfit}
 
 -- the tests that a lexeme passes which fits
 record Passes (m : Meter) (l : Lexeme) : Type 0 where

@@ -1,5 +1,5 @@
 -- Steps that are well formed in a file, and their verdicts.
-use Rattle.std.proofs.Common.{◌≡◌, ◌∙◌, sym, refl, ap, subst, ℕ, suc, zero, ◌+◌, ◌<◌, ◌==◌, ◌&&◌, List, [], ◌∷◌, length, true, Option, Some, None, slice_get, arith}
+use Rattle.std.proofs.Common.{◌≡◌, refl, subst, ℕ, suc, zero, ◌<◌, ◌&&◌, List, [], ◌∷◌, length, true, Option, Some, None, slice_get, arith}
 use Rattle.std.specs.List.{list_all}
 use Rattle.std.proofs.lemmas.Bool.{and_parts}
 use Rattle.model_formulas.specs.Formulas.{Named}

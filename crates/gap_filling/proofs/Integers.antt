@@ -18,7 +18,7 @@ use Rattle.model_commands.specs.CommandParts.{commands_in, commands_of, terms_of
 use Rattle.model_commands.specs.Theories.{JudgementOf, entails, triple, Reason, auto, by_rule, StepOf}
 use Rattle.model_text.specs.Lexemes.{Lexeme, terminal, step_word, name_lexeme, is_reserved}
 use Rattle.model_text.specs.Versions.{reserving, insert_word}
-use Rattle.model_grammar.specs.Writing.{name_lexemes, var_lexemes, term_lexemes, cond_lexemes, value_sort_lexemes, behind_commas, listed, in_brackets, command_lexemes, block_lexemes, further_commands}
+use Rattle.model_grammar.specs.Writing.{name_lexemes, var_lexemes, term_lexemes, cond_lexemes, value_sort_lexemes, behind_commas, in_brackets, command_lexemes, block_lexemes, further_commands}
 use Rattle.model_grammar.specs.TheoryWriting.{formula_lexemes, empty_sign, hole_sign, at_sign, into_sign, star_sign, data_sort_lexemes, sort_lexemes, word_lexemes, number_lexemes, argument_lexemes, reason_lexemes, judgement_lexemes, step_line}
 use Rattle.model_filling.specs.Sizes.{integers_fit, formula_integers_fit, judgement_integers_fit, step_integers_fit, offer_lexemes}
 use Rattle.gap_filling.specs.Measured.{number_fits}

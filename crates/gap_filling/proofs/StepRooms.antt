@@ -1,9 +1,9 @@
 -- The room for steps.
-use Rattle.std.proofs.Common.{◌≡◌, ◌∙◌, ℕ, suc, ◌+◌, ◌<◌, ◌≤◌, Bool, true, false, nat_le, List, [], ◌∷◌, ◌++◌, length, get_or, drop, map, codes, refl, sym, ap, arith, Fits, w32}
+use Rattle.std.proofs.Common.{◌≡◌, ◌∙◌, ℕ, suc, ◌+◌, ◌<◌, Bool, true, nat_le, List, [], ◌∷◌, length, get_or, drop, map, refl, sym, ap, arith, Fits, w32}
 use Rattle.std.specs.List.{list_all}
 use Rattle.model_terms.specs.Terms as terms
 use Rattle.model_commands.specs.Theories as theories
-use Rattle.model_text.specs.Lexemes.{Lexeme, terminal, step_word, number_lexeme}
+use Rattle.model_text.specs.Lexemes.{Lexeme, step_word, number_lexeme}
 use Rattle.model_grammar.specs.Words.{the, ◌⌢◌}
 use Rattle.model_grammar.specs.Writing.{in_brackets, term_lexemes}
 use Rattle.model_grammar.specs.TheoryWriting.{number_lexemes, argument_lexemes, reason_lexemes, word_lexemes, judgement_lexemes, step_line}
@@ -14,7 +14,7 @@ use Rattle.theory_syntax.specs.declared.steps.Step.{Step}
 use Rattle.theory_syntax.specs.Judgements.{step_of, reason_of, judgement_of}
 use Rattle.theory_writing.proofs.MarkLemmas.{fused}
 use Rattle.gap_filling.specs.declared.meters.Meter.{Meter}
-use Rattle.gap_filling.specs.Measured.{after, measured}
+use Rattle.gap_filling.specs.Measured.{measured}
 use Rattle.gap_filling.specs.Numbers.{citations_fit, numbers_fit}
 use Rattle.gap_filling.proofs.Marks.{drop_at}
 use Rattle.gap_filling.proofs.Measures.{measured-append, measured_rules}

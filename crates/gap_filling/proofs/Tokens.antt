@@ -1,9 +1,9 @@
 -- Tokens that open and close nothing, and the bytes of literals.
-use Rattle.std.proofs.Common.{◌≡◌, ◌≢◌, ◌∙◌, ◌+◌, ◌==◌, ◌&&◌, ℕ, Bool, true, false, cond, List, [], ◌∷◌, length, map, bytes_eq, codes, refl, sym, ap, arith}
+use Rattle.std.proofs.Common.{◌≡◌, ◌∙◌, ◌==◌, ◌&&◌, ℕ, Bool, true, false, cond, List, [], ◌∷◌, length, map, bytes_eq, codes, refl, sym, ap}
 use Rattle.std.specs.Prelude.{if◌then◌else◌}
 use Rattle.std.proofs.lemmas.Slice.Eq.{bytes_eq-Decides}
 use Rattle.model_text.specs.Lexemes.{Lexeme, terminal, step_word, name_lexeme, is_reserved, word_lexeme}
-use Rattle.model_text.specs.Tokens.{word_token, symbol_token}
+use Rattle.model_text.specs.Tokens.{word_token}
 use Rattle.model_text.specs.Nesting.{open_behind, text_within}
 use Rattle.model_text.specs.Versions.{reserving, insert_word}
 use Rattle.model_grammar.specs.Writing.{printed}

@@ -1,5 +1,5 @@
 -- Usable offers, test by test.
-use Rattle.std.proofs.Common.{◌≡◌, ◌∙◌, sym, refl, ap, subst, ℕ, suc, ◌+◌, ◌-◌, ◌≤◌, ◌==◌, true, List, [], ◌∷◌, ◌++◌, length, map, take, drop, None, Result, Ok, Err, IfOk, add-one, arith}
+use Rattle.std.proofs.Common.{◌≡◌, sym, refl, subst, ℕ, ◌+◌, ◌-◌, ◌≤◌, ◌==◌, true, List, [], ◌∷◌, ◌++◌, length, map, take, drop, None, Result, Ok, Err, IfOk, add-one, arith}
 use Rattle.std.proofs.lemmas.Bool.{and_parts, and_from, eqb-true, eq-eqb}
 use Rattle.std.proofs.Math.Seq.{take-length}
 use Rattle.std.proofs.lemmas.List.{take-append-drop, length-take-le, length-drop, map-append}
@@ -31,9 +31,11 @@ pub numbered-from : (steps : List Step) (n : ℕ) → are_numbered n steps ≡ t
     → IsNumberedFrom n (map step_of steps)
 numbered-from [] n e = tt
 numbered-from (s ∷ steps) n e =
-    let h = and_parts (s.number == n) (are_numbered (n + 1) steps) e in
-    (eqb-true s.number n h.0, subst (λ (k : ℕ). IsNumberedFrom k (map step_of steps)) (add-one n)
-    (numbered-from steps (n + 1) h.1))
+    let h = and_parts (s.number == n) (are_numbered (n + 1) steps) e in (
+      eqb-true s.number n h.0,
+      subst (λ (k : ℕ). IsNumberedFrom k (map step_of steps)) (add-one n)
+          (numbered-from steps (n + 1) h.1),
+    )
 
 pub from-numbered : (steps : List Step) (n : ℕ) → IsNumberedFrom n (map step_of steps)
     → are_numbered n steps ≡ true

@@ -1,4 +1,4 @@
-use Rattle.std.proofs.Common.{◌≡◌, ◌∙◌, ap, ◌+◌, ◌/◌, ◌%◌, ◌<◌, ◌≤◌, length, length-append, [], ◌∷◌, sym, arith}
+use Rattle.std.proofs.Common.{◌∙◌, ap, ◌+◌, ◌/◌, ◌%◌, length, length-append, [], ◌∷◌, sym, arith}
 use Rattle.std.specs.Fmt.{decimal}
 use Rattle.std.proofs.lemmas.Fmt.{decimal_digit, decimal_step, length-decimal-le}
 use Rattle.gap_filling.proofs.meters.+digit_count.Goals as goal

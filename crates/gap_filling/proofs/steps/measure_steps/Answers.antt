@@ -1,4 +1,3 @@
-use Rattle.std.proofs.Common.{ℕ}
 use Rattle.gap_filling.proofs.StepRooms.{steps_go_on, numbers_go_on}
 use Rattle.gap_filling.proofs.steps.measure_steps.Goals as goal
 

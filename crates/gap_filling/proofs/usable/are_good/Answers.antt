@@ -1,4 +1,4 @@
-use Rattle.std.proofs.Common.{◌≡◌, ◌≤◌, ◌+◌, ◌∙◌, sym, ap, subst, arith, take, length}
+use Rattle.std.proofs.Common.{sym, ap, subst, arith}
 use Rattle.model_files.specs.Sizes.{JudgementIsSmall}
 use Rattle.theory_syntax.specs.declared.steps.Step.{Step}
 use Rattle.theory_syntax.specs.Judgements.{judgement_of}

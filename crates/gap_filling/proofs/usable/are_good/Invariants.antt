@@ -1,4 +1,4 @@
-use Rattle.std.proofs.Common.{◌≡◌, ◌≤◌, ◌-◌, Some, slice_get}
+use Rattle.std.proofs.Common.{◌≡◌, ◌-◌, Some, slice_get}
 use Rattle.std.specs.Prelude.{◌↔◌}
 use Rattle.model_formulas.specs.Formulas.{Named}
 use Rattle.model_commands.specs.Theories.{ProcedureOf}

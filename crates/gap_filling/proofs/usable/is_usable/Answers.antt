@@ -1,4 +1,4 @@
-use Rattle.std.proofs.Common.{◌≡◌, ◌∙◌, ◌+◌, sym, refl, subst, map, take, drop, true, false, IsTrue, Some, List}
+use Rattle.std.proofs.Common.{◌≡◌, ◌∙◌, ◌+◌, sym, refl, subst, map, take, drop, true, false, Some, List}
 use Rattle.std.proofs.lemmas.Result.{IfOk-weaker}
 use Rattle.model_commands.specs.Theories.{nameless_judgement}
 use Rattle.model_files.specs.Sizes.{StepsAreSmall}
@@ -7,7 +7,7 @@ use Rattle.model_filling.specs.Sizes.{IsSized}
 use Rattle.theory_syntax.specs.declared.steps.Step.{Step}
 use Rattle.theory_syntax.specs.Judgements.{judgement_of, step_of}
 use Rattle.theory_syntax.specs.Theories.{theory_of}
-use Rattle.cited_steps.specs.Earlier.{AreCitable, are_numbered, steps_in}
+use Rattle.cited_steps.specs.Earlier.{are_numbered, steps_in}
 use Rattle.gap_filling.proofs.UsableSteps.{rest-of, any-ok, numbered-from, from-numbered, all-citable, good-formed, good-instances, all-good}
 use Rattle.gap_filling.proofs.usable.is_usable.Goals.{then-not-has_sizes-via-then-not-has_sizes, then-not-has_sizes-via-else-not-has_sizes+then-not-are_numbered_after}
 use Rattle.gap_filling.proofs.usable.is_usable.Goals as goal

@@ -1,4 +1,4 @@
-use Rattle.std.proofs.Common.{◌∙◌, rules, ap, length, true}
+use Rattle.std.proofs.Common.{◌∙◌, ap, length, true}
 use Rattle.gap_filling.specs.Measured.{spent}
 use Rattle.gap_filling.proofs.Tokens.{rule_word}
 use Rattle.gap_filling.proofs.meters.Meter.rule_name.Goals as goal
