@@ -1,0 +1,12 @@
+mod Fitting
+mod Formed
+mod GoodSteps
+mod Integers
+mod Marks
+mod Measures
+mod Sized
+mod SmallParts
+mod StepRooms
+mod Sums
+mod UsableSteps
+mod Tokens

@@ -1,0 +1,4 @@
+pub mod Renumbered
+pub mod Measured
+pub mod Numbers
+pub mod Good
