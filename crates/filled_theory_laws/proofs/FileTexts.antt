@@ -420,7 +420,8 @@ module _ (theory : Theory) where
               h.1.1.1.0,
               (
                 h.1.1.1.1.0,
-                each-both (IsGood most theory.version) (map (step_line theory.version) proof) (the "end" ∷ [])
+                each-both (IsGood most theory.version) (map (step_line theory.version) proof)
+                    (the "end" ∷ [])
                     (steps-good most theory.version proof steps) lines.1,
               ),
             ),

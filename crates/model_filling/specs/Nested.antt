@@ -1,5 +1,5 @@
--- Needn't be believed: the program's promise doesn't speak of it. How many brackets are open in what
--- is written.
+-- Needn't be believed: the program's promise doesn't speak of it. How many brackets are open in
+-- what is written.
 use Rattle.std.specs.Prelude.{ℕ, ◌≤◌, List, [], ◌∷◌}
 use Rattle.model_formulas.specs.Formulas.{Named}
 use Rattle.model_commands.specs.Theories.{JudgementOf}
