@@ -1,13 +1,12 @@
 -- A number that is too great for 32 bits cites nothing, and nor does the one in its place.
-use Rattle.std.proofs.Common.{◌≡◌, ◌∙◌, ℕ, ◌+◌, ◌<◌, ◌≤◌, ◌==◌, Bool, true, false, cond, min, List, [], ◌∷◌, length, map, Some, None, ◌⊎◌, inl, inr, sym, refl, ap, subst, arith}
+use Rattle.std.proofs.Common.{◌≡◌, ◌∙◌, ℕ, ◌+◌, ◌<◌, ◌≤◌, ◌==◌, true, false, List, [], ◌∷◌, length, map, None, ◌⊎◌, inl, inr, sym, refl, ap, subst, arith}
 use Rattle.std.proofs.lemmas.Bool.{and_parts, eqb-true, ne_eqb}
 use Rattle.std.proofs.Math.Dec.{leb}
 use Rattle.std.proofs.lemmas.Bool.Decides.{leb_tells}
-use Rattle.model_terms.specs.Terms.{Term}
 use Rattle.model_commands.specs.Theories.{Judgement, Reason, auto, by_rule, Procedures}
 use Rattle.rule_table.specs.Table.{table}
 use Rattle.rule_table.specs.Verdicts.{Verdict, IsVerdict, readings_in}
-use Rattle.rule_table.specs.Accepted.{judgement_numbered, cited, in_front, written_at, VerdictBy}
+use Rattle.rule_table.specs.Accepted.{judgement_numbered, cited, VerdictBy}
 use Rattle.theory_syntax.specs.declared.steps.Step.{Step}
 use Rattle.cited_steps.specs.Earlier.{are_numbered, steps_in}
 use Rattle.gap_filling.specs.Renumbered.{held, held_reason, HaveSameVerdicts}
