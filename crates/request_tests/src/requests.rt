@@ -114,7 +114,11 @@ fn each_fetch_and_each_put_may_fail(rt: HostRuntime) -> Result<(), Fail> {
         let mut shelf = shelf_failing_at(alloc, fetch)?;
         let mut tape = Tape::new(alloc, 200)?;
         tape.fail_at(put)?;
-        assert_eq!(rt; moved(alloc, &mut shelf, &mut tape)?, status, "fetch {fetch}, put {put}");
+        assert_eq!(rt;
+            moved(alloc, &mut shelf, &mut tape)?,
+            status,
+            "fetch {fetch}, put {put}"
+        );
         assert_eq!(rt; tape.taken(), output.as_bytes());
     }
     Ok(())
