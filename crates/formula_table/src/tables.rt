@@ -42,11 +42,10 @@ pub struct Table {
     terms: IndexSet<TermRow>,
     forms: IndexSet<FormRow>,
     most: u32,
-    // where terms over names, other terms and formulas were found last, and the last one over a name
+    // where terms over names, other terms and formulas were found last
     recent_named: Recent,
     recent_terms: Recent,
     recent_forms: Recent,
-    last_named: u32,
     ghost whole: { HasRows names.keys terms.keys forms.keys } by { rows-prop _ _ _ },
     ghost few: { length forms.keys ≤ most },
 }
@@ -78,7 +77,6 @@ impl Table {
             recent_named: Recent::new(),
             recent_terms: Recent::new(),
             recent_forms: Recent::new(),
-            last_named: 0,
         }
     }
 
@@ -96,7 +94,6 @@ impl Table {
             recent_named: Recent::new(),
             recent_terms: Recent::new(),
             recent_forms: Recent::new(),
-            last_named: 0,
         })
     }
 
@@ -197,37 +194,35 @@ impl Table {
     }
 
     /// The number of the term over the name, which is added where it isn't there. It is sought first
-    /// where one with such a name was found last, and then after the last one: formulas that are
-    /// written again have their variables in the same order.
+    /// where one with such a name was found last, and after the one found last.
     #[inline(always)]
     pub(crate) fn add_named(&mut self, name: &str, kind: Named) -> Result<u32, OutOfMemory>
         ensures grows { TermsGrow self.old self.new }
         ensures ok { IfOk result (λ number. IsTerm self.new number (named_term kind name.now)) }
     {
         let sum = sum_of_name(name);
-        match self.named_at(name, kind, self.recent_named.guess(sum)) {
-            Some(number) => Ok(number),
-            None => self.add_far_named(name, kind, sum),
-        }
-    }
-
-    // the same, where no such one was found last, and that this one was is noted
-    fn add_far_named(&mut self, name: &str, kind: Named, sum: u32) -> Result<u32, OutOfMemory>
-        ensures grows { TermsGrow self.old self.new }
-        ensures ok { IfOk result (λ number. IsTerm self.new number (named_term kind name.now)) }
-    {
-        let number = self.next_named(name, kind)?;
-        self.last_named = number;
+        let (guess, next) = (self.recent_named.guess(sum), self.recent_named.next());
+        let number = self.find_named(name, kind, guess, next)?;
         self.recent_named.note(sum, number);
         Ok(number)
     }
 
-    // the same, sought after the last one
-    fn next_named(&mut self, name: &str, kind: Named) -> Result<u32, OutOfMemory>
+    // the same, sought at both places first
+    #[inline(always)]
+    fn find_named(
+        &mut self,
+        name: &str,
+        kind: Named,
+        guess: u32,
+        next: u32,
+    ) -> Result<u32, OutOfMemory>
         ensures grows { TermsGrow self.old self.new }
         ensures ok { IfOk result (λ number. IsTerm self.new number (named_term kind name.now)) }
     {
-        match self.named_at(name, kind, self.last_named.saturating_add(1)) {
+        if let Some(number) = self.named_at(name, kind, guess) {
+            return Ok(number);
+        }
+        match self.named_at(name, kind, next) {
             Some(number) => Ok(number),
             None => self.insert_named(name, kind),
         }
