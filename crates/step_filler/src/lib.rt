@@ -7,8 +7,11 @@ mod conj;
 mod drafts;
 mod fillers;
 mod laws;
+mod layers;
+mod spot;
 mod weights;
 
 pub use conj::Conj;
 pub use fillers::Filler;
 pub use laws::{what_has_the_sizes_is_whole, what_is_obvious_by_conjuncts_is_offered};
+pub use spot::{Spot, what_is_obvious_by_filling_is_offered};
