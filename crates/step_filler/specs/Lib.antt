@@ -2,3 +2,4 @@ pub mod Weights
 pub mod Offered
 pub mod Given
 pub mod Drafts
+pub mod Roots

@@ -6,9 +6,13 @@
 mod conj;
 mod drafts;
 mod fillers;
+mod form_laws;
+mod forms;
 mod laws;
+mod same_forms;
 mod weights;
 
 pub use conj::Conj;
 pub use fillers::Filler;
+pub use form_laws::what_is_obvious_by_form_is_offered;
 pub use laws::{what_has_the_sizes_is_whole, what_is_obvious_by_conjuncts_is_offered};
