@@ -3,3 +3,5 @@ pub mod Offered
 pub mod Given
 pub mod Drafts
 pub mod Roots
+pub mod Turns
+pub mod Pens

@@ -9,7 +9,9 @@ mod fillers;
 mod form_laws;
 mod forms;
 mod laws;
+mod pens;
 mod same_forms;
+mod turns;
 mod weights;
 
 pub use conj::Conj;
