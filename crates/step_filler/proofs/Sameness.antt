@@ -6,7 +6,7 @@ use Rattle.model_formulas.specs.Nameless.{nameless}
 use Rattle.model_formulas.specs.SameFormulas.{same_formula}
 use Rattle.assistant_laws.specs.Conjuncts.{is_one_of}
 use Rattle.assistant_laws.specs.ConjunctPlans.{same_named}
-use Rattle.assistant_laws.specs.Forms.{row_of, tree_form, forest_parts, grove_parts, same_parts, without_part, same_up_to_order}
+use Rattle.assistant_laws.specs.Forms.{row_of, tree_form, forest_parts, grove_parts, same_parts, same_up_to_order}
 use Rattle.assistant_laws.specs.FormPlans.{tidied, absorbed, absorbed_roots, sum_of, without_named}
 use Rattle.assistant_laws.proofs.Forms.{tidied-form, tidied-nameless, absorbed-row, absorbed-nameless, absorbed_roots-sum, grove_parts-nameless, without-nameless}
 use Rattle.step_filler.specs.Roots.{has_root, without_root, same_roots}
@@ -15,8 +15,8 @@ use Rattle.step_filler.specs.Roots.{has_root, without_root, same_roots}
 form-nameless : (p : Named) → nameless (tidied p) ≡ tree_form (nameless p)
 form-nameless p = sym (tidied-nameless p) ∙ tidied-form (nameless p)
 
-pub same_tree_forms : (p q : Named)
-    → same_named (tidied p) (tidied q) ≡ same_formula (tree_form (nameless p)) (tree_form (nameless q))
+pub same_tree_forms : (p q : Named) → same_named (tidied p) (tidied q)
+    ≡ same_formula (tree_form (nameless p)) (tree_form (nameless q))
 same_tree_forms p q = ap₂ same_formula (form-nameless p) (form-nameless q)
 
 -- FORESTS
@@ -70,3 +70,6 @@ pub same_grove_forms : (p q : Named)
 same_grove_forms p q = ap₂ same_roots (absorbed_roots-sum p) (absorbed_roots-sum q)
     ∙ same-roots (grove_parts p) (grove_parts q)
     ∙ ap₂ same_up_to_order (sym (grove_parts-nameless p)) (sym (grove_parts-nameless q))
+
+-- what each sort's test says
+pub ruleset form_rules = (same_tree_forms, same_forest_forms, same_grove_forms)

@@ -171,7 +171,7 @@ fn are_same_roots(alloc: Global, left: Formula, right: Formula) -> Result<bool, 
 }
 
 /// Whether both formulas have the same form at the sort.
-#[tactic(auto, using(crate::proofs::Sameness::same_tree_forms, crate::proofs::Sameness::same_forest_forms, crate::proofs::Sameness::same_grove_forms))]
+#[tactic(auto, using(crate::proofs::Sameness::form_rules))]
 pub(crate) fn same_form(
     alloc: Global,
     sort: Sort,
