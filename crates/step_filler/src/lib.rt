@@ -6,12 +6,18 @@
 mod conj;
 mod drafts;
 mod fillers;
+mod form_laws;
+mod forms;
 mod laws;
 mod layers;
+mod pens;
+mod same_forms;
 mod spot;
+mod turns;
 mod weights;
 
 pub use conj::Conj;
 pub use fillers::Filler;
+pub use form_laws::what_is_obvious_by_form_is_offered;
 pub use laws::{what_has_the_sizes_is_whole, what_is_obvious_by_conjuncts_is_offered};
 pub use spot::{Spot, what_is_obvious_by_filling_is_offered};
