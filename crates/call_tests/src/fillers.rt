@@ -1,6 +1,9 @@
 // Gaps of proofs: what an assistant offers for one, and whether an offer may stand there.
 ghost use Rattle.std.specs.Prelude.{◌≡◌, ◌≤◌, ◌<◌, true, length, IfOk};
 ghost use Rattle.assistant_laws.specs.Bounds.{parts_of};
+ghost use Rattle.formula_syntax.specs.Formulas.{formula_of, side_of};
+ghost use Rattle.model_formulas.specs.Formulas.{concatenation, empty};
+ghost use Rattle.model_shapes.specs.Sorts.{forest};
 ghost use Rattle.model_files.specs.FileFaults.{judgement_sorted};
 ghost use Rattle.model_files.specs.Sizes.{TheoryIsSmall};
 ghost use Rattle.theory_syntax.specs.Judgements.{judgement_of};
@@ -8,13 +11,13 @@ ghost use Rattle.theory_syntax.specs.Theories.{theory_of};
 
 use crate::theories::{idle_theory, skip_step};
 use dom_terms::{DataSort, OutOfMemory, Sort, with};
-use formula_syntax::{Entailment, Formula};
+use formula_syntax::{Entailment, Formula, Side};
 use formula_table::Table;
 use gap_filling::{FilledGap, filled_limit, renumbered, take_usable};
 use std::alloc::Global;
 use std::process::Abort;
 use std::test::Fail;
-use step_filler::{Conj, Filler};
+use step_filler::{Conj, Filler, Spot};
 use theory_syntax::{Judgement, Steps, Theory};
 
 const GROVE: Sort = Sort::Shape(DataSort::Grove);
@@ -28,6 +31,30 @@ fn obvious(alloc: Global) -> Result<Judgement, OutOfMemory>
     let (empty, yes) = with(empty, Box::new(alloc, Formula::True))?;
     let (left, right) = (Formula::And(empty, yes), Formula::EmptyGrove);
     let sort = GROVE;
+    Ok(Judgement::Entails(Entailment { left, right, sort }))
+}
+
+// A formula of the side, of the first part and `0f`.
+fn beside(alloc: Global, side: Side, first: Formula) -> Result<Formula, OutOfMemory>
+    ensures { IfOk result (λ p. formula_of p
+        ≡ concatenation (side_of side) (formula_of first) (empty forest)) }
+{
+    let first = Box::new(alloc, first)?;
+    let (first, second) = with(first, Box::new(alloc, Formula::EmptyForest))?;
+    Ok(Formula::Join(side, first, second))
+}
+
+// `((?f .* 0f) @f 0f) entails (0f * 0f) at f`
+fn filled(alloc: Global) -> Result<Judgement, OutOfMemory>
+    ensures sorted { IfOk result (λ j. judgement_sorted (judgement_of j) ≡ true) }
+    ensures small { IfOk result (λ j. parts_of (judgement_of j) < 4294967295) }
+{
+    let context = beside(alloc, Side::HoleLeft, Formula::Hole(DataSort::Forest))?;
+    let context = Box::new(alloc, context)?;
+    let (context, part) = with(context, Box::new(alloc, Formula::EmptyForest))?;
+    let left = Formula::App(DataSort::Forest, context, part);
+    let (left, right) = with(left, beside(alloc, Side::Whole, Formula::EmptyForest))?;
+    let sort = Sort::Shape(DataSort::Forest);
     Ok(Judgement::Entails(Entailment { left, right, sort }))
 }
 
@@ -64,6 +91,11 @@ fn an_assistant_offers_steps_for_what_is_obvious(rt: HostRuntime) -> Result<(), 
     let offer = conj.propose(alloc, 4, &asked, &[]);
     drop(asked);
     assert_eq!(rt; (numbers(offer?), conj.turn), (None, 2));
+    let mut spot = Spot::new();
+    let asked = filled(alloc)?;
+    let offer = spot.propose(alloc, 4, &asked, &[]);
+    drop(asked);
+    assert_eq!(rt; (numbers(offer?), spot.turn), (Some((4, 8)), 1));
     Ok(())
 }
 
