@@ -92,11 +92,7 @@ fn same_judgement(alloc: Global, left: &Judgement, right: &Judgement) -> Result<
 }
 
 /// Whether the last of the steps has the judgement.
-pub fn ends_in(
-    alloc: Global,
-    steps: &[Step],
-    judgement: &Judgement,
-) -> Result<bool, OutOfMemory>
+pub fn ends_in(alloc: Global, steps: &[Step], judgement: &Judgement) -> Result<bool, OutOfMemory>
     requires steps { StepsAreSmall (map step_of steps.now) }
     requires judgement { JudgementIsSmall (judgement_of judgement.now) }
     ensures { IfOk result (λ ends. IsTrue ends

@@ -13,7 +13,7 @@ use Rattle.step_filler.specs.declared.layers.Filling.{Filling}
 use Rattle.step_filler.specs.Drafts.{WritesOne, WritesPlan}
 use Rattle.step_filler.specs.Layers.{is_layer, layer_sort, entering, changing, way_of, applied, filled, plan_of, in_hole, entered, changed, passed, inner_plan}
 use Rattle.step_filler.proofs.Drafting.{first-stops, second-stops, one-stops, one-written, both-written}
-use Rattle.step_filler.proofs.Reaching.{handed-on}
+use Rattle.step_filler.proofs.Planned.{handed-on}
 
 -- A PLAN FROM ONE OTHER
 module _ (rule : Name) (p : Plan) (j : JudgementOf Named) (plan : Plan)

@@ -12,7 +12,7 @@ use Rattle.step_filler.specs.Drafts.{WritesOne, WritesPlan}
 use Rattle.step_filler.proofs.Drafting.{one-stops, one-written, first-stops, second-stops, both-written}
 
 -- the same stop, handed on
-handed-on : (plan : Plan) (a b : Draft) (e : Stop) (r : Result ℕ Stop)
+pub handed-on : (plan : Plan) (a b : Draft) (e : Stop) (r : Result ℕ Stop)
     → IsErrAnd r (λ x. x ≡ e) → WritesPlan plan a b (Err e) → WritesPlan plan a b r
 handed-on plan a b e r same x =
     let p = err_from_is_err_and r same in
