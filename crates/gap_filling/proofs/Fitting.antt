@@ -39,7 +39,8 @@ passed m l e =
     && (nat_le (open_behind m.brackets l) 100 && (text_within l && number_fits l))) a in
     let c = and_parts (nat_le (length (printed l) + 1) m.bytes)
     (nat_le (open_behind m.brackets l) 100 && (text_within l && number_fits l)) b.1 in
-    let d = and_parts (nat_le (open_behind m.brackets l) 100) (text_within l && number_fits l) c.1 in
+    let d = and_parts (nat_le (open_behind m.brackets l) 100) (text_within l && number_fits l)
+    c.1 in
     let f = and_parts (text_within l) (number_fits l) d.1 in
     record { so_far = b.0; bytes = c.0; brackets = d.0; text = f.0; number = f.1 }
   where

@@ -53,7 +53,8 @@ module _ (theory : Theory) (f : ProcedureOf Named) (step : StepOf Named) where
   formed-sorted e =
       let sorted = passes-each (proof_step theory f step.number step) e sort_kind in
       let both = and_parts (judgement_sorted step.judgement
-      && list_all is_argument (arguments_of step.reason)) (inside_step theory f step sort_kind) sorted in
+      && list_all is_argument (arguments_of step.reason)) (inside_step theory f step sort_kind)
+      sorted in
       (and_parts (judgement_sorted step.judgement) (list_all is_argument (arguments_of step.reason))
       both.0).0
 

@@ -1,6 +1,7 @@
 mod Fitting
 mod Formed
 mod GoodSteps
+mod HeldCitations
 mod Integers
 mod Marks
 mod Measures

@@ -1,9 +1,13 @@
 -- Needn't be believed: the program's promise doesn't speak of it. Renumbered steps as the program
 -- holds them: with numbers of 32 bits.
-use Rattle.std.specs.Prelude.{ℕ, min, map}
+use Rattle.std.specs.Prelude.{◌≡◌, ◌↔◌, ℕ, ◌<◌, min, true, List, length, map}
 use Rattle.model_formulas.specs.Formulas.{Named}
-use Rattle.model_commands.specs.Theories.{Reason, auto, by_rule, StepOf}
+use Rattle.model_commands.specs.Theories.{Judgement, Reason, auto, by_rule, StepOf, Procedures}
+use Rattle.rule_table.specs.Verdicts.{Verdict}
+use Rattle.rule_table.specs.Accepted.{VerdictBy}
 use Rattle.model_filling.specs.Renumbering as filling
+use Rattle.theory_syntax.specs.declared.steps.Step.{Step}
+use Rattle.cited_steps.specs.Earlier.{are_numbered, steps_in}
 use Rattle.gap_filling.specs.declared.renumbering.FilledGap.{FilledGap}
 
 -- the gap
@@ -27,3 +31,12 @@ held_step step = record {
   reason = held_reason step.reason;
   judgement = step.judgement;
 }
+
+-- The verdicts by two reasons are the same, after steps that are numbered one by one and that
+-- aren't too many for numbers of 32 bits.
+abbrev pub HaveSameVerdicts : Reason → Reason → Type 0
+HaveSameVerdicts left right =
+    (procedures : Procedures) (earlier : List Step) (judgement : Judgement) (verdict : Verdict)
+    → are_numbered 1 earlier ≡ true → length earlier < 4294967295
+    → VerdictBy procedures left (steps_in earlier) judgement verdict
+    ↔ VerdictBy procedures right (steps_in earlier) judgement verdict

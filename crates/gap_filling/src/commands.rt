@@ -31,7 +31,7 @@ pub(crate) fn measure_value_sort(meter: &mut Meter, sort: ValueSort)
     }
 }
 
-// Takes the room for a variable and the sign behind which stands what it is set to.
+// Takes the room for a variable and the sign after which stands what it is set to.
 #[tactic(auto, using(crate::proofs::Measures::measured_rules))]
 fn measure_target(meter: &mut Meter, x: &ProgVar)
     ensures { meter.new ≡ measured meter.old (name_lexemes (prog_var_of x.now) ⌢ the ":=") }
@@ -43,7 +43,8 @@ fn measure_target(meter: &mut Meter, x: &ProgVar)
 // Takes the room for an assignment.
 #[tactic(auto, using(crate::proofs::Measures::measured_rules))]
 fn measure_assigned(meter: &mut Meter, x: &ProgVar, value: &Term)
-    ensures { meter.new ≡ measured meter.old (set_to (prog_var_of x.now) (term_lexemes (term_of value.now))) }
+    ensures { meter.new ≡ measured meter.old
+        (set_to (prog_var_of x.now) (term_lexemes (term_of value.now))) }
 {
     measure_target(meter, x);
     measure_term(meter, value);

@@ -14,7 +14,8 @@ use dom_terms::Cond;
 #[cycle(condition_measuring)]
 #[tactic(auto, using(crate::proofs::Measures::measured_rules))]
 fn measure_denied(meter: &mut Meter, inner: &Cond)
-    ensures { meter.new ≡ measured meter.old (cond_lexemes (conditions.cond_not (cond_of inner.now))) }
+    ensures { meter.new ≡ measured meter.old
+        (cond_lexemes (conditions.cond_not (cond_of inner.now))) }
 {
     meter.token("(");
     meter.token("not");

@@ -122,7 +122,7 @@ fn measure_joined(meter: &mut Meter, left: &Formula, sign: &str, right: &Formula
     meter.token(")");
 }
 
-// Takes the room for a formula in brackets, behind the variable that is bound in it.
+// Takes the room for a formula in brackets, after the variable that is bound in it.
 #[cycle(formula_measuring)]
 #[tactic(auto, using(crate::proofs::Measures::measured_rules))]
 fn measure_quantified(meter: &mut Meter, kind: &str, variable: &LogicVar, inner: &Formula)
@@ -172,7 +172,7 @@ fn measure_node(meter: &mut Meter, name: &Term, number: &Term, children: &Formul
     measure_term(meter, list);
 }
 
-/// Takes the room for the tokens of the formula, each behind a space.
+/// Takes the room for a formula.
 #[cycle(formula_measuring)]
 pub(crate) fn measure_formula(meter: &mut Meter, formula: &Formula)
     ensures { meter.new ≡ measured meter.old (formula_lexemes (formula_of formula.now)) }

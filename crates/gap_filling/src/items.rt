@@ -42,7 +42,7 @@ impl Item for Term {
     }
 }
 
-// Takes the room for the items, each behind a mark, from the second on behind a comma.
+// Takes the room for the items, each after a mark, from the second on after a comma.
 fn measure_marked<T: Item>(meter: &mut Meter, first_mark: &str, items: &[T])
     ensures { meter.new ≡ measured meter.old
         (marked first_mark.now (codes ",") (map T.lexemes items.now)) }

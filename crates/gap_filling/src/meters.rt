@@ -37,7 +37,7 @@ fn closes(token: &str) -> bool
     token == ")" || token == "]" || token == "}" || token == ">"
 }
 
-// How many brackets are open behind a symbol or a word of the grammar.
+// How many brackets are open after a symbol or a word of the grammar.
 fn open_behind(before: u32, token: &str) -> u64
     ensures { result ≡ model.open_behind before (terminal token.now) }
 {
@@ -77,7 +77,7 @@ fn quoted_bytes(text: &Text) -> usize
 }
 
 impl Meter {
-    // Takes the room for a token of so many bytes, with so many brackets open behind it, that may
+    // Takes the room for a token of so many bytes, with so many brackets open after it, that may
     // stand here or not.
     fn spend(&mut self, bytes: usize, brackets: u64, may: bool)
         ensures { self.new ≡ spent self.old bytes brackets may }

@@ -3,6 +3,7 @@ ghost use Rattle.std.specs.Prelude.{◌≡◌, IfOk, map};
 ghost use Rattle.model_filling.specs.Renumbering as filling;
 ghost use Rattle.theory_syntax.specs.Judgements.{reason_of, step_of};
 ghost use Rattle.gap_filling.specs.Renumbered.{held, held_reason, held_step, gap_of};
+ghost use Rattle.gap_filling.specs.Renumbered.{HaveSameVerdicts};
 
 use dom_terms::{Copied, Numbers, OutOfMemory, with};
 use std::alloc::Global;
@@ -84,11 +85,14 @@ fn raised_reason(alloc: Global, gaps: &[FilledGap], reason: &Reason) -> Result<R
 
 /// The step as it stands after these gaps: its number is raised by what each of them brought, and
 /// each number that it cites by what those brought whose number isn't above it. Nothing else of it
-/// changes. A number that would be above the greatest of 32 bits becomes that one, which a step of
-/// a proof that isn't as long never has. OutOfMemory comes only where memory is refused.
+/// changes. A number that would be above the greatest of 32 bits becomes that one. No step of a
+/// proof that isn't as long has it, so the verdicts are those on the step with the greater numbers.
+/// OutOfMemory comes only where memory is refused.
 pub fn renumbered(alloc: Global, gaps: &[FilledGap], step: &Step) -> Result<Step, OutOfMemory>
-    ensures { IfOk result (λ new. step_of new
+    ensures exact { IfOk result (λ new. step_of new
         ≡ held_step (filling.renumbered (map gap_of gaps.now) (step_of step.now))) }
+    ensures verdicts { IfOk result (λ new. HaveSameVerdicts (reason_of new.reason)
+        (filling.raised_reason (map gap_of gaps.now) (reason_of step.now.reason))) }
 {
     let reason = raised_reason(alloc, gaps, &step.reason)?;
     let (reason, judgement) = with(reason, step.judgement.copy(alloc))?;

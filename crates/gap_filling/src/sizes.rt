@@ -8,10 +8,10 @@ use crate::meters::Meter;
 use crate::steps::measure_steps;
 use theory_syntax::Step;
 
-/// The most steps of an offer.
+// The most steps of an offer.
 const MOST_STEPS: usize = 10_000;
 
-/// The most bytes of its text.
+// The most bytes of its text.
 const MOST_BYTES: usize = 1_048_576;
 
 /// Whether the steps have the sizes of an offer, in a theory of whatever version. Where they have,

@@ -53,7 +53,7 @@ fn measure_sort(meter: &mut Meter, sort: Sort)
     }
 }
 
-// Takes the room for numbers that are cited, each behind a mark.
+// Takes the room for numbers that are cited, each after a mark.
 fn measure_marked_numbers(meter: &mut Meter, numbers: &[u32])
     ensures { meter.new ≡ measured meter.old
         (marked (codes "(") (codes ",") (map number_lexemes numbers.now)) }
@@ -66,8 +66,8 @@ fn measure_marked_numbers(meter: &mut Meter, numbers: &[u32])
     }
 }
 
-// Takes the room for numbers that are cited, in brackets. Each has 32 bits, so it is in the range of
-// a literal.
+// Takes the room for numbers that are cited, in brackets. Each has 32 bits, so it is in the range
+// of a literal.
 fn measure_numbers(meter: &mut Meter, numbers: &[u32])
     ensures room { meter.new ≡ measured meter.old (in_brackets (map number_lexemes numbers.now)) }
     ensures small { citations_fit numbers.now ≡ true }

@@ -73,9 +73,9 @@ fn is_instance(
     requires earlier { AreCitable earlier.now }
     requires small { JudgementIsSmall (judgement_of step.now.judgement) }
     requires sorted { judgement_sorted (judgement_of step.now.judgement) ≡ true }
-    ensures exact { IfOk result (λ yes. IsTrue yes ↔ InstanceBy (procedures_of (theory_of theory.now))
-        (reason_of step.now.reason) (steps_in earlier.now)
-        (nameless_judgement (judgement_of step.now.judgement))) }
+    ensures exact { IfOk result (λ yes. IsTrue yes
+        ↔ InstanceBy (procedures_of (theory_of theory.now)) (reason_of step.now.reason)
+        (steps_in earlier.now) (nameless_judgement (judgement_of step.now.judgement))) }
     ensures kept { KeepsAll table.old table.new }
 {
     match &step.reason {
@@ -151,10 +151,10 @@ fn are_good(
     Ok(true)
 }
 
-/// Whether the steps of the proof from a place on may stand in the place of a gap of this judgement,
-/// whose number is that of the first of them, after those before that place. The proof is the one
-/// of the procedure, counted from 1; nothing is asked of the steps from the place on. The table keeps
-/// what each number stands for. OutOfMemory comes only where memory is refused.
+/// Whether the steps of the proof from a place on may stand in the place of a gap of this
+/// judgement, whose number is that of the first of them, after those before that place. The proof
+/// is the one of the procedure, counted from 1. Nothing is asked of the steps from the place on.
+/// The table keeps what each number stands for. OutOfMemory comes only where memory is refused.
 pub fn is_usable(
     alloc: Global,
     table: &mut Table,

@@ -11,6 +11,7 @@ abbrev pub invariant-loop-place : goal.invariant-loop-place
 invariant-loop-place l = record {
   walked : (f : ProcedureOf Named)
       → slice_get (theory_of l.theory).procedures (l.procedure - 1) ≡ Some f
-      → GoodAt (theory_of l.theory) f l.proof l.kept ↔ GoodAt (theory_of l.theory) f l.proof l.place;
+      → GoodAt (theory_of l.theory) f l.proof l.kept
+      ↔ GoodAt (theory_of l.theory) f l.proof l.place;
   kept : KeepsAll l.fn.table l.table;
 }
