@@ -14,6 +14,8 @@ mod copies;
 #[cfg(test)]
 mod entailments;
 #[cfg(test)]
+mod fillers;
+#[cfg(test)]
 mod formulas;
 #[cfg(test)]
 mod groves;

@@ -20,7 +20,7 @@ use Rattle.model_filling.proofs.WellFormed.{filled-formed}
 use Rattle.filled_theory_laws.proofs.WithoutLines.{formed-apart, variables-apart, count-apart}
 
 -- of two limits none is passed
-no-limit : (a b : Bool) (k l : LimitKind) → or_else (unless a k) (unless b l) ≡ None
+pub no-limit : (a b : Bool) (k l : LimitKind) → or_else (unless a k) (unless b l) ≡ None
     → (a ≡ true) × (b ≡ true)
 no-limit true true k l e = (refl, refl)
 no-limit true false k l e = absurd cc

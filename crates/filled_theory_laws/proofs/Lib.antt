@@ -12,3 +12,6 @@ pub mod OwnSorts
 pub mod OwnTheories
 pub mod WithoutLines
 pub mod FilledFiles
+pub mod Balance
+pub mod LowLines
+pub mod FileTexts

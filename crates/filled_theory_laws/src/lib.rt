@@ -1,9 +1,9 @@
 //! The texts of filled theories, with no Rust data. Promises that a filled theory can be written
-//! where the theory handed in could be, and that its text reads back. Stands on model_filling and
-//! model_round_trip.
+//! where the theory handed in could be, and that its text is a file, which reads back and is
+//! accepted. Stands on model_filling, model_round_trip and generator_laws.
 #![tactic(auto)]
 
-ghost use Rattle.std.specs.Prelude.{◌≡◌, ◌≤◌, List, None};
+ghost use Rattle.std.specs.Prelude.{◌≡◌, ◌≤◌, ℕ, List, None};
 ghost use Rattle.model_limits.specs.Limits.{standard_limits};
 ghost use Rattle.model_commands.specs.Each.{Each};
 ghost use Rattle.model_commands.specs.Theories.{Theory};
@@ -14,7 +14,7 @@ ghost use Rattle.model_grammar.specs.TheoryWriting.{theory_lines, theory_text};
 ghost use Rattle.model_round_trip.specs.Writable.{IsWritableTheory};
 ghost use Rattle.model_round_trip.specs.Literals.{LiteralsAreUtf8};
 ghost use Rattle.model_round_trip.specs.ReadBack.{without_lines, ReadsAs};
-ghost use Rattle.model_answers.specs.Texts.{theory_limit};
+ghost use Rattle.model_answers.specs.Texts.{theory_limit, IsFile};
 ghost use Rattle.rule_table.specs.Accepted.{IsAccepted};
 ghost use Rattle.model_filling.specs.Offers.{Voice};
 ghost use Rattle.model_filling.specs.Filled.{IsFilled, filled_limit};
@@ -51,4 +51,15 @@ pub fn what_reads_as_a_filled_theory_is_accepted()
     ensures within { (theory : Theory) (voices : List Voice) (t read : Theory)
         → IsFilled theory voices t → theory_limit theory ≡ None → filled_limit t ≡ None
         → without_lines read ≡ without_lines t → theory_limit read ≡ None }
+{}
+
+/// The text of a filled theory is a file, where the theory handed in was read from one, the filled
+/// one passes no limit, and its literals are UTF-8: the text spells a theory that is the filled one
+/// but for the lines of its steps, and that is accepted.
+pub fn the_text_of_a_filled_theory_is_an_accepted_file()
+    ensures { (bytes : List ℕ) (theory : Theory) (voices : List Voice) (t : Theory)
+        → IsFile bytes theory → IsFilled theory voices t → filled_limit t ≡ None
+        → Each LiteralsAreUtf8 (theory_lines t)
+        → (read : Theory) × IsFile (theory_text t) read
+        × (without_lines read ≡ without_lines t) × IsAccepted read }
 {}

@@ -17,7 +17,7 @@ use Rattle.assistant_laws.specs.FillingPlans.{filling_plan, plan_of_application,
 use Rattle.assistant_laws.specs.FormPlans.{tidied, absorbed, absorbed_roots, from_alone, tree_plan, forest_plan, grove_plan, sum_plan, sum_of, without_named, pass, to_front, in_order, form_plan, plan_by_form}
 use Rattle.assistant_laws.proofs.Forms.{absorbed_roots-sum}
 use Rattle.filling_laws.proofs.EachFormula.{IsGood, turned-good, by_way_of-good, conjuncts-good}
-use Rattle.filling_laws.proofs.Depths.{depth}
+use Rattle.model_filling.proofs.Depths.{depth}
 
 module _ (most : ℕ) where
   -- no more brackets than the most are open at once

@@ -11,10 +11,11 @@ use Rattle.assistant_laws.specs.Plans.{Plan, steps_of}
 use Rattle.assistant_laws.specs.ConjunctPlans.{plan_by_conjuncts}
 use Rattle.assistant_laws.specs.FillingPlans.{plan_by_filling}
 use Rattle.assistant_laws.specs.FormPlans.{plan_by_form}
-use Rattle.filling_laws.specs.TextBounds.{judgement_bytes, Nests}
+use Rattle.filling_laws.specs.TextBounds.{judgement_bytes}
+use Rattle.model_filling.specs.Nested.{Nests}
 use Rattle.filling_laws.proofs.EachFormula.{some-good}
 use Rattle.filling_laws.proofs.Widths.{entails-short, short-entails}
-use Rattle.filling_laws.proofs.Depths.{entails-nests, nests-entails}
+use Rattle.model_filling.proofs.Depths.{entails-nests, nests-entails}
 use Rattle.filling_laws.proofs.ShortPlans as S
 use Rattle.filling_laws.proofs.ShallowPlans as D
 

@@ -17,7 +17,8 @@ ghost use Rattle.assistant_laws.specs.FillingPlans.{plan_by_filling};
 ghost use Rattle.model_filling.specs.Sizes.{IsSized};
 ghost use Rattle.model_filling.specs.Usable.{IsUsable};
 ghost use Rattle.model_round_trip.specs.Writable.{IsWritableJudgement};
-ghost use Rattle.filling_laws.specs.TextBounds.{judgement_bytes, Nests};
+ghost use Rattle.filling_laws.specs.TextBounds.{judgement_bytes};
+ghost use Rattle.model_filling.specs.Nested.{Nests};
 ghost use Rattle.filling_laws.specs.TermsIn.{terms_of_sides};
 
 /// What an assistant gives for a gap that is well formed in its file is usable, if it is sized.

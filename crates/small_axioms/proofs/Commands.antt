@@ -63,7 +63,8 @@ own-again k.Remove x l e f = refl
 own-again k.InsertBefore x l e f = refl
 
 -- THE COMMAND that letters make is of the kind, and they are its terms
-pub kind-self : (kind : Kind) (x : ProgVar) (l : Letters) → is_kind kind (command_at kind x l) ≡ true
+pub kind-self : (kind : Kind) (x : ProgVar) (l : Letters)
+    → is_kind kind (command_at kind x l) ≡ true
 kind-self k.Create x l = refl
 kind-self k.Name x l = refl
 kind-self k.Children x l = refl

@@ -3,7 +3,6 @@ use Rattle.std.proofs.Common.{◌≡◌, refl, sym, ap, ◌∙◌, subst, inl, i
 use Rattle.std.proofs.lemmas.Bool.{ne_eqb, or_cases, or_left, or_right}
 use Rattle.model_shapes.specs.Sorts.{DataSort}
 use Rattle.model_shapes.proofs.Truth.{false≢true}
-use Rattle.model_terms.specs.Terms.{Term}
 use Rattle.model_formulas.specs.Formulas.{Formula}
 use Rattle.model_commands.specs.Commands.{Command}
 use Rattle.model_commands.specs.Theories.{Judgement, Step, triple}
@@ -11,7 +10,7 @@ use Rattle.rule_table.specs.Accepted.{judgement_numbered, in_front, cited}
 use Rattle.rule_table.specs.Conditions.{assigned_side}
 use Rattle.rule_table.specs.Entries.{Row}
 use Rattle.rule_table.specs.Lines.{Line}
-use Rattle.rule_table.specs.Verdicts.{Written, Concludes, Follows, MeetsFirst, MeetsAll, SomeLine, side_at, IsVerdict, shape_verdict}
+use Rattle.rule_table.specs.Verdicts.{Written, Concludes, Follows, MeetsFirst, MeetsAll, SomeLine, side_at, IsVerdict}
 use Rattle.dom_terms.specs.Terms.{term_of}
 use Rattle.dom_terms.specs.declared.terms.Term as terms
 use Rattle.letter_bindings.specs.Bodies.{BindsSorted}

@@ -47,7 +47,8 @@ module _ (row : Row) (a : AxiomPattern) (tie : IsTied row a) where
   pub plain : (l : Letters) → row l ≡ line_for (row l).conclusion
   plain l = tie.again l l.v ∙ sym (ap (λ line. line_for line.conclusion) (tie.again l l.v))
 
-  module _ (c : Command) (p q : Formula) (d : DataSort) (sorted : BindsSorted p × BindsSorted q) where
+  module _ (c : Command) (p q : Formula) (d : DataSort)
+      (sorted : BindsSorted p × BindsSorted q) where
     abbrev j : Judgement
     j = triple p c q d
 

@@ -18,14 +18,9 @@ name_in (conjunction p (equality a b)) = Some b
 name_in p = None
 
 -- (exists $m . [T#x[0f]%$m]), from T and x
-abbrev pub no_trees : Formula
-no_trees = empty forest
-
 abbrev pub new_node : Term → Term → Formula
-new_node t x = node_formula (raised t) x no_trees (variable (bound zero (value list_sort)))
-
-abbrev pub root_of_new : Term → Term → Formula
-root_of_new t x = one_root (new_node t x)
+new_node t x =
+    node_formula (raised t) x (empty forest) (variable (bound zero (value list_sort)))
 
 abbrev pub new_root : Term → Term → Formula
-new_root t x = existential (value list_sort) (root_of_new t x)
+new_root t x = existential (value list_sort) (one_root (new_node t x))

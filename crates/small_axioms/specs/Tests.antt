@@ -87,7 +87,8 @@ verdict_where true false assigned = premises_verdict
 verdict_where true true false = instance_verdict
 verdict_where true true true = side_verdict assigned_side
 
--- THE VERDICT on the judgement by the axiom of that name, at any step without arguments that cites nothing or something
+-- THE VERDICT on the judgement by the axiom of that name, at any step that has no arguments and
+-- cites nothing or something
 abbrev pub IsVerdictAt : Name → Bool → Judgement → Verdict → Type 0
 IsVerdictAt name cites_nothing j v = (premises : Option (List Judgement))
     → IsTrue cites_nothing ↔ (Some [] ≡ premises)

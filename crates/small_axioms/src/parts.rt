@@ -1,6 +1,8 @@
 // The parts of written formulas of which side conditions speak, and the formula after createNode.
 ghost use Rattle.std.specs.Prelude.{◌≡◌};
 ghost use Rattle.std.specs.Option.{option_map};
+ghost use Rattle.model_shapes.specs.Sorts.{forest};
+ghost use Rattle.model_formulas.specs.Formulas.{empty};
 ghost use Rattle.model_formulas.specs.SameFormulas.{same_formula};
 ghost use Rattle.formula_table.specs.Forms.{form_at, term_at};
 ghost use Rattle.small_axioms.specs.Parts as parts;
@@ -42,22 +44,12 @@ pub(crate) fn is_new_root(table: &Table, name: u32, x: u32, number: u32) -> bool
         (parts.new_root (term_at table.now name) (term_at table.now x))
         (form_at table.now number) }
 {
-    let row = table.form(number);
-    match row.head {
-        Head::Exists(sort) => { same_sort(LIST, sort) && is_root_of_new(table, name, x, row.left) }
-        _ => false,
-    }
-}
-
-// whether the formula is `[T#x[0f]%$m]`, below the binder of `$m`
-fn is_root_of_new(table: &Table, name: u32, x: u32, number: u32) -> bool
-    ensures { result ≡ same_formula
-        (parts.root_of_new (term_at table.now name) (term_at table.now x))
-        (form_at table.now number) }
-{
-    let row = table.form(number);
-    match row.head {
-        Head::Root => is_new_node(table, name, x, row.left),
+    let quantified = table.form(number);
+    let root = table.form(quantified.left);
+    match (quantified.head, root.head) {
+        (Head::Exists(sort), Head::Root) => {
+            same_sort(LIST, sort) && is_new_node(table, name, x, root.left)
+        }
         _ => false,
     }
 }
@@ -82,7 +74,7 @@ fn is_new_node(table: &Table, name: u32, x: u32, number: u32) -> bool
 
 // whether the formula is `0f`
 fn is_empty_forest(table: &Table, number: u32) -> bool
-    ensures { result ≡ same_formula parts.no_trees (form_at table.now number) }
+    ensures { result ≡ same_formula (empty forest) (form_at table.now number) }
 {
     matches!(table.form(number).head, Head::EmptyForest)
 }

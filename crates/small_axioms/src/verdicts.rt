@@ -8,7 +8,6 @@ ghost use Rattle.dom_terms.specs.Sorts.{data_sort_of};
 ghost use Rattle.dom_terms.specs.Terms.{term_of};
 ghost use Rattle.formula_table.specs.Forms.{form_at};
 ghost use Rattle.formula_table.specs.Interning.{KeepsAll};
-ghost use Rattle.numbered_formulas.specs.Variables.{unbound_at};
 ghost use Rattle.row_patterns.specs.Verdicts.{verdict_in};
 ghost use Rattle.row_walks.specs.Views.{known_at};
 ghost use Rattle.theory_syntax.specs.Commands.{command_of};
@@ -85,22 +84,8 @@ fn fits_one(table: &Table, rows: &[AxiomRow], command: &Command, known: &Known, 
     }
 }
 
-// Whether the variable stands in what a command finds there: in the name of the node that it
-// creates, and else in the node that stays as it is.
-fn sets_letters(table: &Table, command: &Command, x: Unbound, said: Said) -> bool
-    ensures { result ≡ tests.sets_letters (command_of command.now) (unbound_at table.now x)
-        (form_at table.now said.pre) (form_at table.now said.post) }
-{
-    match command {
-        Command::Create(_, _) => match name_in(table, said.pre) {
-            Some(name) => is_in_term(table, x, name),
-            None => false,
-        },
-        _ => stands_free(table, x, held(table, said.post)),
-    }
-}
-
-// The same of the variable that the command sets, if it sets one.
+// Whether the command sets a variable that stands in what it finds there: in the name of the node
+// that it creates, and else in the node that stays as it is.
 fn is_assigned(table: &Table, command: &Command, known: &Known, said: Said) -> bool
     ensures { result ≡ tests.is_assigned (command_of command.now) (known_at table.now known.now)
         (form_at table.now said.pre) (form_at table.now said.post) }
@@ -108,9 +93,14 @@ fn is_assigned(table: &Table, command: &Command, known: &Known, said: Said) -> b
     let Some(x) = known.terms.n else {
         return false;
     };
-    match table.term(x) {
-        TermRow::Prog(name, sort) => sets_letters(table, command, Unbound::Prog(name, sort), said),
-        _ => false,
+    let TermRow::Prog(name, sort) = table.term(x) else {
+        return false;
+    };
+    let x = Unbound::Prog(name, sort);
+    match (command, name_in(table, said.pre)) {
+        (Command::Create(_, _), None) => false,
+        (Command::Create(_, _), Some(name)) => is_in_term(table, x, name),
+        _ => stands_free(table, x, held(table, said.post)),
     }
 }
 
@@ -172,9 +162,9 @@ fn verdict_of(
     }
 }
 
-/// The verdict on a triple by the axiom of that name, with these citations and arguments, whatever steps stand
-/// before it. An axiom has neither premises nor arguments; a name of no
-/// axiom has no lines: its verdict is that the conclusion doesn't fit. The formulas are numbered in the table,
+/// The verdict on a triple by the axiom of that name, with these citations and arguments, whatever
+/// steps stand before it. An axiom has neither premises nor arguments; a name of no axiom has no
+/// lines: its verdict is that the conclusion doesn't fit. The formulas are numbered in the table,
 /// whose numbers keep their meaning. OutOfMemory comes only where memory is refused or 32 bits
 /// don't number the formulas.
 pub fn axiom_verdict(

@@ -17,5 +17,6 @@ returns-in-Some-clause-exact c =
 pub returns-in-None-clause-exact : goal.returns-in-None-clause-exact
 returns-in-None-clause-exact c =
     let ps = procedures_in c.args.callees.procedures.now in
-    subst (λ rows. IsVerdict rows (written_in c.args.written.now) (verdict_in c.axiom_by.result))
-    (sym (c.in-None.ensures ps)) c.axiom_by.ensures
+    subst (λ rows. IfOk c.axiom_by.result
+    (λ v. IsVerdict rows (written_in c.args.written.now) (verdict_in v)))
+    (sym (c.in-None.ensures ps)) c.axiom_by.ensures.exact

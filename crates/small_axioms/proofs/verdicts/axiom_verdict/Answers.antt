@@ -12,12 +12,14 @@ use Rattle.small_axioms.proofs.verdicts.axiom_verdict.Goals as goal
 
 pub returns-clause-exact : goal.returns-clause-exact
 returns-clause-exact c =
+    let numbers = c.args.citations.now in
+    let none = no-arguments c.args.arguments.now (sym c.if-not-is_empty.ensures) in
     λ earlier. IfOk-weaker c.verdict_of.result _ _
     (λ verdict h. subst (λ (es : List Term). IsVerdict (readings_in axioms c.args.name.now)
     (record {
       arguments = es;
-      premises = cited earlier c.args.citations.now;
+      premises = cited earlier numbers;
       conclusion = judgement_of c.args.triple.now;
-    }) (verdict_in verdict)) (sym (no-arguments c.args.arguments.now (sym c.if-not-is_empty.ensures)))
-    (h (cited earlier c.args.citations.now) (cites-none earlier c.args.citations.now _ c.is_empty-2.ensures)))
+    }) (verdict_in verdict)) (sym none)
+    (h (cited earlier numbers) (cites-none earlier numbers _ c.is_empty-2.ensures)))
     c.verdict_of.ensures.ok

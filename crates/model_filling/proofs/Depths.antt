@@ -12,7 +12,7 @@ use Rattle.model_text.specs.Nesting.{open_behind}
 use Rattle.model_grammar.specs.Words.{the, ◌⌢◌}
 use Rattle.model_grammar.specs.Writing.{var_lexemes, term_lexemes, bracketed}
 use Rattle.model_grammar.specs.TheoryWriting.{empty_sign, hole_sign, star_sign, at_sign, into_sign, formula_lexemes, sort_lexemes, judgement_lexemes}
-use Rattle.filling_laws.specs.TextBounds.{IsNested, Nests}
+use Rattle.model_filling.specs.Nested.{IsNested, Nests}
 
 abbrev pub term_depth : Term → ℕ
 term_depth (sum a b) = suc (max (term_depth a) (term_depth b))
@@ -48,20 +48,20 @@ depth (length_is a) = term_depth a
 depth (value_meets s a p) = suc (max (term_depth a) (depth p))
 
 -- The lexemes close what they open, and so many brackets are open in them at once.
-record HasDepth (d : ℕ) (xs : List Lexeme) : Type 0 where
-  nests : (most before : ℕ) (rest : List Lexeme) → before + d ≤ most → IsNested most before rest
+pub record HasDepth (d : ℕ) (xs : List Lexeme) : Type 0 where
+  pub nests : (most before : ℕ) (rest : List Lexeme) → before + d ≤ most → IsNested most before rest
       → IsNested most before (xs ++ rest)
-  tells : (most before : ℕ) (rest : List Lexeme) → before ≤ most
+  pub tells : (most before : ℕ) (rest : List Lexeme) → before ≤ most
       → IsNested most before (xs ++ rest) → (before + d ≤ most) × IsNested most before rest
 
-no-lexeme : HasDepth 0 []
+pub no-lexeme : HasDepth 0 []
 no-lexeme = record {
   nests = λ most before rest le h. h;
   tells = λ most before rest le h. (omega (arith, le), h);
 }
 
 -- one that is no bracket
-one-lexeme : (x : Lexeme) → ((before : ℕ) → open_behind before x ≡ before) → HasDepth 0 (x ∷ [])
+pub one-lexeme : (x : Lexeme) → ((before : ℕ) → open_behind before x ≡ before) → HasDepth 0 (x ∷ [])
 one-lexeme x same = record {
   nests = λ most before rest le h. (
     omega (arith, same before, le),
@@ -71,12 +71,12 @@ one-lexeme x same = record {
       (omega (arith, le), subst (λ n. IsNested most n rest) (same before) h.1);
 }
 
-word : (text : List ℕ) → ((before : ℕ) → open_behind before (terminal text) ≡ before)
+pub word : (text : List ℕ) → ((before : ℕ) → open_behind before (terminal text) ≡ before)
     → HasDepth 0 (terminal text ∷ [])
 word text = one-lexeme (terminal text)
 
 -- two lists
-two : (a b : ℕ) (xs ys : List Lexeme) → HasDepth a xs → HasDepth b ys
+pub two : (a b : ℕ) (xs ys : List Lexeme) → HasDepth a xs → HasDepth b ys
     → HasDepth (max a b) (xs ++ ys)
 two a b xs ys h k = record {
   nests = λ most before rest le n. subst (IsNested most before) (sym (append_assoc xs ys rest))
@@ -90,13 +90,13 @@ two a b xs ys h k = record {
 }
 
 -- one after another that has no bracket
-then-one : (a : ℕ) (x : Lexeme) (xs : List Lexeme) → HasDepth 0 (x ∷ []) → HasDepth a xs
+pub then-one : (a : ℕ) (x : Lexeme) (xs : List Lexeme) → HasDepth 0 (x ∷ []) → HasDepth a xs
     → HasDepth a (x ∷ xs)
 then-one a x xs h k =
     subst (λ d. HasDepth d (x ∷ xs)) (omega arith) (two 0 a (x ∷ []) xs h k)
 
 -- brackets round a list, and what comes after them
-in-brackets : (a b : ℕ) (opening closing : Lexeme) (xs ys : List Lexeme)
+pub in-brackets : (a b : ℕ) (opening closing : Lexeme) (xs ys : List Lexeme)
     → ((before : ℕ) → open_behind before opening ≡ before + 1)
     → ((before : ℕ) → open_behind before closing ≡ before - 1) → HasDepth a xs → HasDepth b ys
     → HasDepth (max (suc a) b) (opening ∷ (xs ++ (closing ∷ ys)))
@@ -122,7 +122,7 @@ in-brackets a b opening closing xs ys up down h k = record {
 }
 
 -- one list alone in brackets
-bracketed-depth : (a : ℕ) (opening closing : Lexeme) (xs : List Lexeme)
+pub bracketed-depth : (a : ℕ) (opening closing : Lexeme) (xs : List Lexeme)
     → ((before : ℕ) → open_behind before opening ≡ before + 1)
     → ((before : ℕ) → open_behind before closing ≡ before - 1) → HasDepth a xs
     → HasDepth (suc a) (opening ∷ (xs ++ (closing ∷ [])))
@@ -131,14 +131,14 @@ bracketed-depth a opening closing xs up down h =
     (in-brackets a 0 opening closing xs [] up down h no-lexeme)
 
 -- two with a sign between them
-signed : (a b : ℕ) (left sign right : List Lexeme) → HasDepth a left → HasDepth 0 sign
+pub signed : (a b : ℕ) (left sign right : List Lexeme) → HasDepth a left → HasDepth 0 sign
     → HasDepth b right → HasDepth (max a b) (left ++ (sign ++ right))
 signed a b left sign right h s k =
     subst (λ d. HasDepth d (left ++ (sign ++ right))) (omega arith)
     (two a (max 0 b) left (sign ++ right) h (two 0 b sign right s k))
 
 -- and both in round brackets
-round : (a b : ℕ) (left sign right : List Lexeme) → HasDepth a left → HasDepth 0 sign
+pub round : (a b : ℕ) (left sign right : List Lexeme) → HasDepth a left → HasDepth 0 sign
     → HasDepth b right → HasDepth (suc (max a b)) (bracketed left sign right)
 round a b left sign right h s k =
     subst (λ (l : List Lexeme). HasDepth (suc (max a b)) (terminal (codes "(") ∷ l))
@@ -148,7 +148,7 @@ round a b left sign right h s k =
     (left ++ (sign ++ right)) (λ before. refl) (λ before. refl) (signed a b left sign right h s k))
 
 -- TERMS
-var-depth : (x : Var) → HasDepth 0 (var_lexemes x)
+pub var-depth : (x : Var) → HasDepth 0 (var_lexemes x)
 var-depth (prog name s) = one-lexeme (name_lexeme name) (λ before. refl)
 var-depth (logic name s) = one-lexeme (logic_lexeme name) (λ before. refl)
 var-depth (bound i s) = no-lexeme
@@ -163,7 +163,7 @@ braces a b left sign right h s k =
     (bracketed-depth (max a b) (terminal (codes "{")) (terminal (codes "}"))
     (left ++ (sign ++ right)) (λ before. refl) (λ before. refl) (signed a b left sign right h s k))
 
-term-depth : (a : Term) → HasDepth (term_depth a) (term_lexemes a)
+pub term-depth : (a : Term) → HasDepth (term_depth a) (term_lexemes a)
 term-depth (literal null) = word (codes "null") (λ before. refl)
 term-depth (literal nolist) = word (codes "nolist") (λ before. refl)
 term-depth (literal (node_number n)) = no-lexeme
@@ -229,7 +229,7 @@ binder-depth kind plain x a inner h =
     (two 0 a (var_lexemes x) (terminal (codes ".") ∷ inner) (var-depth x)
     (then-one a (terminal (codes ".")) inner (word (codes ".") (λ before. refl)) h)))))
 
-formula-depth : (p : Named) → HasDepth (depth p) (formula_lexemes p)
+pub formula-depth : (p : Named) → HasDepth (depth p) (formula_lexemes p)
 formula-depth truth = word (codes "true") (λ before. refl)
 formula-depth falsity = word (codes "false") (λ before. refl)
 formula-depth (conjunction p q) =
@@ -300,10 +300,10 @@ formula-depth (value_meets s a p) =
     (word (codes "is") (λ before. refl)) (formula-depth p)
 
 -- JUDGEMENTS
-name-depth : (name : List ℕ) → HasDepth 0 (name_lexeme name ∷ [])
+pub name-depth : (name : List ℕ) → HasDepth 0 (name_lexeme name ∷ [])
 name-depth name = one-lexeme (name_lexeme name) (λ before. refl)
 
-sort-depth : (s : Sort) → HasDepth 0 (sort_lexemes s)
+pub sort-depth : (s : Sort) → HasDepth 0 (sort_lexemes s)
 sort-depth (value node_sort) = name-depth (codes "node")
 sort-depth (value list_sort) = name-depth (codes "list")
 sort-depth (value int_sort) = name-depth (codes "int")
