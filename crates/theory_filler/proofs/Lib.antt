@@ -1,0 +1,6 @@
+pub mod Gaps
+pub mod Places
+pub mod Citations
+pub mod Written
+pub mod Filled
+pub mod WholeWalks
