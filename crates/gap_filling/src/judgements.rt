@@ -92,7 +92,7 @@ fn same_judgement(alloc: Global, left: &Judgement, right: &Judgement) -> Result<
 }
 
 /// Whether the last of the steps has the judgement.
-pub(crate) fn ends_in(
+pub fn ends_in(
     alloc: Global,
     steps: &[Step],
     judgement: &Judgement,

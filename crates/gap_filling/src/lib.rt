@@ -17,6 +17,7 @@ mod steps;
 mod terms;
 mod usable;
 
+pub use judgements::ends_in;
 pub use limits::filled_limit;
 pub use renumbering::{FilledGap, renumbered};
 pub use usable::{is_usable, take_usable};
