@@ -4,3 +4,5 @@ pub mod Citations
 pub mod Written
 pub mod Filled
 pub mod WholeWalks
+pub mod Ends
+pub mod Outcomes
