@@ -84,8 +84,11 @@ fn ends_well(alloc: Global, procedure: &Procedure, proof: &[Step]) -> Result<boo
     ends_in(alloc, proof, &own)
 }
 
-/// The filled proof of the procedure, the one of the theory with this number, counted from 1.
-pub(crate) fn fill_proof<F: Fillers>(
+/// The filled proof of the procedure, the one of the theory with this number, counted from 1. The
+/// first place of the proof that fails comes exactly where there is one: Fails and Gap with the
+/// step as it is numbered there, NoProof where the filled proof doesn't end in the procedure's own
+/// triple. Limit never comes. OutOfMemory comes only where memory is refused.
+pub fn fill_proof<F: Fillers>(
     alloc: Global,
     table: &mut Table,
     theory: &Theory,
