@@ -1,11 +1,10 @@
 // Gaps of proofs: what an assistant offers for one, and whether an offer may stand there.
 ghost use Rattle.std.specs.Prelude.{◌≡◌, ◌≤◌, ◌<◌, true, length, IfOk};
-ghost use Rattle.assistant_laws.specs.Bounds.{parts_of};
 ghost use Rattle.formula_syntax.specs.Formulas.{formula_of, side_of};
 ghost use Rattle.model_formulas.specs.Formulas.{concatenation, empty};
 ghost use Rattle.model_shapes.specs.Sorts.{forest};
 ghost use Rattle.model_files.specs.FileFaults.{judgement_sorted};
-ghost use Rattle.model_files.specs.Sizes.{TheoryIsSmall};
+ghost use Rattle.model_files.specs.Sizes.{JudgementIsSmall, TheoryIsSmall};
 ghost use Rattle.theory_syntax.specs.Judgements.{judgement_of};
 ghost use Rattle.theory_syntax.specs.Theories.{theory_of};
 
@@ -25,7 +24,7 @@ const GROVE: Sort = Sort::Shape(DataSort::Grove);
 // `(0g and true) entails 0g at g`
 fn obvious(alloc: Global) -> Result<Judgement, OutOfMemory>
     ensures sorted { IfOk result (λ j. judgement_sorted (judgement_of j) ≡ true) }
-    ensures small { IfOk result (λ j. parts_of (judgement_of j) < 4294967295) }
+    ensures small { IfOk result (λ j. JudgementIsSmall (judgement_of j)) }
 {
     let empty = Box::new(alloc, Formula::EmptyGrove)?;
     let (empty, yes) = with(empty, Box::new(alloc, Formula::True))?;
@@ -47,7 +46,7 @@ fn beside(alloc: Global, side: Side, first: Formula) -> Result<Formula, OutOfMem
 // `((?f .* 0f) @f 0f) entails (0f * 0f) at f`
 fn filled(alloc: Global) -> Result<Judgement, OutOfMemory>
     ensures sorted { IfOk result (λ j. judgement_sorted (judgement_of j) ≡ true) }
-    ensures small { IfOk result (λ j. parts_of (judgement_of j) < 4294967295) }
+    ensures small { IfOk result (λ j. JudgementIsSmall (judgement_of j)) }
 {
     let context = beside(alloc, Side::HoleLeft, Formula::Hole(DataSort::Forest))?;
     let context = Box::new(alloc, context)?;
@@ -61,7 +60,7 @@ fn filled(alloc: Global) -> Result<Judgement, OutOfMemory>
 // `true entails 0g at g`
 fn unproved() -> Judgement
     ensures sorted { judgement_sorted (judgement_of result) ≡ true }
-    ensures small { parts_of (judgement_of result) < 4294967295 }
+    ensures small { JudgementIsSmall (judgement_of result) }
 {
     let (left, right) = (Formula::True, Formula::EmptyGrove);
     let sort = GROVE;

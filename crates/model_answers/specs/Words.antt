@@ -7,8 +7,8 @@ use Rattle.model_generator.specs.Made.{most_makers}
 
 -- a request, with the words that it names
 pub data Request : Type 0 where
-  -- a file
-  check : List ℕ → Request
+  -- a file: it is checked, or its gaps are filled
+  check fill : List ℕ → Request
   -- a file, a procedure, a document, the fuel and the arguments
   run : List ℕ → List ℕ → List ℕ → ℕ → List (List ℕ) → Request
   -- the number of procedures of a generated theory: it is printed, or tried
@@ -21,10 +21,10 @@ decimal_of most (first ∷ rest) =
     cond (is_number (first ∷ rest) && nat_le (digits_value 10 (first ∷ rest)) most)
     (Some (digits_value 10 (first ∷ rest))) None
 
--- the form `check FILE`
-abbrev pub check_of : List (List ℕ) → Option Request
-check_of (file ∷ []) = Some (check file)
-check_of words = None
+-- the forms `check FILE` and `fill FILE`
+abbrev pub file_of : (List ℕ → Request) → List (List ℕ) → Option Request
+file_of form (file ∷ []) = Some (form file)
+file_of form words = None
 
 -- the form `run FILE PROC DOC FUEL ARG*`
 abbrev pub run_of : List (List ℕ) → Option Request
@@ -46,7 +46,8 @@ count_of form words = None
 -- THE READING of the words; nothing else has one
 abbrev pub reading_of : List (List ℕ) → Option Request
 reading_of [] = None
-reading_of (command ∷ words) = cond (bytes_eq command (codes "check")) (check_of words)
+reading_of (command ∷ words) = cond (bytes_eq command (codes "check")) (file_of check words)
     (cond (bytes_eq command (codes "run")) (run_of words)
+    (cond (bytes_eq command (codes "fill")) (file_of fill words)
     (cond (bytes_eq command (codes "make")) (count_of make words)
-    (cond (bytes_eq command (codes "trial")) (count_of trial words) None)))
+    (cond (bytes_eq command (codes "trial")) (count_of trial words) None))))

@@ -1,5 +1,4 @@
--- Needn't be believed: the program's promise doesn't speak of it. FILLED THEORIES: what comes of
--- filling the gaps of a theory.
+-- FILLED THEORIES: what comes of filling the gaps of a theory.
 use Rattle.std.specs.Prelude.{ℕ, suc, nat_le, List, [], ◌∷◌, length, Option}
 use Rattle.model_limits.specs.Limits.{LimitKind, file_limit, steps_limit, standard_limits}
 use Rattle.model_limits.specs.FirstOf.{or_else, unless}

@@ -1,4 +1,4 @@
--- Needn't be believed: the program's promise doesn't speak of it. The limits of an offer.
+-- The limits of an offer.
 use Rattle.std.specs.Prelude.{ℕ}
 
 -- the most steps of an offer, and the most bytes of its text

@@ -1,4 +1,4 @@
--- Needn't be believed: the program's promise doesn't speak of it. How large an offer may be.
+-- How large an offer may be.
 use Rattle.std.specs.Prelude.{◌≡◌, ◌≤◌, ℕ, suc, Bool, true, ◌&&◌, nat_le, List, length, map, pos, negsuc, None}
 use Rattle.std.specs.List.{list_all}
 use Rattle.model_limits.specs.Limits.{standard_limits}

@@ -1,5 +1,4 @@
--- Needn't be believed: the program's promise doesn't speak of it. Which offers may stand in the
--- place of a gap.
+-- Which offers may stand in the place of a gap.
 use Rattle.std.specs.Prelude.{◌≡◌, ℕ, List, Some, None, map}
 use Rattle.model_formulas.specs.Formulas.{Named}
 use Rattle.model_commands.specs.Each.{Each}

@@ -1,8 +1,9 @@
 // Requests.
-ghost use Rattle.std.specs.Prelude.{◌≡◌, ◌≤◌, ℕ, IfOk, IfSome, map, string_bytes};
+ghost use Rattle.std.specs.Prelude.{◌≡◌, ◌≤◌, ℕ, List, [], ◌∷◌, None};
+ghost use Rattle.std.specs.Prelude.{IfOk, IfSome, IsErrOf, map, string_bytes};
 ghost use Rattle.std.specs.Option.{option_map};
 ghost use Rattle.model_answers.specs.Words as model;
-ghost use Rattle.model_answers.specs.Words.{check_of, run_of, count_of, reading_of};
+ghost use Rattle.model_answers.specs.Words.{file_of, run_of, count_of, reading_of};
 ghost use Rattle.model_generator.specs.Made.{most_makers};
 ghost use Rattle.request_words.specs.Requests.{Reads, Counts};
 ghost use Rattle.request_words.specs.declared.requests.WordFault.TheVariants.{OutOfMemory};
@@ -35,6 +36,11 @@ pub enum Request {
         fuel: u32,
         /// The words of the arguments.
         arguments: Texts,
+    },
+    /// `fill FILE`
+    Fill {
+        /// The name of the file.
+        file: Text,
     },
     /// `make N`
     Make {
@@ -82,6 +88,11 @@ impl Copied for Request {
                     arguments: arguments.copy(alloc)?,
                 })
             }
+            Self::Fill { file } => {
+                Ok(Self::Fill {
+                    file: file.copy(alloc)?,
+                })
+            }
             Self::Make { count } => Ok(Self::Make { count: *count }),
             Self::Trial { count } => Ok(Self::Trial { count: *count }),
         }
@@ -116,16 +127,34 @@ fn texts(alloc: Global, words: &[String]) -> Result<Texts, OutOfMemory>
     Ok(texts)
 }
 
-// The words behind `check`.
-fn read_check(alloc: Global, words: &[String]) -> Result<Request, WordFault>
-    ensures reading { Reads result (check_of (map string_bytes words.now)) }
-    ensures counts { IfOk result Counts }
+// The name of the file behind `check` or `fill`.
+fn file_name(alloc: Global, words: &[String]) -> Result<Text, WordFault>
+    ensures named { IfOk result (λ file. map string_bytes words.now ≡ file ∷ []) }
+    ensures none { IsErrOf result WordFault.BadWords → (form : List ℕ → model.Request)
+        → file_of form (map string_bytes words.now) ≡ None }
 {
     let [file] = words else {
         return Err(WordFault::BadWords);
     };
-    let file = Text::from_str(alloc, file.as_str())?;
+    Ok(Text::from_str(alloc, file.as_str())?)
+}
+
+// The words behind `check`.
+fn read_check(alloc: Global, words: &[String]) -> Result<Request, WordFault>
+    ensures reading { Reads result (file_of model.check (map string_bytes words.now)) }
+    ensures counts { IfOk result Counts }
+{
+    let file = file_name(alloc, words)?;
     Ok(Request::Check { file })
+}
+
+// The words behind `fill`.
+fn read_fill(alloc: Global, words: &[String]) -> Result<Request, WordFault>
+    ensures reading { Reads result (file_of model.fill (map string_bytes words.now)) }
+    ensures counts { IfOk result Counts }
+{
+    let file = file_name(alloc, words)?;
+    Ok(Request::Fill { file })
 }
 
 // The words behind `run`.
@@ -197,6 +226,7 @@ pub fn read_words(alloc: Global, words: &[String]) -> Result<Request, WordFault>
     match command.as_str() {
         "check" => read_check(alloc, words),
         "run" => read_run(alloc, words),
+        "fill" => read_fill(alloc, words),
         "make" => read_make(words),
         "trial" => read_trial(words),
         _ => Err(WordFault::BadWords),

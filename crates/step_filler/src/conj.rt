@@ -2,7 +2,7 @@
 ghost use Rattle.std.specs.Prelude.{◌≡◌, ◌≤◌, ◌<◌, IfOk, map};
 ghost use Rattle.model_formulas.specs.Nameless.{nameless};
 ghost use Rattle.model_formulas.specs.Parts.{parts};
-ghost use Rattle.assistant_laws.specs.Bounds.{parts_of};
+ghost use Rattle.model_files.specs.Sizes.{JudgementIsSmall};
 ghost use Rattle.assistant_laws.specs.Conjuncts.{has_conjuncts_of};
 ghost use Rattle.assistant_laws.specs.ConjunctPlans as plans;
 ghost use Rattle.assistant_laws.specs.ConjunctPlans.{plan_by_conjuncts};
@@ -134,7 +134,7 @@ fn steps_for(alloc: Global, number: u32, asked: &Entailment) -> Result<Steps, Ou
 
 // What is offered for the judgement.
 fn offer(alloc: Global, number: u32, judgement: &Judgement) -> Result<Option<Steps>, OutOfMemory>
-    requires small { parts_of (judgement_of judgement.now) < 4294967295 }
+    requires small { JudgementIsSmall (judgement_of judgement.now) }
     requires number { number ≤ 4000000000 }
     ensures { IfOk result (λ steps. offered steps
         ≡ offer_of (plan_by_conjuncts (judgement_of judgement.now)) number) }

@@ -9,7 +9,7 @@ ghost use Rattle.model_files.specs.FileFaults.{judgement_sorted};
 ghost use Rattle.model_filling.specs.Sizes.{IsSized};
 ghost use Rattle.assistant_laws.specs.Obvious.{is_obvious_by_filling};
 ghost use Rattle.assistant_laws.specs.Proposals.{Proves};
-ghost use Rattle.assistant_laws.specs.Bounds.{parts_of};
+ghost use Rattle.model_files.specs.Sizes.{JudgementIsSmall};
 ghost use Rattle.assistant_laws.specs.ConjunctPlans.{same_named};
 ghost use Rattle.assistant_laws.specs.Fillings.{filling, fills, shows_its_hole};
 ghost use Rattle.assistant_laws.specs.FillingPlans.{plan_by_filling, plan_of_application};
@@ -131,7 +131,7 @@ fn steps_for(
 
 // What is offered for the judgement.
 fn offer(alloc: Global, number: u32, judgement: &Judgement) -> Result<Option<Steps>, OutOfMemory>
-    requires small { parts_of (judgement_of judgement.now) < 4294967295 }
+    requires small { JudgementIsSmall (judgement_of judgement.now) }
     requires number { number ≤ 4000000000 }
     ensures { IfOk result (λ steps. offered steps
         ≡ offer_of (plan_by_filling (judgement_of judgement.now)) number) }
