@@ -1,9 +1,8 @@
--- Needn't be believed: the program's promise doesn't speak of it. What is answered where fillers
--- are asked for the steps of a gap.
-use Rattle.std.specs.Prelude.{◌≡◌, ℕ, ◌+◌, ◌-◌, Bool, true, false, List, ◌++◌, Some, None, length, map, slice_get}
+-- What is answered where fillers are asked for the steps of a gap, and what they are after that.
+use Rattle.std.specs.Prelude.{◌≡◌, ℕ, ◌+◌, ◌-◌, Bool, true, false, List, [], ◌∷◌, ◌++◌, Some, None, length, map, slice_get}
 use Rattle.model_formulas.specs.Formulas.{Named}
 use Rattle.model_commands.specs.Theories.{JudgementOf, ProcedureOf, Theory}
-use Rattle.model_filling.specs.Offers.{Voice}
+use Rattle.model_filling.specs.Offers.{Voice, asked_once}
 use Rattle.model_filling.specs.Asking.{Asked}
 use Rattle.theory_syntax.specs.declared.steps.Step.{Step}
 use Rattle.theory_syntax.specs.Judgements.{step_of}
@@ -24,3 +23,15 @@ Answered theory f earlier judgement voices true proof after =
 Answered theory f earlier judgement voices false proof after =
     (proof ≡ earlier)
     × Asked theory f (map step_of earlier) (length earlier + 1) judgement voices None after
+
+-- the second is the first filler after it was asked some times, or not at all: its turn has risen
+-- once for each, and its offers are as before
+pub data WasAsked (voice : Voice) : Voice → Type 0 where
+  not_at_all : WasAsked voice voice
+  once_more : {after : Voice} → WasAsked voice after → WasAsked voice (asked_once after)
+
+-- so it is with each of them
+abbrev pub WereAsked : List Voice → List Voice → Type 0
+WereAsked [] [] = Unit
+WereAsked (voice ∷ voices) (after ∷ others) = WasAsked voice after × WereAsked voices others
+WereAsked voices others = ⊥

@@ -1,14 +1,12 @@
 // Whoever is asked for the steps of gaps.
 ghost use Rattle.std.specs.Prelude.{◌≡◌, ◌≤◌, ◌<◌, List, true, length, map, IfOk};
-ghost use Rattle.model_formulas.specs.Formulas.{Named};
-ghost use Rattle.model_commands.specs.Theories.{JudgementOf};
 ghost use Rattle.model_files.specs.FileFaults.{judgement_sorted};
 ghost use Rattle.model_files.specs.Sizes.{JudgementIsSmall, TheoryIsSmall};
 ghost use Rattle.model_filling.specs.Offers.{Voice};
 ghost use Rattle.theory_syntax.specs.Judgements.{judgement_of};
 ghost use Rattle.theory_syntax.specs.Theories.{theory_of};
 ghost use Rattle.cited_steps.specs.Earlier.{AreCitable};
-ghost use Rattle.theory_filler.specs.Answers.{Answered, OfProcedure};
+ghost use Rattle.theory_filler.specs.Answers.{Answered, OfProcedure, WereAsked};
 
 use dom_terms::OutOfMemory;
 use formula_table::Table;
@@ -20,13 +18,10 @@ pub trait Fillers {
     /// The fillers, each at its turn.
     ghost voices: { Self → List Voice };
 
-    /// Which judgements they may be asked for.
-    ghost may_ask: { JudgementOf Named → Type 0 };
-
     /// Asks for the steps of a gap of this judgement, which comes next in the proof of the
     /// procedure, counted from 1. The first usable offer is put at the end of the proof, and then
     /// the answer is true. Where there is none the proof is unchanged. OutOfMemory comes only where
-    /// memory is refused.
+    /// memory is refused. Whatever comes, each filler was asked some times or not at all.
     fn ask(
         &mut self,
         alloc: Global,
@@ -43,9 +38,9 @@ pub trait Fillers {
         requires few { length proof.old < 4000000000 }
         requires small { JudgementIsSmall (judgement_of judgement.now) }
         requires sorted { judgement_sorted (judgement_of judgement.now) ≡ true }
-        requires may { may_ask (judgement_of judgement.now) }
         ensures answer { OfProcedure (theory_of theory.now) procedure (λ f. IfOk result
             (λ found. Answered (theory_of theory.now) f proof.old (judgement_of judgement.now)
             (voices self.old) found proof.new (voices self.new))) }
-        ensures citable { AreCitable proof.new };
+        ensures citable { AreCitable proof.new }
+        ensures asked { WereAsked (voices self.old) (voices self.new) };
 }
