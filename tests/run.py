@@ -53,7 +53,7 @@ class Row:
         self.words, self.status, self.output = None, None, []
         self.texts, self.changes, self.cuts, self.sink, self.called = {}, [], {}, None, None
         self.printed, self.numbers, self.repeated = {}, [], []
-        self.fault, self.judged = None, None
+        self.fault, self.judged, self.filled = None, None, None
 
 
 def meant(text):
@@ -106,6 +106,8 @@ def set_field(row, field, text):
         row.output.append(meant(text) + b"\n")
     elif field == "checked":
         row.judged = meant(text)
+    elif field == "filled":
+        row.filled = int(text)
     elif field == "to":
         row.sink = text
     elif field == "called":
@@ -157,7 +159,7 @@ def rows_of(title, lines):
 
 
 def row_of(title, place, lines, mark=""):
-    """Returns the row of these fields; the mark, if there is one, stands in its output in place of each @."""
+    """Returns the row of these fields; the mark, if there is one, stands in its answer in place of each @."""
     mark = mark or "@"
     row = Row(title, place)
     for text in lines:
@@ -171,7 +173,8 @@ def row_of(title, place, lines, mark=""):
         if not colon:
             raise Unreadable(f"no field: {text}")
         if field != "output" or rest:
-            set_field(row, field.strip(), rest.strip().replace("@", mark) if field == "output" else rest.strip())
+            is_marked = field in ("output", "filled")
+            set_field(row, field.strip(), rest.strip().replace("@", mark) if is_marked else rest.strip())
     for number in row.numbers:
         for text in row.repeated:
             set_field(row, "output", text.replace("@", str(number)))
@@ -302,6 +305,35 @@ def checked(program, text):
     return program_answer(program, one, {"printed": text})[1]
 
 
+def head_of(procedure):
+    """Returns what a procedure has beside its proof."""
+    return procedure._replace(steps=None)
+
+
+def keeps(procedure, filled):
+    """Says whether the procedure is the same but for its proof, which has each written step in its order."""
+    if head_of(procedure) != head_of(filled):
+        return False
+    left = iter((it.rule, it.arguments, it.judgement) for it in filled.steps)
+    written = [it for it in procedure.steps if it.rule is not None]
+    return all((it.rule, it.arguments, it.judgement) in left for it in written)
+
+
+def filled_steps(content, text):
+    """Returns how many steps a filled file has, if it is accepted and keeps what stood in the file, and else 0."""
+    try:
+        theory, filled = reference.theory_of(content), reference.theory_of(text)
+        reference.checked(text)
+    except reference.Refused:
+        return 0
+    same = (theory.version, theory.logic) == (filled.version, filled.logic)
+    if not same or len(theory.procedures) != len(filled.procedures):
+        return 0
+    if not all(map(keeps, theory.procedures, filled.procedures)):
+        return 0
+    return sum(len(it.steps) for it in filled.procedures)
+
+
 def complaint(program, row, files, change=dict):
     """Returns what is wrong with the answer of the program, or of the reference where that is None, or None."""
     if row.fault is not None or row.status is None:
@@ -316,6 +348,9 @@ def complaint(program, row, files, change=dict):
     if row.judged is not None:
         found = checked(program, found)
         wanted = row.status, row.judged if not found.startswith(row.judged) else found
+    if row.filled is not None:
+        steps = filled_steps(given[row.words[1].decode()], found) if status == 0 else 0
+        found, wanted = b"%d steps" % steps, (row.status, b"%d steps" % row.filled)
     if (status, found, errors) == (*wanted, b""):
         return None
     told = [f"    wanted {wanted[0]} {wanted[1][:300]!r}", f"    got    {status} {found[:300]!r}"]

@@ -1,12 +1,13 @@
 """Each request and its answer: what domcheck has to print for the words, and its status.
 
 The other modules of this folder are its parts, in the order in which a request meets them: tokens,
-theories, sorts, faults, proofs, documents, machine, texts. `answer` puts them together.
+theories, sorts, faults, proofs, filling, documents, machine, texts. `answer` puts them together.
 """
 import sys
 
 from domlogic.reading.documents import DocumentReader, numbers_in_document, numbers_in_text
 from domlogic.reading.faults import file_faults
+from domlogic.reading.filling import filled
 from domlogic.reading.generated import count_of, generated
 from domlogic.reading.limits import (DOCUMENT_NESTING, FILE_NESTING, LAST_I64, LAST_U32, NODES, STEPS,
                             TEXT_BYTES, VARIABLES, Refused)
@@ -115,6 +116,8 @@ def output_of(words, files):
     """Returns the output of the words, or refuses them."""
     if len(words) == 2 and words[0] == "check":
         return checked(fetched(files, words[1]))
+    if len(words) == 2 and words[0] == "fill":
+        return filled(theory_of(fetched(files, words[1])))
     if len(words) == 2 and words[0] in ("make", "trial") and count_of(words[1]):
         text = generated(count_of(words[1]))
         return text if words[0] == "make" else checked(text.encode())
