@@ -1,10 +1,11 @@
 // The top call over a library or a sink that fails, and the calls for bytes in hand.
 use crate::outside::{Drip, Trickle};
 use dom_terms::{Text, Texts};
-use domcheck_core::{Status, check_bytes, domcheck, run_bytes};
+use domcheck_core::{Status, check_bytes, domcheck, fill_bytes, run_bytes};
 use outside_io::{Library, Shelf, Sink, Tape};
 use std::alloc::Global;
 use std::test::Fail;
+use step_filler::Filler;
 
 const FILE: &str = "domlogic 1
 proc main() returns () sort g
@@ -14,6 +15,15 @@ proof
 step 1 by skip(): pre 0g do skip post 0g at g;
 end
 ";
+
+// The words as the program has them.
+pub(crate) fn words_of(alloc: Global, words: &[&str]) -> Result<Vec<String>, Fail> {
+    let mut asked = Vec::new(alloc);
+    for word in words {
+        asked.push(String::from_str(alloc, word)?)?;
+    }
+    Ok(asked)
+}
 
 // Does what the words ask for, where the file `a` and the document `z` are at hand and a fetch call
 // fails; 0 is no call.
@@ -27,11 +37,8 @@ fn answer<S: Sink>(
     shelf.add("a", FILE.as_bytes())?;
     shelf.add("z", b"0g")?;
     shelf.fail_at(fetch)?;
-    let mut asked = Vec::new(alloc);
-    for word in words {
-        asked.push(String::from_str(alloc, word)?)?;
-    }
-    Ok(domcheck(alloc, &asked, &mut shelf, sink))
+    let asked = words_of(alloc, words)?;
+    Ok(domcheck(alloc, &asked, &mut shelf, sink, Vec::new(alloc)))
 }
 
 // (the words, the fetch call and the put call that fail, the status and what is written)
@@ -91,11 +98,8 @@ fn moved<L: Library, S: Sink>(
     library: &mut L,
     sink: &mut S,
 ) -> Result<Status, Fail> {
-    let mut asked = Vec::new(alloc);
-    for word in ["run", "move", "move", "tree", "10", "#1", "#4"] {
-        asked.push(String::from_str(alloc, word)?)?;
-    }
-    Ok(domcheck(alloc, &asked, library, sink))
+    let asked = words_of(alloc, &["run", "move", "move", "tree", "10", "#1", "#4"])?;
+    Ok(domcheck(alloc, &asked, library, sink, Vec::new(alloc)))
 }
 
 // Two pieces are fetched of each book, the second of which is empty.
@@ -154,5 +158,14 @@ fn bytes_in_hand_are_answered(rt: HostRuntime) -> Result<(), Fail> {
     let reply = run_bytes(alloc, FILE.as_bytes(), &main, b"0g", 9, &Texts::new(alloc))?;
     assert_eq!(rt; reply.status, Status::Done);
     assert_eq!(rt; reply.output.as_str(), "ended after 1 steps\n0g\n");
+    let mut fillers: Vec<Box<dyn Filler>> = Vec::new(alloc);
+    let reply = fill_bytes(alloc, FILE.as_bytes(), &mut fillers)?;
+    assert_eq!(rt; reply.status, Status::Done);
+    assert!(rt;
+        reply
+            .output
+            .as_str()
+            .ends_with("pre 0g do skip post 0g at g ;\nend\n")
+    );
     Ok(())
 }
