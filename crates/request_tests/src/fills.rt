@@ -1,0 +1,214 @@
+// Fillers that are handed in: what isn't usable is passed over, and want of memory is passed on.
+ghost use Rattle.std.specs.Prelude.{◌≡◌, IfOk, None, Some, map};
+ghost use Rattle.theory_syntax.specs.Judgements.{step_of};
+
+use crate::requests::words_of;
+use dom_terms::OutOfMemory;
+use domcheck_core::{Status, domcheck};
+use outside_io::{Shelf, Tape};
+use proof_text::read_theory;
+use std::alloc::Global;
+use std::test::Fail;
+use step_filler::{Conj, Filler, Spot, Tidy};
+use text_tokens::token_list;
+use theory_syntax::{Block, Command, Judgement, Step, Steps};
+
+// Offers the same steps whatever is asked.
+#[derive(Drop)]
+struct Fixed {
+    turn: u64,
+    steps: Steps,
+}
+
+impl Filler for Fixed {
+    ghost turn = { λ filler. filler.turn };
+
+    ghost offers = { λ filler turn number judgement earlier. Some (map step_of filler.steps) };
+
+    fn propose(
+        &mut self,
+        alloc: Global,
+        _number: u32,
+        _judgement: &Judgement,
+        _earlier: &[Step],
+    ) -> Result<Option<Steps>, OutOfMemory> {
+        let steps = self.steps.copy(alloc)?;
+        self.turn = self.turn.saturating_add(1);
+        Ok(Some(steps))
+    }
+}
+
+// Answers that memory was refused.
+#[derive(Drop)]
+struct Refusing {
+    turn: u64,
+}
+
+impl Filler for Refusing {
+    ghost turn = { λ filler. filler.turn };
+
+    ghost offers = { λ filler turn number judgement earlier. None };
+
+    fn propose(
+        &mut self,
+        _alloc: Global,
+        _number: u32,
+        _judgement: &Judgement,
+        _earlier: &[Step],
+    ) -> Result<Option<Steps>, OutOfMemory> {
+        Err(OutOfMemory)
+    }
+}
+
+const SAME: &str = "domlogic 1
+proc same() returns () sort g
+requires 0g ensures (0g + 0g)
+body skip
+proof
+step 1 by skip(): pre 0g do skip post 0g at g;
+step 2 by id(): 0g entails 0g at g;
+step 3 auto: 0g entails (0g + 0g) at g;
+step 4 by consequence(2, 1, 3): pre 0g do skip post (0g + 0g) at g;
+end
+";
+
+const GAP: &str = "step 3 of same, line 8: gap\n";
+
+// The status of `fill` on that file with these fillers, and what is written.
+fn fill(alloc: Global, fillers: Vec<Box<dyn Filler>>, tape: &mut Tape) -> Result<Status, Fail> {
+    let mut shelf = Shelf::new(alloc);
+    shelf.add("same", SAME.as_bytes())?;
+    let asked = words_of(alloc, &["fill", "same"])?;
+    Ok(domcheck(alloc, &asked, &mut shelf, tape, fillers))
+}
+
+// The steps that are spelled so, as those of a proof.
+fn steps_in(alloc: Global, spelled: &str) -> Result<Steps, Fail> {
+    let mut text = String::from_str(alloc, "domlogic 1 proc p() returns () sort g requires 0g ")?;
+    text.push_str("ensures 0g body skip proof ")?;
+    text.push_str(spelled)?;
+    text.push_str(" end")?;
+    let tokens = token_list(alloc, text.as_bytes())?;
+    let theory = read_theory(alloc, &tokens)?;
+    let procedure = theory.procedures.get(0).ok_or("no procedure")?;
+    let steps = procedure.proof.copy(alloc)?;
+    drop(theory);
+    Ok(steps)
+}
+
+// The steps of a proof of a block without commands, which no text spells, and then what is asked.
+fn after_nothing(alloc: Global) -> Result<Steps, Fail> {
+    let mut steps = steps_in(
+        alloc,
+        "step 3 by absurd(): pre false do skip post 0g at g;
+        step 4 by plus_unit_back(): 0g entails (0g + 0g) at g;",
+    )?;
+    if let Some(first) = steps.first_mut() {
+        if let Judgement::Triple(triple) = &mut first.judgement {
+            triple.command = Command::Block(Block::new(alloc));
+        }
+    }
+    Ok(steps)
+}
+
+// One step more than an offer may have, each of them an instance.
+fn too_many(alloc: Global) -> Result<Steps, Fail> {
+    let mut steps = Steps::new(alloc);
+    for number in 3..=10_003 {
+        let mut one = steps_in(
+            alloc,
+            "step 3 by plus_unit_back(): 0g entails (0g + 0g) at g;",
+        )?;
+        let Some(mut step) = one.pop() else {
+            return Err("no step".into());
+        };
+        step.number = number;
+        steps.push(step)?;
+    }
+    Ok(steps)
+}
+
+// (what a filler in front of the assistants offers; none of it is usable)
+const WRONG: [&str; 5] = [
+    "step 3 auto: 0g entails (0g + 0g) at g;",
+    "step 3 by cut(3, 3): 0g entails (0g + 0g) at g;",
+    "step 3 by id(): $x entails $x at g;
+    step 4 by plus_unit_back(): 0g entails (0g + 0g) at g;",
+    "step 4 by plus_unit_back(): 0g entails (0g + 0g) at g;",
+    "",
+];
+
+// In front of Tidy a filler that offers these steps.
+fn in_front(alloc: Global, steps: Steps) -> Result<Vec<Box<dyn Filler>>, Fail> {
+    let mut fillers: Vec<Box<dyn Filler>> = Vec::new(alloc);
+    fillers.push(Box::new(alloc, Fixed { turn: 0, steps })?)?;
+    fillers.push(Box::new(alloc, Tidy::new())?)?;
+    Ok(fillers)
+}
+
+// Whether these fillers come to what Tidy alone comes to.
+fn fill_as_tidy(alloc: Global, fillers: Vec<Box<dyn Filler>>) -> Result<bool, Fail> {
+    let mut alone: Vec<Box<dyn Filler>> = Vec::new(alloc);
+    alone.push(Box::new(alloc, Tidy::new())?)?;
+    let mut wanted = Tape::new(alloc, 10_000)?;
+    let mut found = Tape::new(alloc, 10_000)?;
+    let done = fill(alloc, alone, &mut wanted)? == Status::Done;
+    let same = fill(alloc, fillers, &mut found)? == Status::Done;
+    Ok(done && same && found.taken() == wanted.taken())
+}
+
+#[test]
+fn what_is_not_usable_is_passed_over(rt: HostRuntime) -> Result<(), Fail> {
+    let alloc = rt.alloc();
+    for spelled in WRONG {
+        let fillers = in_front(alloc, steps_in(alloc, spelled)?)?;
+        assert!(rt; fill_as_tidy(alloc, fillers)?, "{spelled}");
+    }
+    let fillers = in_front(alloc, after_nothing(alloc)?)?;
+    assert!(rt; fill_as_tidy(alloc, fillers)?, "a block without commands");
+    let fillers = in_front(alloc, too_many(alloc)?)?;
+    assert!(rt; fill_as_tidy(alloc, fillers)?, "too many steps");
+    Ok(())
+}
+
+#[test]
+fn what_is_usable_is_taken_from_the_first(rt: HostRuntime) -> Result<(), Fail> {
+    let alloc = rt.alloc();
+    let steps = steps_in(
+        alloc,
+        "step 3 by plus_unit_back(): 0g entails (0g + 0g) at g;",
+    )?;
+    let mut tape = Tape::new(alloc, 10_000)?;
+    let status = fill(alloc, in_front(alloc, steps)?, &mut tape)?;
+    assert_eq!(rt; status, Status::Done);
+    assert!(rt; tape.taken().ends_with(b"( 0g + 0g ) at g ;\nend\n"));
+    assert!(rt; tape.taken().len() < 400);
+    Ok(())
+}
+
+#[test]
+fn a_gap_is_left_where_nobody_fills_it(rt: HostRuntime) -> Result<(), Fail> {
+    let alloc = rt.alloc();
+    let mut tape = Tape::new(alloc, 10_000)?;
+    assert_eq!(rt; fill(alloc, Vec::new(alloc), &mut tape)?, Status::GapLeft);
+    assert_eq!(rt; tape.taken(), GAP.as_bytes());
+    let mut tape = Tape::new(alloc, 10_000)?;
+    let mut fillers: Vec<Box<dyn Filler>> = Vec::new(alloc);
+    fillers.push(Box::new(alloc, Conj::new())?)?;
+    fillers.push(Box::new(alloc, Spot::new())?)?;
+    assert_eq!(rt; fill(alloc, fillers, &mut tape)?, Status::GapLeft);
+    assert_eq!(rt; tape.taken(), GAP.as_bytes());
+    Ok(())
+}
+
+#[test]
+fn want_of_memory_of_a_filler_is_passed_on(rt: HostRuntime) -> Result<(), Fail> {
+    let alloc = rt.alloc();
+    let mut tape = Tape::new(alloc, 10_000)?;
+    let mut fillers: Vec<Box<dyn Filler>> = Vec::new(alloc);
+    fillers.push(Box::new(alloc, Refusing { turn: 0 })?)?;
+    fillers.push(Box::new(alloc, Tidy::new())?)?;
+    assert_eq!(rt; fill(alloc, fillers, &mut tape)?, Status::OutOfMemory);
+    assert_eq!(rt; tape.taken(), b"");
+    Ok(())
+}
