@@ -22,7 +22,7 @@ PROGRAM = TOP / "crates/domcheck_cli/out/domcheck_cli"
 OUT_OF_MEMORY = 10
 
 # Requests that take memory in each part: proofs with commands and with calls, a proof with a gap, a run
-# over a heap, runs that end in a fault and at a limit, a generated text.
+# over a heap, runs that end in a fault and at a limit, a file that is filled, a generated text.
 LIBRARY = TOP / "examples/library"
 FILES = TOP / "tests/files"
 REQUESTS = (
@@ -31,6 +31,7 @@ REQUESTS = (
     ("check", FILES / "whole.dom"),
     ("run", FILES / "nodes.dom", "add", FILES / "empty.doc", "100", "div"),
     ("run", FILES / "machine.dom", "restore", FILES / "page.doc", "100"),
+    ("fill", TOP / "examples/obvious.dom"),
     ("make", "3"),
     ("make", "200"),
 )
