@@ -79,7 +79,8 @@ module _ (theory : Theory) (f : ProcedureOf Named) (before : Walked) (s : StepOf
 
       pub gap-leads : s.reason ≡ auto → StepLeads theory f before voices s after others
       gap-leads is_gap rest outcome walk =
-          let gaps_are : gaps_in after.gaps ≡ filled_by s (map step_of offer) ∷ gaps_in before.gaps =
+          let here = filled_by s (map step_of offer) in
+          let gaps_are : gaps_in after.gaps ≡ here ∷ gaps_in before.gaps =
           ap gaps_in gaps ∙ gaps-more before.gaps gap
           ∙ ap (λ z. z ∷ gaps_in before.gaps) gap-is in
           fills is_gap (at-next (Some (map step_of offer)) others asked)
