@@ -1,11 +1,11 @@
 -- A walk through all procedures of a theory, one after another.
-use Rattle.std.proofs.Common.{◌≡◌, ◌∙◌, ℕ, ◌+◌, ◌<◌, ◌≤◌, List, [], ◌∷◌, ◌++◌, length, map, drop, get_or, refl, sym, ap, subst, add-one, arith}
-use Rattle.std.proofs.lemmas.List.{drop_all, map-append, length-map}
+use Rattle.std.proofs.Common.{◌≡◌, ℕ, ◌+◌, ◌<◌, ◌≤◌, List, [], ◌∷◌, ◌++◌, length, map, drop, get_or, refl, sym, ap, subst, add-one}
+use Rattle.std.proofs.lemmas.List.{drop_all, map-append}
 use Rattle.model_formulas.specs.Formulas.{Named}
 use Rattle.model_commands.specs.Theories as model
 use Rattle.rule_table.specs.Accepted.{BadPlace, Fault}
 use Rattle.model_filling.specs.Offers.{Voice}
-use Rattle.model_filling.specs.Walk.{Walk, proof_filled, fails_at}
+use Rattle.model_filling.specs.Walk.{Walk, proof_filled}
 use Rattle.model_filling.specs.Filled.{Outcome, WalkAll, IsFilled, all_filled, fails_in, in_front, with_proof, all_done, fails_first, fills_first}
 use Rattle.theory_syntax.specs.declared.theories.Procedure.{Procedure}
 use Rattle.theory_syntax.specs.declared.steps.Step.{Step}

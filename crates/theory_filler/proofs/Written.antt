@@ -1,5 +1,5 @@
 -- A written step of a walk.
-use Rattle.std.proofs.Common.{◌≡◌, ◌∙◌, ℕ, suc, ◌+◌, ◌≤◌, ◌<◌, ◌==◌, ◌&&◌, true, List, [], ◌∷◌, ◌++◌, length, map, ◌⊎◌, inl, inr, refl, sym, ap, subst, add-one, arith}
+use Rattle.std.proofs.Common.{◌≡◌, ◌∙◌, ℕ, ◌+◌, ◌≤◌, ◌<◌, ◌==◌, true, List, [], ◌∷◌, ◌++◌, length, map, ◌⊎◌, inl, inr, refl, sym, ap, subst, add-one, arith}
 use Rattle.std.specs.Prelude.{◌≢◌}
 use Rattle.std.proofs.lemmas.Bool.{and_parts, and_from, eq-eqb}
 use Rattle.std.proofs.lemmas.List.{map-append, length-append}
@@ -10,7 +10,7 @@ use Rattle.rule_table.specs.Verdicts as table
 use Rattle.rule_table.specs.Accepted.{InstanceBy, VerdictBy, fails}
 use Rattle.model_filling.specs.Offers.{Voice}
 use Rattle.model_filling.specs.Renumbering.{FilledGap, moved, raised_reason, renumbered}
-use Rattle.model_filling.specs.Walk.{Walk, ProofOutcome, goes_on, step_fails}
+use Rattle.model_filling.specs.Walk.{Walk, goes_on, step_fails}
 use Rattle.dom_terms.specs.declared.verdicts.SideName.{SideName}
 use Rattle.dom_terms.specs.declared.verdicts.Verdict.{Verdict}
 use Rattle.dom_terms.specs.declared.verdicts.Verdict.TheVariants as v

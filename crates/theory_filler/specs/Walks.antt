@@ -1,6 +1,6 @@
 -- Needn't be believed: the program's promise doesn't speak of it. How far a walk through a proof
 -- has come, and what its next step brings; and the theory that comes of the walks.
-use Rattle.std.specs.Prelude.{◌≡◌, ◌≤◌, ℕ, suc, ◌+◌, ◌*◌, List, [], ◌∷◌, length, map, reverse}
+use Rattle.std.specs.Prelude.{◌≡◌, ◌≤◌, ℕ, ◌+◌, ◌*◌, List, [], ◌∷◌, length, map, reverse}
 use Rattle.model_formulas.specs.Formulas.{Named}
 use Rattle.model_commands.specs.Theories.{StepOf, ProcedureOf, Theory}
 use Rattle.rule_table.specs.Accepted.{Fault}

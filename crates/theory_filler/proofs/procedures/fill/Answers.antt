@@ -1,7 +1,6 @@
 -- The theory that comes of all procedures.
 use Rattle.std.proofs.Common.{◌≡◌, map, sym, subst}
 use Rattle.std.proofs.lemmas.Result.{IfOk-weaker, IfErr-weaker}
-use Rattle.model_commands.specs.Theories as model
 use Rattle.model_filling.specs.Filled.{IsFilled}
 use Rattle.theory_syntax.specs.declared.theories.Theory.{Theory}
 use Rattle.theory_syntax.specs.Theories.{procedure_of, theory_of}

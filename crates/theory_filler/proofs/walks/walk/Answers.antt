@@ -1,5 +1,5 @@
 -- A walk goes on, or ends at the first place that fails.
-use Rattle.std.proofs.Common.{◌≡◌, ◌∙◌, ◌+◌, true, sym, ap, subst, arith, rules}
+use Rattle.std.proofs.Common.{◌≡◌, ◌+◌, true, sym, ap, subst, arith, rules}
 use Rattle.model_files.specs.FileFaults.{judgement_sorted}
 use Rattle.model_files.specs.Sizes.{JudgementIsSmall}
 use Rattle.theory_syntax.specs.declared.steps.Step.{Step}
