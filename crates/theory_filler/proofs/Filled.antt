@@ -1,5 +1,5 @@
 -- A gap of a walk: one that is filled, and one that is left.
-use Rattle.std.proofs.Common.{◌≡◌, ◌∙◌, ℕ, suc, ◌+◌, ◌-◌, ◌≤◌, Bool, true, false, List, [], ◌∷◌, ◌++◌, length, map, Option, Some, None, refl, sym, ap, ap₂, subst, add-one, arith}
+use Rattle.std.proofs.Common.{◌≡◌, ◌∙◌, ℕ, ◌+◌, ◌-◌, ◌≤◌, Bool, true, false, List, [], ◌∷◌, ◌++◌, length, map, Option, Some, None, refl, sym, ap, ap₂, subst, add-one, arith}
 use Rattle.std.proofs.lemmas.List.{map-append, length-append, length-map}
 use Rattle.model_formulas.specs.Formulas.{Named}
 use Rattle.model_commands.specs.Theories.{auto, StepOf, ProcedureOf, Theory}
@@ -8,7 +8,7 @@ use Rattle.model_filling.specs.Offers.{Voice}
 use Rattle.model_filling.specs.Usable.{IsUsable}
 use Rattle.model_filling.specs.Renumbering.{FilledGap, filled_by, moved}
 use Rattle.model_filling.specs.Asking.{Asked}
-use Rattle.model_filling.specs.Walk.{Walk, ProofOutcome, fills, gap_left}
+use Rattle.model_filling.specs.Walk.{Walk, fills, gap_left}
 use Rattle.model_filling.proofs.Numbers.{asked-usable}
 use Rattle.theory_syntax.specs.declared.steps.Step as rust
 use Rattle.theory_syntax.specs.Judgements.{step_of}
@@ -79,7 +79,8 @@ module _ (theory : Theory) (f : ProcedureOf Named) (before : Walked) (s : StepOf
 
       pub gap-leads : s.reason ≡ auto → StepLeads theory f before voices s after others
       gap-leads is_gap rest outcome walk =
-          let gaps_are : gaps_in after.gaps ≡ filled_by s (map step_of offer) ∷ gaps_in before.gaps =
+          let here = filled_by s (map step_of offer) in
+          let gaps_are : gaps_in after.gaps ≡ here ∷ gaps_in before.gaps =
           ap gaps_in gaps ∙ gaps-more before.gaps gap
           ∙ ap (λ z. z ∷ gaps_in before.gaps) gap-is in
           fills is_gap (at-next (Some (map step_of offer)) others asked)

@@ -6,3 +6,4 @@ pub mod Filled
 pub mod WholeWalks
 pub mod Ends
 pub mod Outcomes
+pub mod Turns

@@ -1,20 +1,21 @@
 -- A walk through all procedures of a theory, one after another.
-use Rattle.std.proofs.Common.{◌≡◌, ◌∙◌, ℕ, zero, suc, ◌+◌, ◌<◌, ◌≤◌, List, [], ◌∷◌, ◌++◌, length, map, drop, get_or, Some, slice_get, refl, sym, ap, subst, add-one, arith}
-use Rattle.std.proofs.lemmas.List.{drop_all, map-append, length-map}
-use Rattle.std.proofs.Math.Seq.{drop-cons}
+use Rattle.std.proofs.Common.{◌≡◌, ℕ, ◌+◌, ◌<◌, ◌≤◌, List, [], ◌∷◌, ◌++◌, length, map, drop, get_or, refl, sym, ap, subst, add-one}
+use Rattle.std.proofs.lemmas.List.{drop_all, map-append}
 use Rattle.model_formulas.specs.Formulas.{Named}
 use Rattle.model_commands.specs.Theories as model
 use Rattle.rule_table.specs.Accepted.{BadPlace, Fault}
 use Rattle.model_filling.specs.Offers.{Voice}
-use Rattle.model_filling.specs.Walk.{Walk, proof_filled, fails_at}
-use Rattle.model_filling.specs.Filled.{Outcome, WalkAll, all_filled, fails_in, in_front, with_proof, all_done, fails_first, fills_first}
+use Rattle.model_filling.specs.Walk.{Walk, proof_filled}
+use Rattle.model_filling.specs.Filled.{Outcome, WalkAll, IsFilled, all_filled, fails_in, in_front, with_proof, all_done, fails_first, fills_first}
 use Rattle.theory_syntax.specs.declared.theories.Procedure.{Procedure}
 use Rattle.theory_syntax.specs.declared.steps.Step.{Step}
 use Rattle.theory_syntax.specs.Judgements.{step_of}
 use Rattle.theory_syntax.specs.Theories.{procedure_of}
 use Rattle.theory_filler.specs.declared.faults.FillFault.{FillFault}
-use Rattle.theory_filler.specs.Faults.{Told, FailsAt}
+use Rattle.theory_filler.specs.declared.faults.FillFault.TheVariants as fault
+use Rattle.theory_filler.specs.Faults.{Told, FailsAt, PassesLimit, Refuses}
 use Rattle.theory_filler.specs.Walks.{WalkFails}
+use Rattle.theory_filler.proofs.Places.{drop-at}
 use Rattle.theory_filler.proofs.WholeWalks.{told}
 
 -- filled procedures before others
@@ -36,20 +37,6 @@ front-fails : (fs : List (model.ProcedureOf Named)) (bad : BadPlace)
     → all_in_front fs (fails_in bad) ≡ fails_in bad
 front-fails [] bad = refl
 front-fails (f ∷ fs) bad = ap (in_front f) (front-fails fs bad)
-
-drop-at : (fs : List Procedure) (k : ℕ) (item : Procedure) → k < length fs
-    → item ≡ get_or fs k item → drop k fs ≡ item ∷ drop (k + 1) fs
-drop-at fs k item lt is =
-    drop-cons fs k item lt
-    ∙ ap (λ (n : ℕ). get_or fs k item ∷ drop n fs) (sym (add-one k))
-    ∙ ap (λ (z : Procedure). z ∷ drop (k + 1) fs) (sym is)
-
--- the procedure at a place of the theory
-pub procedure-at : (fs : List Procedure) (k : ℕ) (item d : Procedure) → k < length fs
-    → item ≡ get_or fs k d → slice_get (map procedure_of fs) k ≡ Some (procedure_of item)
-procedure-at [] k item d lt is = absurd (omega arith)
-procedure-at (f ∷ fs) zero item d lt is = ap (λ (z : Procedure). Some (procedure_of z)) (sym is)
-procedure-at (f ∷ fs) (suc k) item d lt is = procedure-at fs k item d (omega arith) is
 
 module _ (theory : model.Theory) (fs : List Procedure) (voices : List Voice) where
   -- before the procedure at this place, counted from 0
@@ -87,7 +74,8 @@ module _ (theory : model.Theory) (fs : List Procedure) (voices : List Voice) whe
         → Walk theory (procedure_of item) [] [] 1 (map step_of item.proof) here
         (proof_filled (map step_of proof) others) → SoFar (k + 1) after others
     so-far-next new proof others after more own walk rest later =
-        let own_walk = from-item (in_front (with_proof (procedure_of item) (map step_of proof)) rest)
+        let own_walk =
+        from-item (in_front (with_proof (procedure_of item) (map step_of proof)) rest)
         (fills_first walk (subst (λ (n : ℕ). WalkAll theory n (map procedure_of (drop (k + 1) fs))
         others rest) (add-one (k + 1)) later)) in
         subst (λ (z : List Procedure). WalkAll theory 1 (map procedure_of fs) voices
@@ -111,3 +99,32 @@ module _ (theory : model.Theory) (fs : List Procedure) (voices : List Voice) whe
         (record { procedure = k + 1; step = place; fault = x }))
         (from-item (fails_in (record { procedure = k + 1; step = place; fault = x }))
         (fails_first h.1)))
+
+    -- what is told of the procedure's proof is told of the theory's proofs
+    pub refused-here : (e : FillFault)
+        → Told (WalkFails theory (procedure_of item) item.proof here (k + 1)) e
+        → Told (λ procedure place x. WalkAll theory 1 (map procedure_of fs) voices
+        (fails_in (record { procedure = procedure; step = place; fault = x }))) e
+    refused-here =
+        told (WalkFails theory (procedure_of item) item.proof here (k + 1))
+        (λ procedure place x. WalkAll theory 1 (map procedure_of fs) voices
+        (fails_in (record { procedure = procedure; step = place; fault = x }))) fails-here
+
+-- WHY A THEORY IS REFUSED
+module _ (theory : model.Theory) (voices : List Voice) where
+  -- for a place
+  pub refused-at : (e : FillFault) → Told (FailsAt theory voices) e → Refuses theory voices e
+  refused-at (fault.Fails procedure place verdict) h = h
+  refused-at (fault.NoProof procedure) h = h
+  refused-at (fault.Gap procedure place) h = h
+  refused-at (fault.Limit kind) h = absurd h
+  refused-at fault.OutOfMemory h = tt
+
+  -- for a limit
+  pub refused-past : (t : model.Theory) → IsFilled theory voices t → (e : FillFault)
+      → PassesLimit t e → Refuses theory voices e
+  refused-past t is (fault.Fails procedure place verdict) h = absurd h
+  refused-past t is (fault.NoProof procedure) h = absurd h
+  refused-past t is (fault.Gap procedure place) h = absurd h
+  refused-past t is (fault.Limit kind) h = (t, is, h)
+  refused-past t is fault.OutOfMemory h = tt

@@ -1,22 +1,22 @@
 -- A walk through all steps of a proof, one after another.
-use Rattle.std.proofs.Common.{◌≡◌, ◌∙◌, ℕ, zero, suc, ◌+◌, ◌<◌, ◌≤◌, ◌==◌, true, List, [], ◌∷◌, length, map, drop, get_or, Result, Ok, Err, IfErr, IsErrAnd, refl, sym, ap, subst, add-one, arith}
+use Rattle.std.proofs.Common.{◌≡◌, ◌∙◌, ℕ, zero, suc, ◌+◌, ◌<◌, ◌≤◌, ◌==◌, true, List, [], ◌∷◌, length, map, drop, get_or, Result, Ok, Err, IfErr, IsErrAnd, refl, sym, ap, subst, arith}
 use Rattle.std.proofs.lemmas.Bool.{and_parts, eqb-true}
 use Rattle.std.proofs.lemmas.List.{drop_all}
-use Rattle.std.proofs.Math.Seq.{drop-cons}
 use Rattle.model_formulas.specs.Formulas.{Named}
-use Rattle.model_commands.specs.Theories.{JudgementOf, ProcedureOf, Theory}
+use Rattle.model_commands.specs.Theories.{ProcedureOf, Theory}
 use Rattle.rule_table.specs.Accepted.{Fault, fails, gap, no_proof}
 use Rattle.model_filling.specs.Offers.{Voice}
 use Rattle.model_filling.specs.Walk.{Walk, ProofOutcome}
 use Rattle.row_patterns.specs.Verdicts.{verdict_in}
 use Rattle.theory_syntax.specs.declared.steps.Step.{Step}
-use Rattle.theory_syntax.specs.Judgements.{judgement_of, step_of}
+use Rattle.theory_syntax.specs.Judgements.{step_of}
 use Rattle.cited_steps.specs.Earlier.{are_numbered}
 use Rattle.theory_filler.specs.declared.faults.FillFault.{FillFault}
 use Rattle.theory_filler.specs.declared.faults.FillFault.TheVariants as fault
 use Rattle.theory_filler.specs.declared.steps.Walked.{Walked}
 use Rattle.theory_filler.specs.Faults.{Told}
-use Rattle.theory_filler.specs.Walks.{IsOrderly, WalkFrom, StepLeads, StepFails, WalkLeads, WalkFails, AllMay}
+use Rattle.theory_filler.specs.Walks.{IsOrderly, WalkFrom, StepLeads, StepFails, WalkLeads, WalkFails}
+use Rattle.theory_filler.proofs.Places.{drop-at}
 
 -- what is told of a place, from what is told of another
 pub told : (G H : ℕ → ℕ → Fault → Type 0) → ((p s : ℕ) (x : Fault) → G p s x → H p s x)
@@ -43,19 +43,6 @@ number-at (s ∷ steps) d zero n lt e =
 number-at (s ∷ steps) d (suc k) n lt e =
     let h = and_parts (s.number == n) (are_numbered (n + 1) steps) e in
     number-at steps d k (n + 1) (omega arith) h.1 ∙ omega arith
-
-pub may-at : (May : JudgementOf Named → Type 0) (steps : List Step) (d : Step) (k : ℕ)
-    → k < length steps → AllMay May steps → May (judgement_of (get_or steps k d).judgement)
-may-at May [] d k lt h = absurd (omega arith)
-may-at May (s ∷ steps) d zero lt h = h.0
-may-at May (s ∷ steps) d (suc k) lt h = may-at May steps d k (omega arith) h.1
-
-drop-at : (steps : List Step) (k : ℕ) (item : Step) → k < length steps
-    → item ≡ get_or steps k item → drop k steps ≡ item ∷ drop (k + 1) steps
-drop-at steps k item lt is =
-    drop-cons steps k item lt
-    ∙ ap (λ (n : ℕ). get_or steps k item ∷ drop n steps) (sym (add-one k))
-    ∙ ap (λ (z : Step). z ∷ drop (k + 1) steps) (sym is)
 
 -- before the first step
 pub orderly-first : IsOrderly (record { steps = []; gaps = [] }) 1

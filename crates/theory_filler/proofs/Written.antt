@@ -1,5 +1,5 @@
 -- A written step of a walk.
-use Rattle.std.proofs.Common.{◌≡◌, ◌∙◌, ℕ, suc, ◌+◌, ◌≤◌, ◌<◌, ◌==◌, ◌&&◌, true, List, [], ◌∷◌, ◌++◌, length, map, ◌⊎◌, inl, inr, refl, sym, ap, subst, add-one, arith}
+use Rattle.std.proofs.Common.{◌≡◌, ◌∙◌, ℕ, ◌+◌, ◌≤◌, ◌<◌, ◌==◌, true, List, [], ◌∷◌, ◌++◌, length, map, ◌⊎◌, inl, inr, refl, sym, ap, subst, add-one, arith}
 use Rattle.std.specs.Prelude.{◌≢◌}
 use Rattle.std.proofs.lemmas.Bool.{and_parts, and_from, eq-eqb}
 use Rattle.std.proofs.lemmas.List.{map-append, length-append}
@@ -10,7 +10,7 @@ use Rattle.rule_table.specs.Verdicts as table
 use Rattle.rule_table.specs.Accepted.{InstanceBy, VerdictBy, fails}
 use Rattle.model_filling.specs.Offers.{Voice}
 use Rattle.model_filling.specs.Renumbering.{FilledGap, moved, raised_reason, renumbered}
-use Rattle.model_filling.specs.Walk.{Walk, ProofOutcome, goes_on, step_fails}
+use Rattle.model_filling.specs.Walk.{Walk, goes_on, step_fails}
 use Rattle.dom_terms.specs.declared.verdicts.SideName.{SideName}
 use Rattle.dom_terms.specs.declared.verdicts.Verdict.{Verdict}
 use Rattle.dom_terms.specs.declared.verdicts.Verdict.TheVariants as v
@@ -27,7 +27,8 @@ use Rattle.theory_filler.proofs.Gaps.{moved-reverse, moved-next, reason-reverse,
 -- ONE STEP MORE
 numbered-more : (steps : List rust.Step) (s : rust.Step) (n : ℕ) → are_numbered n steps ≡ true
     → s.number ≡ n + length steps → are_numbered n (steps ++ s ∷ []) ≡ true
-numbered-more [] s n e at = and_from (s.number == n) true (eq-eqb s.number n (omega (arith, at))) refl
+numbered-more [] s n e at =
+    and_from (s.number == n) true (eq-eqb s.number n (omega (arith, at))) refl
 numbered-more (x ∷ steps) s n e at =
     let h = and_parts (x.number == n) (are_numbered (n + 1) steps) e in
     and_from (x.number == n) (are_numbered (n + 1) (steps ++ s ∷ [])) h.0
@@ -134,7 +135,8 @@ module _ (before : Walked) (s : StepOf Named) (new : rust.Step)
       -- no number of it is too great
       step-is : step_of new ≡ renumbered (gaps_in before.gaps) s
       step-is =
-          is ∙ ap (λ (z : StepOf Named). held_step z) (sym (step-reverse (map gap_of before.gaps) s))
+          is
+          ∙ ap (λ (z : StepOf Named). held_step z) (sym (step-reverse (map gap_of before.gaps) s))
           ∙ as_it_is (moved (gaps_in before.gaps) s.number)
           (raised_reason (gaps_in before.gaps) s.reason) (omega (arith, orderly.numbered, few))
           (instance-held before.steps orderly.citable.in_order few (procedures_of theory)

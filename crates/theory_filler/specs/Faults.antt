@@ -22,6 +22,14 @@ abbrev pub FailsAt : Theory → List Voice → ℕ → ℕ → Fault → Type 0
 FailsAt theory voices procedure step fault =
     FailsFirst theory voices (record { procedure = procedure; step = step; fault = fault })
 
+-- the limit that the theory passes, as a fault tells it
+abbrev pub PassesLimit : Theory → FillFault → Type 0
+PassesLimit t (f.Fails procedure step verdict) = ⊥
+PassesLimit t (f.NoProof procedure) = ⊥
+PassesLimit t (f.Gap procedure step) = ⊥
+PassesLimit t (f.Limit kind) = filled_limit t ≡ Some (limit_kind_of kind)
+PassesLimit t f.OutOfMemory = Unit
+
 -- why no filled theory is handed out: the first place that fails, or the limit that it passes
 abbrev pub Refuses : Theory → List Voice → FillFault → Type 0
 Refuses theory voices (f.Fails procedure step verdict) =

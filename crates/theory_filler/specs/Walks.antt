@@ -1,15 +1,14 @@
 -- Needn't be believed: the program's promise doesn't speak of it. How far a walk through a proof
--- has come, and what its next step brings.
-use Rattle.std.specs.Prelude.{◌≡◌, ◌≤◌, ℕ, suc, ◌+◌, ◌*◌, List, [], ◌∷◌, length, map, reverse}
+-- has come, and what its next step brings; and the theory that comes of the walks.
+use Rattle.std.specs.Prelude.{◌≡◌, ◌≤◌, ℕ, ◌+◌, ◌*◌, List, [], ◌∷◌, length, map, reverse}
 use Rattle.model_formulas.specs.Formulas.{Named}
-use Rattle.model_commands.specs.Theories.{JudgementOf, StepOf, ProcedureOf, Theory}
+use Rattle.model_commands.specs.Theories.{StepOf, ProcedureOf, Theory}
 use Rattle.rule_table.specs.Accepted.{Fault}
 use Rattle.model_filling.specs.Offers.{Voice}
 use Rattle.model_filling.specs.Renumbering as filling
 use Rattle.model_filling.specs.Walk.{Walk, ProofOutcome, fails_at}
 use Rattle.theory_syntax.specs.declared.steps.Step.{Step}
-use Rattle.theory_syntax.specs.declared.theories.Procedure.{Procedure}
-use Rattle.theory_syntax.specs.Judgements.{judgement_of, step_of}
+use Rattle.theory_syntax.specs.Judgements.{step_of}
 use Rattle.cited_steps.specs.Earlier.{AreCitable}
 use Rattle.gap_filling.specs.declared.renumbering.FilledGap.{FilledGap}
 use Rattle.gap_filling.specs.Renumbered.{gap_of}
@@ -58,12 +57,6 @@ module _ (theory : Theory) (f : ProcedureOf Named) where
       (procedure ≡ number)
       × Walk theory f [] [] 1 (map step_of written) voices (fails_at place fault)
 
--- the judgement of each step may be asked for
-abbrev pub AllMay : (JudgementOf Named → Type 0) → List Step → Type 0
-AllMay May [] = Unit
-AllMay May (step ∷ steps) = May (judgement_of step.judgement) × AllMay May steps
-
--- in each proof
-abbrev pub EachMay : (JudgementOf Named → Type 0) → List Procedure → Type 0
-EachMay May [] = Unit
-EachMay May (procedure ∷ procedures) = AllMay May procedure.proof × EachMay May procedures
+-- the theory with other procedures
+abbrev pub with_procedures : Theory → List (ProcedureOf Named) → Theory
+with_procedures theory fs = record theory { procedures = fs }

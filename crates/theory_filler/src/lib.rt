@@ -6,9 +6,11 @@
 
 mod faults;
 mod fillers;
+mod procedures;
 mod steps;
 mod walks;
 
 pub use faults::FillFault;
 pub use fillers::Fillers;
+pub use procedures::fill;
 pub use walks::fill_proof;

@@ -7,7 +7,7 @@ ghost use Rattle.model_files.specs.Sizes.{JudgementIsSmall, TheoryIsSmall};
 ghost use Rattle.model_filling.specs.Offers.{Voice};
 ghost use Rattle.theory_syntax.specs.Judgements.{judgement_of, reason_of, step_of};
 ghost use Rattle.theory_syntax.specs.Theories.{theory_of};
-ghost use Rattle.theory_filler.specs.Answers.{OfProcedure};
+ghost use Rattle.theory_filler.specs.Answers.{OfProcedure, WereAsked};
 ghost use Rattle.theory_filler.specs.Faults.{Told};
 ghost use Rattle.theory_filler.specs.Walks.{IsOrderly, StepLeads, StepFails};
 
@@ -86,7 +86,6 @@ fn fill_gap<F: Fillers>(
     requires within { step.now.number ≤ 65535 }
     requires small { JudgementIsSmall (judgement_of step.now.judgement) }
     requires sorted { judgement_sorted (judgement_of step.now.judgement) ≡ true }
-    requires may { F.may_ask (judgement_of step.now.judgement) }
     requires reason { reason_of step.now.reason ≡ auto }
     ensures orderly { OnOk result (IsOrderly walked.new (step.now.number + 1)) }
     ensures leads { OfProcedure (theory_of theory.now) procedure (λ f. OnOk result
@@ -95,6 +94,7 @@ fn fill_gap<F: Fillers>(
     ensures bad { OfProcedure (theory_of theory.now) procedure (λ f. IfErr result
         (Told (StepFails (theory_of theory.now) f walked.old (F.voices fillers.old)
         (step_of step.now) procedure))) }
+    ensures asked { WereAsked (F.voices fillers.old) (F.voices fillers.new) }
 {
     let before = walked.steps.len();
     let proof = &mut walked.steps;
@@ -127,7 +127,6 @@ pub(crate) fn add_step<F: Fillers>(
     requires within { step.now.number ≤ 65535 }
     requires small { JudgementIsSmall (judgement_of step.now.judgement) }
     requires sorted { judgement_sorted (judgement_of step.now.judgement) ≡ true }
-    requires may { F.may_ask (judgement_of step.now.judgement) }
     ensures orderly { OnOk result (IsOrderly walked.new (step.now.number + 1)) }
     ensures leads { OfProcedure (theory_of theory.now) procedure (λ f. OnOk result
         (StepLeads (theory_of theory.now) f walked.old (F.voices fillers.old)
@@ -135,6 +134,7 @@ pub(crate) fn add_step<F: Fillers>(
     ensures bad { OfProcedure (theory_of theory.now) procedure (λ f. IfErr result
         (Told (StepFails (theory_of theory.now) f walked.old (F.voices fillers.old)
         (step_of step.now) procedure))) }
+    ensures asked { WereAsked (F.voices fillers.old) (F.voices fillers.new) }
 {
     match &step.reason {
         Reason::Auto => fill_gap(alloc, table, theory, procedure, fillers, walked, step),

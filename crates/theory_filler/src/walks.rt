@@ -10,9 +10,9 @@ ghost use Rattle.theory_syntax.specs.Judgements.{judgement_of, step_of};
 ghost use Rattle.theory_syntax.specs.Theories.{procedure_of, theory_of};
 ghost use Rattle.cited_steps.specs.Earlier.{AreCitable, steps_in};
 ghost use Rattle.hoare_kernel.specs.Walks.{AllSorted, ProofIsNumbered};
-ghost use Rattle.theory_filler.specs.Answers.{OfProcedure};
+ghost use Rattle.theory_filler.specs.Answers.{OfProcedure, WereAsked};
 ghost use Rattle.theory_filler.specs.Faults.{Told};
-ghost use Rattle.theory_filler.specs.Walks.{AllMay, WalkFails, WalkLeads};
+ghost use Rattle.theory_filler.specs.Walks.{WalkFails, WalkLeads};
 
 use crate::faults::FillFault;
 use crate::fillers::Fillers;
@@ -38,7 +38,6 @@ fn walk<F: Fillers>(
     requires citable { AreCitable written.now }
     requires few { length written.now ≤ 65535 }
     requires sorted { AllSorted written.now }
-    requires may { AllMay F.may_ask written.now }
     ensures citable { IfOk result (λ walked. AreCitable walked.steps) }
     ensures leads { OfProcedure (theory_of theory.now) procedure (λ f. IfOk result
         (λ walked. WalkLeads (theory_of theory.now) f written.now (F.voices fillers.old) walked
@@ -46,6 +45,7 @@ fn walk<F: Fillers>(
     ensures bad { OfProcedure (theory_of theory.now) procedure (λ f. IfErr result
         (Told (WalkFails (theory_of theory.now) f written.now (F.voices fillers.old)
         procedure))) }
+    ensures asked { WereAsked (F.voices fillers.old) (F.voices fillers.new) }
 {
     let mut walked = Walked {
         steps: Steps::new(alloc),
@@ -105,12 +105,12 @@ pub fn fill_proof<F: Fillers>(
     requires numbered { ProofIsNumbered procedure.now }
     requires few { length procedure.now.proof ≤ 65535 }
     requires sorted { AllSorted procedure.now.proof }
-    requires may { AllMay F.may_ask procedure.now.proof }
     ensures filled { IfOk result (λ proof. Walk (theory_of theory.now)
         (procedure_of procedure.now) [] [] 1 (map step_of procedure.now.proof)
         (F.voices fillers.old) (proof_filled (map step_of proof) (F.voices fillers.new))) }
     ensures bad { IfErr result (Told (WalkFails (theory_of theory.now)
         (procedure_of procedure.now) procedure.now.proof (F.voices fillers.old) number)) }
+    ensures asked { WereAsked (F.voices fillers.old) (F.voices fillers.new) }
 {
     let walked = walk(
         alloc,

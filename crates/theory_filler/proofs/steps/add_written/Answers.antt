@@ -14,7 +14,8 @@ use Rattle.gap_filling.specs.declared.renumbering.FilledGap.{FilledGap}
 use Rattle.theory_filler.proofs.Written.{differs, written-orderly, written-leads, written-fails}
 use Rattle.theory_filler.proofs.steps.add_written.Goals as goal
 
-pub returns-in_ok-push-in-Instance-clause-orderly : goal.returns-in_ok-push-in-Instance-clause-orderly
+pub returns-in_ok-push-in-Instance-clause-orderly
+    : goal.returns-in_ok-push-in-Instance-clause-orderly
 returns-in_ok-push-in-Instance-clause-orderly c =
     let s = step_of c.args.step.now in
     let new = c.in_ok-new.new in

@@ -1,5 +1,5 @@
 -- A walk goes on, or ends at the first place that fails.
-use Rattle.std.proofs.Common.{◌≡◌, ◌∙◌, ◌+◌, true, sym, ap, subst, arith}
+use Rattle.std.proofs.Common.{◌≡◌, ◌+◌, true, sym, ap, subst, arith, rules}
 use Rattle.model_files.specs.FileFaults.{judgement_sorted}
 use Rattle.model_files.specs.Sizes.{JudgementIsSmall}
 use Rattle.theory_syntax.specs.declared.steps.Step.{Step}
@@ -8,7 +8,8 @@ use Rattle.theory_syntax.specs.Theories.{theory_of}
 use Rattle.hoare_kernel.proofs.Walks.{small_at, sorted_at}
 use Rattle.theory_filler.specs.Faults.{Told}
 use Rattle.theory_filler.specs.Walks.{IsOrderly, WalkFails}
-use Rattle.theory_filler.proofs.WholeWalks.{handed_out, number-at, may-at, so-far-next, so-far-fails}
+use Rattle.theory_filler.proofs.WholeWalks.{handed_out, number-at, so-far-next, so-far-fails}
+use Rattle.theory_filler.proofs.Turns.{were-none, were-then}
 use Rattle.theory_filler.proofs.walks.walk.Goals as goal
 
 pub add_step-requires-clause-walked : goal.add_step-requires-clause-walked
@@ -37,12 +38,6 @@ add_step-requires-clause-sorted g c =
     (sorted_at c.args.written.now c.step-item.result c.loop-step.step-index
     (omega (arith, c.loop-step-test.true)) c.requires.sorted)
 
-pub add_step-requires-clause-may : goal.add_step-requires-clause-may
-add_step-requires-clause-may g c =
-    subst (λ (z : Step). g.F.Fillers.may_ask (judgement_of z.judgement)) (sym c.step-item.is)
-    (may-at g.F.Fillers.may_ask c.args.written.now c.step-item.result c.loop-step.step-index
-    (omega (arith, c.loop-step-test.true)) c.requires.may)
-
 pub returns-in_err-add_step-clause-bad : goal.returns-in_err-add_step-clause-bad
 returns-in_err-add_step-clause-bad g c = λ f in_theory.
     let theory = theory_of c.args.theory.now in
@@ -58,6 +53,19 @@ returns-in_err-add_step-clause-bad g c = λ f in_theory.
     c.loop-step.walked (g.F.Fillers.voices c.loop-step.fillers)
     (c.loop-step.invariant.leads f in_theory) c.args.procedure e
     (c.in_err-add_step.ensures.bad f in_theory))
+
+pub returns-in_err-add_step-clause-asked : goal.returns-in_err-add_step-clause-asked
+returns-in_err-add_step-clause-asked g c =
+    were-then (g.F.Fillers.voices c.args.fillers.now) (g.F.Fillers.voices c.loop-step.fillers)
+    (g.F.Fillers.voices c.add_step.new.fillers) c.loop-step.invariant.asked c.add_step.ensures.asked
+
+pub loop-step-init : goal.loop-step-init
+loop-step-init g c = record {
+  within = search rules;
+  orderly = search rules;
+  leads = search rules;
+  asked = were-none (g.F.Fillers.voices c.args.fillers.now);
+}
 
 pub loop-step-preserved : goal.loop-step-preserved
 loop-step-preserved g c =
@@ -78,4 +86,7 @@ loop-step-preserved g c =
           (c.loop-step.invariant.leads f in_theory) c.add_step.new.walked
           (g.F.Fillers.voices c.add_step.new.fillers)
           (c.in_ok-add_step.ensures.leads f in_theory);
+      asked = were-then voices (g.F.Fillers.voices c.loop-step.fillers)
+          (g.F.Fillers.voices c.add_step.new.fillers) c.loop-step.invariant.asked
+          c.add_step.ensures.asked;
     }

@@ -2,6 +2,7 @@ use Rattle.std.proofs.Common.{◌≡◌, ◌+◌, ◌-◌, ◌≤◌, length, So
 use Rattle.model_formulas.specs.Formulas.{Named}
 use Rattle.model_commands.specs.Theories.{ProcedureOf}
 use Rattle.theory_syntax.specs.Theories.{theory_of}
+use Rattle.theory_filler.specs.Answers.{WereAsked}
 use Rattle.theory_filler.specs.Walks.{IsOrderly}
 use Rattle.theory_filler.proofs.WholeWalks.{SoFar}
 use Rattle.theory_filler.proofs.walks.walk.Given as goal
@@ -15,4 +16,5 @@ invariant-loop-step g l = record {
       → slice_get (theory_of l.theory).procedures (l.procedure - 1) ≡ Some f
       → SoFar (theory_of l.theory) f l.written (g.F.Fillers.voices l.fn.fillers) l.step-index
       l.walked (g.F.Fillers.voices l.fillers);
+  asked : WereAsked (g.F.Fillers.voices l.fn.fillers) (g.F.Fillers.voices l.fillers);
 }
