@@ -1,0 +1,4 @@
+pub mod Alone
+pub mod InOrder
+pub mod Places
+pub mod Lent
