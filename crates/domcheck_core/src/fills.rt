@@ -2,10 +2,12 @@
 ghost use Rattle.std.specs.Prelude.{◌≡◌, ℕ, List, None, IfOk};
 ghost use Rattle.model_files.specs.Sizes.{TheoryIsSmall};
 ghost use Rattle.model_files.specs.FileFaults.{IsWellFormedTheory};
+ghost use Rattle.model_filling.specs.Offers.{Voice};
 ghost use Rattle.model_grammar.specs.TheoryWriting.{theory_text};
 ghost use Rattle.model_answers.specs.Texts.{theory_limit};
 ghost use Rattle.theory_syntax.specs.Theories.{theory_of};
 ghost use Rattle.theory_filler.specs.Answers.{WereAsked};
+ghost use Rattle.theory_filler.specs.Faults.{Refuses};
 ghost use Rattle.boxed_fillers.specs.Voices.{voices_of};
 ghost use Rattle.domcheck_core.specs.Answers.{FillAnswer, FillVerdict};
 ghost use Rattle.domcheck_core.specs.Clauses.{IsFilledFile};
@@ -32,6 +34,25 @@ fn written(alloc: Global, filled: &Theory) -> Result<Reply, OutOfMemory>
     Ok(Reply { status, output })
 }
 
+// The answer where no filled theory is handed out.
+fn unfilled(alloc: Global, theory: &Theory, fault: FillFault) -> Result<Reply, OutOfMemory>
+    requires { (voices : List Voice) × Refuses (theory_of theory.now) voices fault }
+    ensures { (voices : List Voice) → Refuses (theory_of theory.now) voices fault
+        → IfOk result (λ r. FillVerdict voices (theory_of theory.now) r.status r.output) }
+{
+    match fault {
+        FillFault::Fails {
+            procedure,
+            step,
+            verdict,
+        } => failure(alloc, theory, procedure, step, verdict),
+        FillFault::NoProof { procedure } => no_proof(alloc, theory, procedure),
+        FillFault::Gap { procedure, step } => gap(alloc, theory, procedure, step),
+        FillFault::Limit(kind) => reported(alloc, Status::Limit(kind), Report::Limit { kind }),
+        FillFault::OutOfMemory => Err(OutOfMemory),
+    }
+}
+
 // The answer on the theory of a file. The memory of the filled theory is given back or left.
 fn filling(
     alloc: Global,
@@ -53,19 +74,7 @@ fn filling(
             let_go(filled, ending);
             reply
         }
-        Err(
-            FillFault::Fails {
-                procedure,
-                step,
-                verdict,
-            },
-        ) => failure(alloc, theory, procedure, step, verdict),
-        Err(FillFault::NoProof { procedure }) => no_proof(alloc, theory, procedure),
-        Err(FillFault::Gap { procedure, step }) => gap(alloc, theory, procedure, step),
-        Err(FillFault::Limit(kind)) => {
-            reported(alloc, Status::Limit(kind), Report::Limit { kind })
-        }
-        Err(FillFault::OutOfMemory) => Err(OutOfMemory),
+        Err(fault) => unfilled(alloc, theory, fault),
     }
 }
 

@@ -1,3 +1,4 @@
+use Rattle.std.proofs.Common.{[]}
 use Rattle.domcheck_core.specs.Answers.{bad_words, made, tried}
 use Rattle.domcheck_core.proofs.answers.answer_words.Goals as goal
 
@@ -12,7 +13,7 @@ returns-in-Ok-Fill-clause-answer g c =
 pub returns-in-Ok-Run-clause-answer : goal.returns-in-Ok-Run-clause-answer
 returns-in-Ok-Run-clause-answer g c =
     rw (rw c.in-Ok-Run.field-0-is at c.in-Ok-Run.ensures.reading)
-    (c.run.ensures.answer _)
+    (c.run.ensures.answer [])
 
 pub returns-in_ok-reported-in-Err-BadWords-clause-answer :
     goal.returns-in_ok-reported-in-Err-BadWords-clause-answer
