@@ -1,13 +1,16 @@
-//! The program `domcheck`: hands its words, the current folder and standard output to the top call,
-//! and ends with the number of the status. Promises nothing beyond the contract of `domcheck`, and
-//! writes nothing to standard error. Stands on domcheck_core and outside_io.
+//! The program `domcheck`: hands its words, the current folder, standard output and the assistants
+//! to the top call, and ends with the number of the status. Promises nothing beyond the contract of
+//! `domcheck`, and writes nothing to standard error. Stands on domcheck_core, step_filler and
+//! outside_io.
 #![tactic(auto)]
 
-use domcheck_core::{Status, domcheck};
+use dom_terms::OutOfMemory;
+use domcheck_core::{Filler, Status, domcheck};
 use outside_io::{Folder, Screen};
 use std::env::{Env, FillError};
 use std::process::ExitCode;
 use std::{env, io};
+use step_filler::{Conj, Spot};
 
 // What the system tells the program, with its arguments counted from the first word after the
 // program's name, so that a name that is no UTF-8 text is never read.
@@ -32,30 +35,35 @@ impl<R: Env> Env for AfterName<R> {
 
 // The words after the program's name. Words that are no UTF-8 text have no reading, and so they
 // are handed on as no words at all.
-fn words_of(rt: &HostRuntime) -> Result<Vec<String>, Status> {
+fn words_of(rt: &HostRuntime) -> Result<Vec<String>, OutOfMemory> {
     let mut words = Vec::new(rt.alloc());
     match env::args(&(AfterName { host: rt }, rt.alloc())) {
         Ok(all) => {
             for word in all {
-                if words.push(word).is_err() {
-                    return Err(Status::OutOfMemory);
-                }
+                words.push(word)?;
             }
             Ok(words)
         }
-        Err(error) if error.kind() == io::ErrorKind::OutOfMemory => Err(Status::OutOfMemory),
+        Err(error) if error.kind() == io::ErrorKind::OutOfMemory => Err(OutOfMemory),
         Err(_) => Ok(words),
     }
 }
 
+// How the call ends. Where there is no memory for the words or the fillers nothing is written.
+fn end_of(rt: &HostRuntime) -> Result<Status, OutOfMemory> {
+    let words = words_of(rt)?;
+    let mut fillers: Vec<Box<dyn Filler>> = Vec::new(rt.alloc());
+    fillers.push(Box::new(rt.alloc(), Spot::new())?)?;
+    fillers.push(Box::new(rt.alloc(), Conj::new())?)?;
+    let mut folder = Folder::new(rt);
+    let mut screen = Screen::new(rt);
+    Ok(domcheck(rt.alloc(), &words, &mut folder, &mut screen, fillers))
+}
+
 fn main(rt: HostRuntime) -> ExitCode {
-    let status = match words_of(&rt) {
-        Ok(words) => {
-            let mut folder = Folder::new(&rt);
-            let mut screen = Screen::new(&rt);
-            domcheck(rt.alloc(), &words, &mut folder, &mut screen)
-        }
-        Err(status) => status,
+    let status = match end_of(&rt) {
+        Ok(status) => status,
+        Err(OutOfMemory) => Status::OutOfMemory,
     };
     ExitCode::from(status.number())
 }

@@ -4,18 +4,25 @@ use Rattle.model_commands.specs.Theories.{Theory}
 use Rattle.dom_terms.specs.declared.limits.LimitKind as own
 use Rattle.outside_io.specs.Causes.{Told}
 use Rattle.triple_laws.proofs.Theories.{accepted_theories_hold}
+use Rattle.std.specs.Str.{IsUtf8}
+use Rattle.rule_table.specs.Accepted.{Fault}
+use Rattle.model_filling.specs.Offers.{Voice}
+use Rattle.model_filling.specs.Filled.{filled_limit}
+use Rattle.model_grammar.specs.TheoryWriting.{theory_lines}
+use Rattle.logic_text.proofs.Utf8Lemmas.{lines_literals}
+use Rattle.filled_theory_laws.proofs.FileTexts.{filled-file}
 use Rattle.model_limits.specs.Limits.{standard_limits}
-use Rattle.model_answers.specs.Words.{Request, check, run, make, trial}
+use Rattle.model_answers.specs.Words.{Request, check, fill, run, make, trial}
 use Rattle.model_text.specs.Lexemes.{Lexeme}
 use Rattle.model_limits.specs.Limits.{LimitKind, file_limit}
 use Rattle.model_answers.specs.Texts.{IsFile}
-use Rattle.domcheck_core.specs.Answers.{Books, Answer, limit_answer, Unread, over_limit, CheckVerdict, says_yes, has_gap, step_fails, has_no_proof, CheckAnswer, no_file, judged, DocumentAnswer, IsCalled, NotCalled, RunAnswer, not_run, not_called, is_called, IsAnswer, checked, ran, IsToldBook, IsTold}
+use Rattle.domcheck_core.specs.Answers.{Books, Answer, limit_answer, Unread, over_limit, NoFile, no_file, judged, PlaceAnswer, CheckVerdict, says_yes, says_no, CheckAnswer, FillVerdict, says_filled, fills_too_much, cannot_fill, FillAnswer, DocumentAnswer, IsCalled, NotCalled, RunAnswer, not_run, not_called, is_called, IsAnswer, checked, filled, ran, IsToldBook, IsTold}
 use Rattle.domcheck_core.specs.Books.{IsReply}
-use Rattle.domcheck_core.specs.Clauses.{OfFile, IsSoundFile, ExactlyWhere, BadWordsExactly, Says, IsAnswered, Wrote}
+use Rattle.domcheck_core.specs.Clauses.{OfFile, IsSoundFile, OfGaps, IsFilledFile, TookFilled, ExactlyWhere, BadWordsExactly, Says, IsAnswered, Wrote}
 use Rattle.outside_io.specs.Pieces.{Took}
 use Rattle.domcheck_core.proofs.Tested.{large_text}
 use Rattle.domcheck_core.proofs.OneAnswer.{not_file, not_both_called, told_of, one_answer}
-use Rattle.domcheck_core.proofs.Statuses.{document_status, all_no_file, is_of_called, speaks, reply_speaks}
+use Rattle.domcheck_core.proofs.Statuses.{document_status, AllOf, all_no_file, all_places, all_limits, is_of_called, speaks, reply_speaks}
 use Rattle.domcheck_core.specs.declared.status.Status.{Status}
 use Rattle.domcheck_core.specs.declared.status.Status.TheVariants as status
 
@@ -26,15 +33,6 @@ pub too_large : {A : Type 0} (Spells : A → List Lexeme → Type 0) (most : ℕ
 too_large Spells most bad_line bytes s output long e =
     over_limit (ap (λ (z : Option LimitKind). option_map limit_answer z)
     (large_text most bytes long) ∙ ap (λ (z : Answer). Some z) e)
-
--- a yes is a proof
-sound_verdict : (bytes : List ℕ) (theory : Theory) (s : Status) (output : List ℕ)
-    → IsFile bytes theory → CheckVerdict theory s output → s ≡ status.Done → IsSoundFile bytes
-sound_verdict bytes t s output file (says_yes x) q =
-    (t, file, accepted_theories_hold t file.well_formed x)
-sound_verdict bytes t s output file (has_gap n m f x a h d) q = absurd cc
-sound_verdict bytes t s output file (step_fails n m f x name ns ts v a h d r) q = absurd cc
-sound_verdict bytes t s output file (has_no_proof n m f a h) q = absurd cc
 
 -- the status is no yes
 abbrev IsNoYes : Status → Type 0
@@ -49,11 +47,52 @@ no_yes_ill e = cc
 no_yes_bad : IsNoYes status.BadText
 no_yes_bad e = cc
 
+no_yes_left : IsNoYes status.GapLeft
+no_yes_left e = cc
+
+no_yes_fails : IsNoYes status.StepFails
+no_yes_fails e = cc
+
+no_yes_file : (bytes : List ℕ) (s : Status) (output : List ℕ) → NoFile bytes s output → IsNoYes s
+no_yes_file bytes s output a =
+    all_no_file IsNoYes no_yes_past no_yes_ill bytes s output no_yes_bad a
+
+no_yes_place : (theory : Theory) (procedure place : ℕ) (fault : Fault) (s : Status)
+    (output : List ℕ) → PlaceAnswer theory procedure place fault s output → IsNoYes s
+no_yes_place theory procedure place fault s output a =
+    all_places IsNoYes theory procedure place fault s output no_yes_left no_yes_fails a
+
+-- a yes is a proof
+sound_verdict : (bytes : List ℕ) (theory : Theory) (s : Status) (output : List ℕ)
+    → IsFile bytes theory → CheckVerdict theory s output → s ≡ status.Done → IsSoundFile bytes
+sound_verdict bytes t s output file (says_yes x) q =
+    (t, file, accepted_theories_hold t file.well_formed x)
+sound_verdict bytes t s output file (says_no bad first a) q =
+    absurd (no_yes_place t bad.procedure bad.step bad.fault s output a q)
+
 pub sound : (bytes : List ℕ) (s : Status) (output : List ℕ)
     → CheckAnswer bytes s output → s ≡ status.Done → IsSoundFile bytes
-sound bytes s output (no_file a) e =
-    absurd (all_no_file IsNoYes no_yes_past no_yes_ill bytes s output no_yes_bad a e)
+sound bytes s output (no_file a) e = absurd (no_yes_file bytes s output a e)
 sound bytes s output (judged t file v) e = sound_verdict bytes t s output file v e
+
+-- WHAT IS FILLED, written as UTF-8, is a file of its own
+module _ (voices : List Voice) (bytes : List ℕ) where
+  filled_verdict : (theory : Theory) (s : Status) (output : List ℕ) → IsFile bytes theory
+      → FillVerdict voices theory s output → s ≡ status.Done → IsUtf8 output
+      → IsFilledFile voices bytes output
+  filled_verdict theory s output file (says_filled t is within) e utf8 =
+      let back = filled-file bytes theory voices t file is within
+      (lines_literals (theory_lines t) utf8) in
+      (theory, t, back.0, file, is, refl, back.1, back.2, back.3)
+  filled_verdict theory s output file (fills_too_much t is limited) e utf8 =
+      absurd (subst (AllOf IsNoYes) limited (all_limits IsNoYes no_yes_past (filled_limit t)) e)
+  filled_verdict theory s output file (cannot_fill bad first a) e utf8 =
+      absurd (no_yes_place theory bad.procedure bad.step bad.fault s output a e)
+
+  pub filled_file : (s : Status) (output : List ℕ) → FillAnswer voices bytes s output
+      → s ≡ status.Done → IsUtf8 output → IsFilledFile voices bytes output
+  filled_file s output (no_file a) e utf8 = absurd (no_yes_file bytes s output a e)
+  filled_file s output (judged t file v) e utf8 = filled_verdict t s output file v e utf8
 
 -- the status and the line of a reply are those of the answer
 pub said : {R E : Type 0} (status_in : R → Status) (line_in : R → List ℕ)
@@ -83,7 +122,7 @@ no_words_bad : AreNoWords status.BadText
 no_words_bad e = cc
 
 -- A REPLY, where what it needs is told
-module _ (books : Books) where
+module _ (voices : List Voice) (books : Books) where
   -- of a run: the document that was read is the told one, where it comes to that
   told_run : (document bytes procedure : List ℕ) (fuel : ℕ) (arguments : List (List ℕ))
       (read : List ℕ) (s : Status) (output : List ℕ) → Told (books document) (λ d. read ≡ d)
@@ -100,13 +139,16 @@ module _ (books : Books) where
       (subst (λ (z : List ℕ). DocumentAnswer t f values fuel z s output) (sym there) answer)
 
   pub answer : (r : Option Request) (s : Status) (output : List ℕ)
-      → IsReply r books s output → IsTold r books → IsAnswer books r s output
+      → IsReply voices r books s output → IsTold r books → IsAnswer voices books r s output
   answer None s output a told = a
   answer (Some (make n)) s output a told = a
   answer (Some (trial n)) s output a told = a
   answer (Some (check file)) s output a told =
       checked file told.0 told.1
       (subst (λ (z : List ℕ). CheckAnswer z s output) (a.2 told.0 told.1) a.1)
+  answer (Some (fill file)) s output a told =
+      filled file told.0 told.1
+      (subst (λ (z : List ℕ). FillAnswer voices z s output) (a.2 told.0 told.1) a.1)
   answer (Some (run file procedure document fuel arguments)) s output a told =
       ran file procedure document fuel arguments told.0 told.1
       (told_run document told.0 procedure fuel arguments a.1.0 s output a.1.2 told.2
@@ -114,28 +156,30 @@ module _ (books : Books) where
       (a.2 told.0 told.1) a.1.1))
 
   pub answered : (r : Option Request) (s : Status) (output : List ℕ)
-      → IsReply r books s output → IsAnswered r books s
+      → IsReply voices r books s output → IsAnswered voices r books s
   answered r s output a = λ told. inl (output, answer r s output a told)
 
   -- the answer of the definition, where there is one, is the one that was given
-  pub same_answer : (r : Option Request) (s : Status) (output : List ℕ) → IsReply r books s output
+  pub same_answer : (r : Option Request) (s : Status) (output : List ℕ)
+      → IsReply voices r books s output
       → (before after : Option (List ℕ)) → Took before after output
-      → (t : Status) (other : List ℕ) → IsAnswer books r t other → Says s before after t other
+      → (t : Status) (other : List ℕ) → IsAnswer voices books r t other
+      → Says s before after t other
   same_answer r s output a before after took t other b =
-      let told = told_of books r t other b in
-      let same = one_answer books r s output t other (answer r s output a told) b in
+      let told = told_of voices books r t other b in
+      let same = one_answer voices books r s output t other (answer r s output a told) b in
       (same.0, subst (λ (z : List ℕ). Took before after z) same.1 took)
 
   -- what the sink took is all of the output of the answer
-  pub wrote : (r : Option Request) (s : Status) (output : List ℕ) → IsReply r books s output
+  pub wrote : (r : Option Request) (s : Status) (output : List ℕ) → IsReply voices r books s output
       → (before after : Option (List ℕ)) → Took before after output
-      → Wrote r books s before after
-  wrote r s output a before after took = by_status s (reply_speaks r books s output a)
+      → Wrote voices r books s before after
+  wrote r s output a before after took = by_status s (reply_speaks voices r books s output a)
       (λ told. (output, answer r s output a told, took))
     where
       by_status : (t : Status) → speaks t ≡ true
-          → (IsTold r books → (o : List ℕ) × IsAnswer books r t o × Took before after o)
-          → Wrote r books t before after
+          → (IsTold r books → (o : List ℕ) × IsAnswer voices books r t o × Took before after o)
+          → Wrote voices r books t before after
       by_status status.Done e h = h
       by_status status.StepFails e h = h
       by_status status.BadWords e h = h
@@ -153,13 +197,30 @@ module _ (books : Books) where
   -- a fact of the told bytes of a file
   pub on_file : (r : Option Request) (s : Status) (output : List ℕ) (P : List ℕ → Type 0)
       → ((bytes : List ℕ) → CheckAnswer bytes s output → P bytes)
-      → IsReply r books s output → OfFile r books P
+      → IsReply voices r books s output → OfFile r books P
   on_file None s output P f a = tt
   on_file (Some (make n)) s output P f a = tt
   on_file (Some (trial n)) s output P f a = tt
+  on_file (Some (fill file)) s output P f a = tt
   on_file (Some (run file procedure document fuel arguments)) s output P f a = tt
   on_file (Some (check file)) s output P f a = λ bytes told.
       f bytes (subst (λ (z : List ℕ). CheckAnswer z s output) (a.2 bytes told) a.1)
+
+  -- and of those of a file that is filled, where the sink took the output
+  pub on_gaps : (r : Option Request) (s : Status) (output : List ℕ) (before after : Option (List ℕ))
+      → IsReply voices r books s output → IsUtf8 output → Took before after output
+      → OfGaps r books (λ bytes. s ≡ status.Done → TookFilled voices bytes before after)
+  on_gaps None s output before after a utf8 took = tt
+  on_gaps (Some (make n)) s output before after a utf8 took = tt
+  on_gaps (Some (trial n)) s output before after a utf8 took = tt
+  on_gaps (Some (check file)) s output before after a utf8 took = tt
+  on_gaps (Some (run file procedure document fuel arguments)) s output before after a utf8 took = tt
+  on_gaps (Some (fill file)) s output before after a utf8 took = λ bytes told e. (
+    output,
+    filled_file voices bytes s output
+        (subst (λ (z : List ℕ). FillAnswer voices z s output) (a.2 bytes told) a.1) e utf8,
+    took,
+  )
 
   -- bad words of a run
   words_of_run : (bytes procedure : List ℕ) (fuel : ℕ) (arguments : List (List ℕ))
@@ -181,11 +242,12 @@ module _ (books : Books) where
       not_bad_words h = cc
 
   pub bad_words_exactly : (r : Option Request) (s : Status) (output : List ℕ)
-      → IsReply r books s output → BadWordsExactly r books s
+      → IsReply voices r books s output → BadWordsExactly r books s
   bad_words_exactly None s output a = tt
   bad_words_exactly (Some (make n)) s output a = tt
   bad_words_exactly (Some (trial n)) s output a = tt
   bad_words_exactly (Some (check file)) s output a = tt
+  bad_words_exactly (Some (fill file)) s output a = tt
   bad_words_exactly (Some (run file procedure document fuel arguments)) s output a =
       λ bytes told. words_of_run bytes procedure fuel arguments (Some a.1.0) s output
       (subst (λ (z : List ℕ). RunAnswer (Some a.1.0) z procedure fuel arguments s output)

@@ -11,4 +11,6 @@ pub mod Counts
 pub mod Tested
 pub mod Refusing
 pub mod Verdicts
+pub mod FilledPlaces
+pub mod Fillings
 pub mod Trials

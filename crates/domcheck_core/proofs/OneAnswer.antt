@@ -8,8 +8,12 @@ use Rattle.model_formulas.specs.Formulas.{Named}
 use Rattle.model_commands.specs.Theories.{ProcedureOf, StepOf, Theory, Reason, by_rule}
 use Rattle.model_files.specs.FileFaults.{FileFault, first_file_fault}
 use Rattle.rule_table.specs.Verdicts as verdicts
-use Rattle.rule_table.specs.Accepted.{Fault, gap, fails, no_proof, BadPlace}
+use Rattle.rule_table.specs.Accepted.{Fault, BadPlace}
 use Rattle.rule_table.proofs.Places.{accepted-none, one-first-bad}
+use Rattle.model_filling.specs.Offers.{Voice}
+use Rattle.model_filling.specs.Filled.{filled_limit}
+use Rattle.model_filling.proofs.One.{one-filled, one-bad, not-both-ends}
+use Rattle.model_grammar.specs.TheoryWriting.{theory_text}
 use Rattle.model_text.specs.Lexemes.{Lexeme}
 use Rattle.model_text.specs.Nesting.{lexemes_of}
 use Rattle.model_text.specs.FaultTokens.{IsFaultToken}
@@ -21,7 +25,7 @@ use Rattle.model_answers.specs.Texts.{limit_passed, theory_limit, IsFile}
 use Rattle.model_answers.specs.Output.{bad_text_line, bad_document_text_line, fail_line, no_proof_line, gap_line}
 use Rattle.proof_text.proofs.Exact.{one_theory}
 use Rattle.logic_text.proofs.Exact.{at_most_one}
-use Rattle.domcheck_core.specs.Answers.{Books, Answer, limit_answer, fault_answer, Unread, over_limit, spells_nothing, theory_refusal, NoFile, unread, refused, item_numbered, CheckVerdict, IsBadAt, says_yes, has_gap, step_fails, has_no_proof, CheckAnswer, no_file, judged, grove_answer, DocumentAnswer, no_document, is_document, IsCalled, NotCalled, RunAnswer, not_run, not_called, is_called, IsAnswer, bad_words, checked, ran, made, tried, IsToldBook, IsTold}
+use Rattle.domcheck_core.specs.Answers.{Books, Answer, limit_answer, fault_answer, Unread, over_limit, spells_nothing, theory_refusal, NoFile, unread, refused, FileAnswer, no_file, judged, item_numbered, PlaceAnswer, has_gap, step_fails, has_no_proof, CheckVerdict, says_yes, says_no, CheckAnswer, FillVerdict, says_filled, fills_too_much, cannot_fill, FillAnswer, grove_answer, DocumentAnswer, no_document, is_document, IsCalled, NotCalled, RunAnswer, not_run, not_called, is_called, IsAnswer, bad_words, checked, filled, ran, made, tried, IsToldBook, IsTold}
 use Rattle.domcheck_core.specs.declared.status.Status.{Status}
 
 -- values in options
@@ -118,115 +122,120 @@ one_no_file bytes s t o p (refused u e spelled f) (refused v d spells g) =
     some_pair s t o p (theory_refusal u) f
     (ap theory_refusal (one_theory (lexemes_of bytes) u v spelled spells) ∙ g)
 
--- CHECK
+module _ (Verdict : Theory → Status → List ℕ → Type 0)
+    (one : (theory : Theory) (s t : Status) (o p : List ℕ) → Verdict theory s o
+    → Verdict theory t p → Equal s o t p) where
+  one_file_answer : (bytes : List ℕ) (s t : Status) (o p : List ℕ)
+      → FileAnswer Verdict bytes s o → FileAnswer Verdict bytes t p → Equal s o t p
+  one_file_answer bytes s t o p (no_file a) (no_file b) = one_no_file bytes s t o p a b
+  one_file_answer bytes s t o p (no_file a) (judged u file v) =
+      absurd (not_file bytes s o u file a)
+  one_file_answer bytes s t o p (judged u file v) (no_file b) =
+      absurd (not_file bytes t p u file b)
+  one_file_answer bytes s t o p (judged u a v) (judged w b z) =
+      one w s t o p (subst (λ (y : Theory). Verdict y s o) (one_file bytes u w a b) v) z
+
+-- BAD PLACES
 -- one has the number
-one_numbered : {A : Type 0} (n m : ℕ) (items others : List A) (a b : A) → n ≡ m → items ≡ others
-    → item_numbered n items ≡ Some a → item_numbered m others ≡ Some b → a ≡ b
-one_numbered n m items others a b p q d e =
-    let same : item_numbered n items ≡ item_numbered m others = λ i. item_numbered (p i) (q i) in
-    some_same a b (sym d ∙ same ∙ e)
+one_numbered : {A : Type 0} (n : ℕ) (items others : List A) (a b : A) → items ≡ others
+    → item_numbered n items ≡ Some a → item_numbered n others ≡ Some b → a ≡ b
+one_numbered n items others a b q d e = some_same a b (sym d ∙ ap (item_numbered n) q ∙ e)
 
 -- a step names one rule
 one_name : (x y : Reason) (name other citations others : List ℕ) (arguments more : List Term)
     → x ≡ y → x ≡ by_rule name citations arguments → y ≡ by_rule other others more → name ≡ other
 one_name x y name other citations others arguments more e a b = cc
 
-one_failure : (v w : verdicts.Verdict) → fails v ≡ fails w → v ≡ w
-one_failure v w e = cc
-
--- gaps, failing steps and ends differ
-no_gap_fails : (v : verdicts.Verdict) → gap ≡ fails v → ⊥
-no_gap_fails v e = cc
-
-no_gap_ends : gap ≡ no_proof → ⊥
-no_gap_ends e = cc
-
-no_fault_ends : (v : verdicts.Verdict) → fails v ≡ no_proof → ⊥
-no_fault_ends v e = cc
-
-module _ (theory : Theory) where
-  one_fault : (n l m k : ℕ) (a b : Fault) → IsBadAt theory n l a → IsBadAt theory m k b → a ≡ b
-  one_fault n l m k a b x y = ap (λ (z : BadPlace). z.fault) (one-first-bad theory _ _ x y)
-
-  -- the procedure and the step of the first bad place
-  one_procedure : (n l m k : ℕ) (a b : Fault) (f g : ProcedureOf Named) → IsBadAt theory n l a
-      → IsBadAt theory m k b → item_numbered n theory.procedures ≡ Some f
-      → item_numbered m theory.procedures ≡ Some g → f ≡ g
-  one_procedure n l m k a b f g x y =
-      let same : n ≡ m = ap (λ (z : BadPlace). z.procedure) (one-first-bad theory _ _ x y) in
-      one_numbered n m theory.procedures theory.procedures f g same refl
-
-  one_step : (n l m k : ℕ) (a b : Fault) (f g : ProcedureOf Named) (x y : StepOf Named)
-      → IsBadAt theory n l a → IsBadAt theory m k b → f ≡ g → item_numbered l f.proof ≡ Some x
-      → item_numbered k g.proof ≡ Some y → x ≡ y
-  one_step n l m k a b f g x y h j e =
-      let same : l ≡ k = ap (λ (z : BadPlace). z.step) (one-first-bad theory _ _ h j) in
-      one_numbered l k f.proof g.proof x y same (ap (λ (z : ProcedureOf Named). z.proof) e)
-
 gap_lines : (f g : ProcedureOf Named) (x y : StepOf Named) → f ≡ g → x ≡ y
     → gap_line x.number f.name x.line ≡ gap_line y.number g.name y.line
 gap_lines f g x y e d = λ i. gap_line (d i).number (e i).name (d i).line
 
 fail_lines : (f g : ProcedureOf Named) (x y : StepOf Named) (name other : List ℕ)
-    (v w : verdicts.Verdict) → f ≡ g → x ≡ y → name ≡ other → v ≡ w
-    → fail_line x.number f.name x.line name v ≡ fail_line y.number g.name y.line other w
-fail_lines f g x y name other v w e d n h =
-    λ i. fail_line (d i).number (e i).name (d i).line (n i) (h i)
+    (v : verdicts.Verdict) → f ≡ g → x ≡ y → name ≡ other
+    → fail_line x.number f.name x.line name v ≡ fail_line y.number g.name y.line other v
+fail_lines f g x y name other v e d n =
+    λ i. fail_line (d i).number (e i).name (d i).line (n i) v
 
+module _ (theory : Theory) where
+  -- the procedure and the step of a place
+  one_procedure : (n : ℕ) (f g : ProcedureOf Named)
+      → item_numbered n theory.procedures ≡ Some f → item_numbered n theory.procedures ≡ Some g
+      → f ≡ g
+  one_procedure n f g = one_numbered n theory.procedures theory.procedures f g refl
+
+  one_step : (n : ℕ) (f g : ProcedureOf Named) (x y : StepOf Named) → f ≡ g
+      → item_numbered n f.proof ≡ Some x → item_numbered n g.proof ≡ Some y → x ≡ y
+  one_step n f g x y e = one_numbered n f.proof g.proof x y (ap (λ (z : ProcedureOf Named).
+      z.proof) e)
+
+  one_place : (n k : ℕ) (fault : Fault) (s t : Status) (o p : List ℕ)
+      → PlaceAnswer theory n k fault s o → PlaceAnswer theory n k fault t p → Equal s o t p
+  one_place n k fault s t o p (has_gap f x a b) (has_gap g y c d) =
+      let one : f ≡ g = one_procedure n f g a c in
+      (refl, gap_lines f g x y one (one_step k f g x y one b d))
+  one_place n k fault s t o p (step_fails f x name ns ts v a b q)
+      (step_fails g y other ms us w c d r) =
+      let one : f ≡ g = one_procedure n f g a c in
+      let step : x ≡ y = one_step k f g x y one b d in
+      let named : name ≡ other = one_name x.reason y.reason name other ns ms ts us
+      (ap (λ (z : StepOf Named). z.reason) step) q r in
+      (refl, fail_lines f g x y name other v one step named)
+  one_place n k fault s t o p (has_no_proof f a) (has_no_proof g b) =
+      (refl, ap (λ (z : ProcedureOf Named). no_proof_line z.name) (one_procedure n f g a b))
+
+  -- the answer to the same place is the same
+  same_place : (bad other : BadPlace) (s t : Status) (o p : List ℕ) → bad ≡ other
+      → PlaceAnswer theory bad.procedure bad.step bad.fault s o
+      → PlaceAnswer theory other.procedure other.step other.fault t p → Equal s o t p
+  same_place bad other s t o p e a b =
+      one_place other.procedure other.step other.fault s t o p
+      (subst (λ (z : BadPlace). PlaceAnswer theory z.procedure z.step z.fault s o) e a) b
+
+-- CHECK
 one_verdict : (theory : Theory) (s t : Status) (o p : List ℕ) → CheckVerdict theory s o
     → CheckVerdict theory t p → Equal s o t p
 one_verdict theory s t o p (says_yes x) (says_yes y) = (refl, refl)
-one_verdict theory s t o p (says_yes x) (has_gap m k g y c u v) =
-    absurd (accepted-none theory _ x c)
-one_verdict theory s t o p (says_yes x) (step_fails m k g y name ns ts w c u v r) =
-    absurd (accepted-none theory _ x c)
-one_verdict theory s t o p (says_yes x) (has_no_proof m k g c u) =
-    absurd (accepted-none theory _ x c)
-one_verdict theory s t o p (has_gap n l f x a b d) (says_yes y) =
-    absurd (accepted-none theory _ y a)
-one_verdict theory s t o p (has_gap n l f x a b d) (has_gap m k g y c u v) =
-    let one : f ≡ g = one_procedure theory n l m k gap gap f g a c b u in
-    (refl, gap_lines f g x y one (one_step theory n l m k gap gap f g x y a c one d v))
-one_verdict theory s t o p (has_gap n l f x a b d) (step_fails m k g y name ns ts w c u v r) =
-    absurd (no_gap_fails w (one_fault theory n l m k gap (fails w) a c))
-one_verdict theory s t o p (has_gap n l f x a b d) (has_no_proof m k g c u) =
-    absurd (no_gap_ends (one_fault theory n l m k gap no_proof a c))
-one_verdict theory s t o p (step_fails n l f x name ns ts z a b d q) (says_yes y) =
-    absurd (accepted-none theory _ y a)
-one_verdict theory s t o p (step_fails n l f x name ns ts z a b d q) (has_gap m k g y c u v) =
-    absurd (no_gap_fails z (one_fault theory m k n l gap (fails z) c a))
-one_verdict theory s t o p (step_fails n l f x name ns ts z a b d q)
-    (step_fails m k g y other ms us w c u v r) =
-    let one : f ≡ g = one_procedure theory n l m k (fails z) (fails w) f g a c b u in
-    let step : x ≡ y = one_step theory n l m k (fails z) (fails w) f g x y a c one d v in
-    let named : name ≡ other = one_name x.reason y.reason name other ns ms ts us
-    (ap (λ (z : StepOf Named). z.reason) step) q r in (
-      refl,
-      fail_lines f g x y name other z w one step named
-          (one_failure z w (one_fault theory n l m k (fails z) (fails w) a c)),
-    )
-one_verdict theory s t o p (step_fails n l f x name ns ts z a b d q) (has_no_proof m k g c u) =
-    absurd (no_fault_ends z (one_fault theory n l m k (fails z) no_proof a c))
-one_verdict theory s t o p (has_no_proof n l f a b) (says_yes y) =
-    absurd (accepted-none theory _ y a)
-one_verdict theory s t o p (has_no_proof n l f a b) (has_gap m k g y c u v) =
-    absurd (no_gap_ends (one_fault theory m k n l gap no_proof c a))
-one_verdict theory s t o p (has_no_proof n l f a b) (step_fails m k g y name ns ts w c u v r) =
-    absurd (no_fault_ends w (one_fault theory m k n l (fails w) no_proof c a))
-one_verdict theory s t o p (has_no_proof n l f a b) (has_no_proof m k g c u) = (
-  refl,
-  ap (λ (z : ProcedureOf Named). no_proof_line z.name)
-      (one_procedure theory n l m k no_proof no_proof f g a c b u),
-)
+one_verdict theory s t o p (says_yes x) (says_no bad y a) =
+    absurd (accepted-none theory bad x y)
+one_verdict theory s t o p (says_no bad x a) (says_yes y) =
+    absurd (accepted-none theory bad y x)
+one_verdict theory s t o p (says_no bad x a) (says_no other y b) =
+    same_place theory bad other s t o p (one-first-bad theory bad other x y) a b
 
 pub one_check : (bytes : List ℕ) (s t : Status) (o p : List ℕ)
     → CheckAnswer bytes s o → CheckAnswer bytes t p → Equal s o t p
-one_check bytes s t o p (no_file a) (no_file b) = one_no_file bytes s t o p a b
-one_check bytes s t o p (no_file a) (judged u file v) = absurd (not_file bytes s o u file a)
-one_check bytes s t o p (judged u file v) (no_file b) = absurd (not_file bytes t p u file b)
-one_check bytes s t o p (judged u a v) (judged w b z) =
-    one_verdict w s t o p
-    (subst (λ (y : Theory). CheckVerdict y s o) (one_file bytes u w a b) v) z
+one_check = one_file_answer CheckVerdict one_verdict
+
+-- FILL
+module _ (voices : List Voice) where
+  one_filling : (theory : Theory) (s t : Status) (o p : List ℕ) → FillVerdict voices theory s o
+      → FillVerdict voices theory t p → Equal s o t p
+  one_filling theory s t o p (says_filled u x within) (says_filled v y short) =
+      (refl, ap theory_text (one-filled theory voices u v x y))
+  one_filling theory s t o p (says_filled u x within) (fills_too_much v y e) =
+      absurd (unlimited (filled_limit v) (t, p)
+      (ap filled_limit (sym (one-filled theory voices u v x y)) ∙ within) e)
+  one_filling theory s t o p (says_filled u x within) (cannot_fill bad y a) =
+      absurd (not-both-ends theory voices u bad x y)
+  one_filling theory s t o p (fills_too_much u x e) (says_filled v y within) =
+      absurd (unlimited (filled_limit u) (s, o)
+      (ap filled_limit (one-filled theory voices u v x y) ∙ within) e)
+  one_filling theory s t o p (fills_too_much u x e) (fills_too_much v y d) =
+      some_pair s t o p (option_map limit_answer (filled_limit u)) e
+      (ap (λ (z : Theory). option_map limit_answer (filled_limit z))
+      (one-filled theory voices u v x y) ∙ d)
+  one_filling theory s t o p (fills_too_much u x e) (cannot_fill bad y a) =
+      absurd (not-both-ends theory voices u bad x y)
+  one_filling theory s t o p (cannot_fill bad x a) (says_filled v y within) =
+      absurd (not-both-ends theory voices v bad y x)
+  one_filling theory s t o p (cannot_fill bad x a) (fills_too_much v y e) =
+      absurd (not-both-ends theory voices v bad y x)
+  one_filling theory s t o p (cannot_fill bad x a) (cannot_fill other y b) =
+      same_place theory bad other s t o p (one-bad theory voices bad other x y) a b
+
+  pub one_fill : (bytes : List ℕ) (s t : Status) (o p : List ℕ)
+      → FillAnswer voices bytes s o → FillAnswer voices bytes t p → Equal s o t p
+  one_fill = one_file_answer (FillVerdict voices) one_filling
 
 -- RUN
 one_on_document : (theory : Theory) (f : ProcedureOf Named) (values : List Value) (fuel : ℕ)
@@ -293,20 +302,24 @@ one_run document bytes name fuel words s t o p
     (ap (λ (z : ProcedureOf Named × List Value). z.0) pair)
     (ap (λ (z : ProcedureOf Named × List Value). z.1) pair) here d) c
 
-pub one_answer : (books : Books) (r : Option Request) (s : Status) (o : List ℕ) (t : Status)
-    (p : List ℕ) → IsAnswer books r s o → IsAnswer books r t p → Equal s o t p
-one_answer books r s o t p bad_words bad_words = (refl, refl)
-one_answer books r s o t p (checked file bytes e a) (checked again other f b) =
+pub one_answer : (voices : List Voice) (books : Books) (r : Option Request) (s : Status)
+    (o : List ℕ) (t : Status) (p : List ℕ)
+    → IsAnswer voices books r s o → IsAnswer voices books r t p → Equal s o t p
+one_answer voices books r s o t p bad_words bad_words = (refl, refl)
+one_answer voices books r s o t p (checked file bytes e a) (checked again other f b) =
     let same : bytes ≡ other = some_same bytes other (sym e ∙ f) in
     one_check other s t o p (subst (λ (z : List ℕ). CheckAnswer z s o) same a) b
-one_answer books r s o t p
+one_answer voices books r s o t p (filled file bytes e a) (filled again other f b) =
+    let same : bytes ≡ other = some_same bytes other (sym e ∙ f) in
+    one_fill voices other s t o p (subst (λ (z : List ℕ). FillAnswer voices z s o) same a) b
+one_answer voices books r s o t p
     (ran file procedure document fuel arguments bytes e a)
     (ran again procedure' document' fuel' arguments' other f b) =
     let same : bytes ≡ other = some_same bytes other (sym e ∙ f) in
     one_run (books document) other procedure fuel arguments s t o p
     (subst (λ (z : List ℕ). RunAnswer (books document) z procedure fuel arguments s o) same a) b
-one_answer books r s o t p (made n) (made m) = (refl, refl)
-one_answer books r s o t p (tried n) (tried m) = (refl, refl)
+one_answer voices books r s o t p (made n) (made m) = (refl, refl)
+one_answer voices books r s o t p (tried n) (tried m) = (refl, refl)
 
 -- where there is an answer, what it needs is told
 told_for_run : (books : Books) (bytes procedure document : List ℕ) (fuel : ℕ)
@@ -321,11 +334,12 @@ told_for_run books bytes procedure document fuel arguments s o
     (is_called u f vs read a e told d) c =
     (read, told)
 
-pub told_of : (books : Books) (r : Option Request) (s : Status) (o : List ℕ)
-    → IsAnswer books r s o → IsTold r books
-told_of books r s o bad_words = tt
-told_of books r s o (made n) = tt
-told_of books r s o (tried n) = tt
-told_of books r s o (checked file bytes e a) = (bytes, e)
-told_of books r s o (ran file procedure document fuel arguments bytes e a) =
+pub told_of : (voices : List Voice) (books : Books) (r : Option Request) (s : Status) (o : List ℕ)
+    → IsAnswer voices books r s o → IsTold r books
+told_of voices books r s o bad_words = tt
+told_of voices books r s o (made n) = tt
+told_of voices books r s o (tried n) = tt
+told_of voices books r s o (checked file bytes e a) = (bytes, e)
+told_of voices books r s o (filled file bytes e a) = (bytes, e)
+told_of voices books r s o (ran file procedure document fuel arguments bytes e a) =
     (bytes, e, told_for_run books bytes procedure document fuel arguments s o a)

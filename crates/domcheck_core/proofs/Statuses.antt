@@ -11,15 +11,18 @@ use Rattle.model_machine.specs.Outcomes.{Outcome, ends, spends, passes_limit, ha
 use Rattle.model_documents.specs.Numbers.{Numbered, first_out_of_range, first_repeat}
 use Rattle.model_groves.specs.Sizes.{size}
 use Rattle.model_limits.specs.Limits.{standard_limits}
-use Rattle.model_answers.specs.Words.{Request, check, run, make, trial}
+use Rattle.model_answers.specs.Words.{Request, check, fill, run, make, trial}
 use Rattle.model_limits.specs.Limits.{LimitKind, nodes_limit}
 use Rattle.dom_terms.specs.declared.limits.LimitKind as own
 use Rattle.model_answers.specs.Output.{range_line, repeat_line}
 use Rattle.model_text.specs.Lexemes.{Lexeme}
 use Rattle.model_files.specs.FileFaults.{FileFault, first_file_fault}
 use Rattle.model_answers.specs.Texts.{limit_passed, theory_limit}
-use Rattle.domcheck_core.specs.Answers.{Books, IsAnswer, bad_words, made, tried, Answer, limit_answer, fault_answer, Unread, over_limit, spells_nothing, NoFile, unread, refused, CheckVerdict, says_yes, has_gap, step_fails, has_no_proof, CheckAnswer, no_file, judged, outcome_answer, outcome_on, range_refusal, repeat_refusal, size_refusal, refusal, grove_answer, DocumentAnswer, no_document, is_document, RunAnswer, not_run, not_called, is_called}
-use Rattle.domcheck_core.specs.Clauses.{statuses, ReadRose}
+use Rattle.rule_table.specs.Accepted.{Fault}
+use Rattle.model_filling.specs.Offers.{Voice}
+use Rattle.model_filling.specs.Filled.{filled_limit}
+use Rattle.domcheck_core.specs.Answers.{Books, IsAnswer, bad_words, made, tried, Answer, limit_answer, fault_answer, Unread, over_limit, spells_nothing, NoFile, unread, refused, FileAnswer, no_file, judged, PlaceAnswer, has_gap, step_fails, has_no_proof, CheckVerdict, CheckAnswer, FillAnswer, says_yes, says_no, FillVerdict, says_filled, fills_too_much, cannot_fill, outcome_answer, outcome_on, range_refusal, repeat_refusal, size_refusal, refusal, grove_answer, DocumentAnswer, no_document, is_document, RunAnswer, not_run, not_called, is_called}
+use Rattle.domcheck_core.specs.Clauses.{file_statuses, statuses, ReadRose}
 use Rattle.domcheck_core.specs.Books.{IsReply}
 use Rattle.domcheck_core.specs.Numbers.{status_number}
 use Rattle.domcheck_core.specs.declared.status.Status.{Status}
@@ -27,7 +30,7 @@ use Rattle.domcheck_core.specs.declared.status.Status.TheVariants as status
 
 -- REFUSALS
 -- what holds of the status of each answer there is
-abbrev AllOf : (Status → Type 0) → Option Answer → Type 0
+abbrev pub AllOf : (Status → Type 0) → Option Answer → Type 0
 AllOf P None = Unit
 AllOf P (Some answer) = P answer.0
 
@@ -37,7 +40,7 @@ module _ (P : Status → Type 0) where
   first_of (Some a) b h k = h
 
   module _ (past : (kind : own.LimitKind) → P (status.Limit kind)) where
-    all_limits : (limit : Option LimitKind) → AllOf P (option_map limit_answer limit)
+    pub all_limits : (limit : Option LimitKind) → AllOf P (option_map limit_answer limit)
     all_limits None = tt
     all_limits (Some kind) = past _
 
@@ -60,6 +63,51 @@ module _ (P : Status → Type 0) where
           subst (AllOf P) e (first_of (option_map fault_answer (first_file_fault t))
           (option_map limit_answer (theory_limit t)) (all_faults (first_file_fault t))
           (all_limits (theory_limit t)))
+
+-- FILES
+module _ (P : Status → Type 0) where
+  pub all_places : (theory : Theory) (procedure place : ℕ) (fault : Fault) (s : Status) (o : List ℕ)
+      → P status.GapLeft → P status.StepFails → PlaceAnswer theory procedure place fault s o → P s
+  all_places theory procedure place fault s o left fails (has_gap f x h d) = left
+  all_places theory procedure place fault s o left fails (step_fails f x name ns ts v h d r) = fails
+  all_places theory procedure place fault s o left fails (has_no_proof f h) = fails
+
+  -- what holds of the status of each answer to a file that is judged
+  pub record HoldsOfFiles : Type 0 where
+    pub done : P status.Done
+    pub fails : P status.StepFails
+    pub left : P status.GapLeft
+    pub bad : P status.BadText
+    pub ill : P status.BadFile
+    pub past : (kind : own.LimitKind) → P (status.Limit kind)
+
+  module _ (holds : HoldsOfFiles) where
+    check_verdicts : (theory : Theory) (s : Status) (o : List ℕ) → CheckVerdict theory s o → P s
+    check_verdicts theory s o (says_yes x) = holds.done
+    check_verdicts theory s o (says_no bad first a) =
+        all_places theory bad.procedure bad.step bad.fault s o holds.left holds.fails a
+
+    fill_verdicts : (voices : List Voice) (theory : Theory) (s : Status) (o : List ℕ)
+        → FillVerdict voices theory s o → P s
+    fill_verdicts voices theory s o (says_filled t is within) = holds.done
+    fill_verdicts voices theory s o (fills_too_much t is e) =
+        subst (AllOf P) e (all_limits P holds.past (filled_limit t))
+    fill_verdicts voices theory s o (cannot_fill bad first a) =
+        all_places theory bad.procedure bad.step bad.fault s o holds.left holds.fails a
+
+    all_answers : (Verdict : Theory → Status → List ℕ → Type 0)
+        → ((theory : Theory) (s : Status) (o : List ℕ) → Verdict theory s o → P s)
+        → (bytes : List ℕ) (s : Status) (o : List ℕ) → FileAnswer Verdict bytes s o → P s
+    all_answers Verdict all bytes s o (no_file a) =
+        all_no_file P holds.past holds.ill bytes s o holds.bad a
+    all_answers Verdict all bytes s o (judged theory is v) = all theory s o v
+
+    pub check_answers : (bytes : List ℕ) (s : Status) (o : List ℕ) → CheckAnswer bytes s o → P s
+    check_answers = all_answers CheckVerdict check_verdicts
+
+    pub fill_answers : (voices : List Voice) (bytes : List ℕ) (s : Status) (o : List ℕ)
+        → FillAnswer voices bytes s o → P s
+    fill_answers voices = all_answers (FillVerdict voices) (fill_verdicts voices)
 
 -- the status is one of a run that is called
 abbrev pub is_of_called : Status → Bool
@@ -147,17 +195,15 @@ Speaks s = speaks s ≡ true
 speaks_no_file : (bytes : List ℕ) (s : Status) (o : List ℕ) → NoFile bytes s o → speaks s ≡ true
 speaks_no_file bytes s o a = all_no_file Speaks (λ kind. refl) refl bytes s o refl a
 
-speaks_verdict : (theory : Theory) (s : Status) (o : List ℕ) → CheckVerdict theory s o
-    → speaks s ≡ true
-speaks_verdict theory s o (says_yes x) = refl
-speaks_verdict theory s o (has_gap n m f x a h d) = refl
-speaks_verdict theory s o (step_fails n m f x name ns ts v a h d r) = refl
-speaks_verdict theory s o (has_no_proof n m f a h) = refl
-
-speaks_check : (bytes : List ℕ) (s : Status) (o : List ℕ) → CheckAnswer bytes s o
-    → speaks s ≡ true
-speaks_check bytes s o (no_file a) = speaks_no_file bytes s o a
-speaks_check bytes s o (judged t file v) = speaks_verdict t s o v
+file_speaks : HoldsOfFiles Speaks
+file_speaks = record {
+  done = refl;
+  fails = refl;
+  left = refl;
+  bad = refl;
+  ill = refl;
+  past = λ kind. refl;
+}
 
 speaks_run : (read : Option (List ℕ)) (bytes procedure : List ℕ) (fuel : ℕ)
     (arguments : List (List ℕ)) (s : Status) (o : List ℕ)
@@ -167,52 +213,49 @@ speaks_run read bytes name fuel words s o (not_called n) = refl
 speaks_run read bytes name fuel words s o (is_called t f values d a e told answer) =
     speaks_called s (document_status t f values fuel d s o answer)
 
-speaks_words : (books : Books) (s : Status) (o : List ℕ) → IsAnswer books None s o
-    → speaks s ≡ true
-speaks_words books s o bad_words = refl
+module _ (voices : List Voice) where
+  speaks_words : (books : Books) (s : Status) (o : List ℕ) → IsAnswer voices books None s o
+      → speaks s ≡ true
+  speaks_words books s o bad_words = refl
 
-speaks_made : (n : ℕ) (books : Books) (s : Status) (o : List ℕ)
-    → IsAnswer books (Some (make n)) s o → speaks s ≡ true
-speaks_made n books s o (made m) = refl
+  speaks_made : (n : ℕ) (books : Books) (s : Status) (o : List ℕ)
+      → IsAnswer voices books (Some (make n)) s o → speaks s ≡ true
+  speaks_made n books s o (made m) = refl
 
-speaks_tried : (n : ℕ) (books : Books) (s : Status) (o : List ℕ)
-    → IsAnswer books (Some (trial n)) s o → speaks s ≡ true
-speaks_tried n books s o (tried m) = refl
+  speaks_tried : (n : ℕ) (books : Books) (s : Status) (o : List ℕ)
+      → IsAnswer voices books (Some (trial n)) s o → speaks s ≡ true
+  speaks_tried n books s o (tried m) = refl
 
-pub reply_speaks : (r : Option Request) (books : Books) (s : Status) (o : List ℕ)
-    → IsReply r books s o → speaks s ≡ true
-reply_speaks None books s o a = speaks_words books s o a
-reply_speaks (Some (check file)) books s o a = speaks_check a.0 s o a.1
-reply_speaks (Some (run file procedure document fuel arguments)) books s o a =
-    speaks_run (Some a.1.0) a.0 procedure fuel arguments s o a.1.1
-reply_speaks (Some (make n)) books s o a = speaks_made n books s o a
-reply_speaks (Some (trial n)) books s o a = speaks_tried n books s o a
+  pub reply_speaks : (r : Option Request) (books : Books) (s : Status) (o : List ℕ)
+      → IsReply voices r books s o → speaks s ≡ true
+  reply_speaks None books s o a = speaks_words books s o a
+  reply_speaks (Some (check file)) books s o a = check_answers Speaks file_speaks a.0 s o a.1
+  reply_speaks (Some (fill file)) books s o a = fill_answers Speaks file_speaks voices a.0 s o a.1
+  reply_speaks (Some (run file procedure document fuel arguments)) books s o a =
+      speaks_run (Some a.1.0) a.0 procedure fuel arguments s o a.1.1
+  reply_speaks (Some (make n)) books s o a = speaks_made n books s o a
+  reply_speaks (Some (trial n)) books s o a = speaks_tried n books s o a
 
--- so it is no fault of the library or of the sink
-pub no_fault : (r : Option Request) (books : Books) (s : Status) (o : List ℕ)
-    → IsReply r books s o → (s ≡ status.ReadFault) ⊎ (s ≡ status.WriteFault) → ⊥
-no_fault r books s o a (inl e) = let q = reply_speaks r books s o a in cc
-no_fault r books s o a (inr e) = let q = reply_speaks r books s o a in cc
+  -- so it is no fault of the library or of the sink
+  pub no_fault : (r : Option Request) (books : Books) (s : Status) (o : List ℕ)
+      → IsReply voices r books s o → (s ≡ status.ReadFault) ⊎ (s ≡ status.WriteFault) → ⊥
+  no_fault r books s o a (inl e) = let q = reply_speaks r books s o a in cc
+  no_fault r books s o a (inr e) = let q = reply_speaks r books s o a in cc
 
 -- WHAT IS POSSIBLE
 -- the place of the status in the list
-module _ (file : List ℕ) where
-  abbrev PossibleCheck : Status → Type 0
-  PossibleCheck s = Contains (statuses (Some (check file))) (status_number s)
+abbrev PossibleOfFile : Status → Type 0
+PossibleOfFile s = Contains file_statuses (status_number s)
 
-  possible_verdict : (theory : Theory) (s : Status) (o : List ℕ) → CheckVerdict theory s o
-      → PossibleCheck s
-  possible_verdict theory s o (says_yes x) = (0, lit< tt, refl)
-  possible_verdict theory s o (has_gap n m f x a h d) = (5, lit< tt, refl)
-  possible_verdict theory s o (step_fails n m f x name ns ts v a h d r) = (1, lit< tt, refl)
-  possible_verdict theory s o (has_no_proof n m f a h) = (1, lit< tt, refl)
-
-  possible_check : (bytes : List ℕ) (s : Status) (o : List ℕ) → CheckAnswer bytes s o
-      → PossibleCheck s
-  possible_check bytes s o (no_file a) =
-      all_no_file PossibleCheck (λ kind. (4, lit< tt, refl)) (3, lit< tt, refl) bytes s o
-      (2, lit< tt, refl) a
-  possible_check bytes s o (judged t is v) = possible_verdict t s o v
+file_possible : HoldsOfFiles PossibleOfFile
+file_possible = record {
+  done = (0, lit< tt, refl);
+  fails = (1, lit< tt, refl);
+  left = (5, lit< tt, refl);
+  bad = (2, lit< tt, refl);
+  ill = (3, lit< tt, refl);
+  past = λ kind. (4, lit< tt, refl);
+}
 
 module _ (file procedure document : List ℕ) (fuel : ℕ) (arguments : List (List ℕ)) where
   abbrev Possible : Status → Type 0
@@ -243,31 +286,38 @@ module _ (file procedure document : List ℕ) (fuel : ℕ) (arguments : List (Li
   possible_run read bytes s o (is_called t f values d a e told answer) =
       possible_called s (document_status t f values fuel d s o answer)
 
-possible_words : (books : Books) (s : Status) (o : List ℕ) → IsAnswer books None s o
-    → Contains (statuses None) (status_number s)
-possible_words books s o bad_words = (0, lit< tt, refl)
+module _ (voices : List Voice) where
+  possible_words : (books : Books) (s : Status) (o : List ℕ) → IsAnswer voices books None s o
+      → Contains (statuses None) (status_number s)
+  possible_words books s o bad_words = (0, lit< tt, refl)
 
-possible_made : (n : ℕ) (books : Books) (s : Status) (o : List ℕ)
-    → IsAnswer books (Some (make n)) s o → Contains (statuses (Some (make n))) (status_number s)
-possible_made n books s o (made m) = (0, lit< tt, refl)
+  possible_made : (n : ℕ) (books : Books) (s : Status) (o : List ℕ)
+      → IsAnswer voices books (Some (make n)) s o
+      → Contains (statuses (Some (make n))) (status_number s)
+  possible_made n books s o (made m) = (0, lit< tt, refl)
 
-possible_tried : (n : ℕ) (books : Books) (s : Status) (o : List ℕ)
-    → IsAnswer books (Some (trial n)) s o → Contains (statuses (Some (trial n))) (status_number s)
-possible_tried n books s o (tried m) = (0, lit< tt, refl)
+  possible_tried : (n : ℕ) (books : Books) (s : Status) (o : List ℕ)
+      → IsAnswer voices books (Some (trial n)) s o
+      → Contains (statuses (Some (trial n))) (status_number s)
+  possible_tried n books s o (tried m) = (0, lit< tt, refl)
 
-pub possible : (r : Option Request) (books : Books) (s : Status) (o : List ℕ)
-    → IsReply r books s o → Contains (statuses r) (status_number s)
-possible None books s o a = possible_words books s o a
-possible (Some (check file)) books s o a = possible_check file a.0 s o a.1
-possible (Some (run file procedure document fuel arguments)) books s o a =
-    possible_run file procedure document fuel arguments (Some a.1.0) a.0 s o a.1.1
-possible (Some (make n)) books s o a = possible_made n books s o a
-possible (Some (trial n)) books s o a = possible_tried n books s o a
+  pub possible : (r : Option Request) (books : Books) (s : Status) (o : List ℕ)
+      → IsReply voices r books s o → Contains (statuses r) (status_number s)
+  possible None books s o a = possible_words books s o a
+  possible (Some (check file)) books s o a =
+      check_answers PossibleOfFile file_possible a.0 s o a.1
+  possible (Some (fill file)) books s o a =
+      fill_answers PossibleOfFile file_possible voices a.0 s o a.1
+  possible (Some (run file procedure document fuel arguments)) books s o a =
+      possible_run file procedure document fuel arguments (Some a.1.0) a.0 s o a.1.1
+  possible (Some (make n)) books s o a = possible_made n books s o a
+  possible (Some (trial n)) books s o a = possible_tried n books s o a
 
 -- where the call gives up
 pub no_memory : (r : Option Request) → Contains (statuses r) (status_number status.OutOfMemory)
 no_memory None = (1, lit< tt, refl)
 no_memory (Some (check file)) = (6, lit< tt, refl)
+no_memory (Some (fill file)) = (6, lit< tt, refl)
 no_memory (Some (run file procedure document fuel arguments)) = (8, lit< tt, refl)
 no_memory (Some (make n)) = (1, lit< tt, refl)
 no_memory (Some (trial n)) = (1, lit< tt, refl)
@@ -275,6 +325,7 @@ no_memory (Some (trial n)) = (1, lit< tt, refl)
 pub no_sink : (r : Option Request) → Contains (statuses r) (status_number status.WriteFault)
 no_sink None = (2, lit< tt, refl)
 no_sink (Some (check file)) = (8, lit< tt, refl)
+no_sink (Some (fill file)) = (8, lit< tt, refl)
 no_sink (Some (run file procedure document fuel arguments)) = (10, lit< tt, refl)
 no_sink (Some (make n)) = (2, lit< tt, refl)
 no_sink (Some (trial n)) = (2, lit< tt, refl)
@@ -283,6 +334,7 @@ pub no_book : (r : Option Request) (books : Books) (rose : List ℕ → Type 0)
     → ReadRose r books rose → Contains (statuses r) (status_number status.ReadFault)
 no_book None books rose h = absurd h
 no_book (Some (check file)) books rose h = (7, lit< tt, refl)
+no_book (Some (fill file)) books rose h = (7, lit< tt, refl)
 no_book (Some (run file procedure document fuel arguments)) books rose h = (9, lit< tt, refl)
 no_book (Some (make n)) books rose h = absurd h
 no_book (Some (trial n)) books rose h = absurd h

@@ -1,4 +1,4 @@
--- Verdicts on the theory of a file, from what the kernel answers.
+-- Where the first bad place of a theory stands in it, and the answer to a bad place.
 use Rattle.std.proofs.Common.{◌≡◌, ◌∙◌, ℕ, zero, suc, ◌+◌, Some, option_map, sym, ap, subst, slice_get, length, List, map, [], ◌∷◌, ◌++◌, ⊎_elim, arith}
 use Rattle.std.proofs.lemmas.List.{length-map}
 use Rattle.std.proofs.lemmas.Option.{slice_get-map}
@@ -15,15 +15,15 @@ use Rattle.theory_syntax.specs.Judgements.{reason_of, step_of}
 use Rattle.theory_syntax.specs.Theories.{procedure_of, theory_of}
 use Rattle.cited_steps.specs.Earlier.{steps_in}
 use Rattle.hoare_kernel.proofs.BadPlaces.{ProcedureThere, procedure-there, StepThere, step-there}
-use Rattle.domcheck_core.specs.Answers.{item_numbered, IsBadAt, CheckVerdict, has_gap, step_fails, has_no_proof}
-use Rattle.domcheck_core.specs.Stands.{HasProcedure, HasStep, NamesRule}
+use Rattle.domcheck_core.specs.Answers.{item_numbered, PlaceAnswer, has_gap, step_fails, has_no_proof}
+use Rattle.domcheck_core.specs.Stands.{HasProcedure, HasStep, NamesRule, HasPlace}
 use Rattle.domcheck_core.specs.declared.status.Status.TheVariants as status
 
 some_same : {A : Type 0} (a b : A) → Some a ≡ Some b → a ≡ b
 some_same a b e = cc
 
 -- the one with the number, by its place
-at-place : {A : Type 0} (items : List A) (n k : ℕ) (a : A) → n ≡ 1 + k
+pub at-place : {A : Type 0} (items : List A) (n k : ℕ) (a : A) → n ≡ 1 + k
     → slice_get items k ≡ Some a → item_numbered n items ≡ Some a
 at-place items n k a e there =
     let turned : suc k ≡ n = omega (arith, e) in
@@ -35,39 +35,29 @@ seen : {A B : Type 0} (f : A → B) (items : List A) (n : ℕ) (a : A) → item_
 seen f items zero a e = absurd cc
 seen f items (suc k) a e = slice_get-map f items k ∙ ap (option_map f) e
 
--- where a theory has a first bad place, it has its procedure
-pub has-procedure : (theory : Theory) (bad : BadPlace) → IsFirstBad (theory_of theory) bad
-    → HasProcedure theory bad.procedure
-has-procedure theory bad h =
-    let a : ProcedureThere theory bad = procedure-there theory bad h in
-    record {
-      procedure = a.procedure;
-      there = at-place theory.procedures bad.procedure a.place a.procedure a.counted a.there;
-    }
+-- the procedure that was found, and its step
+pub the-procedure : (theory : Theory) (number : ℕ) (a : HasProcedure theory number) (f : Procedure)
+    → item_numbered number theory.procedures ≡ Some f → a.procedure ≡ f
+the-procedure theory number a f e = some_same a.procedure f (sym a.there ∙ e)
 
--- and that has its step, unless the place is the end
-pub has-step : (theory : Theory) (bad : BadPlace) (f : Procedure)
-    → IsFirstBad (theory_of theory) bad → (bad.fault ≡ no_proof → ⊥)
-    → item_numbered bad.procedure theory.procedures ≡ Some f → HasStep f bad.step
-has-step theory bad f h n e =
-    let a : ProcedureThere theory bad = procedure-there theory bad h in
-    let same : a.procedure ≡ f = some_same a.procedure f
-    (sym (at-place theory.procedures bad.procedure a.place a.procedure a.counted a.there) ∙ e) in
-    subst (λ (z : Procedure). HasStep z bad.step) same (of_step a
-    (step-there (procedures_of (theory_of theory)) (nameless_procedure (procedure_of a.procedure))
-    [] a.procedure.proof 1 bad.step bad.fault a.first n))
-  where
-    of_step : (a : ProcedureThere theory bad) → StepThere a.procedure.proof 1 bad.step
-        → HasStep a.procedure bad.step
-    of_step a b = record {
-      step = b.step;
-      there = at-place a.procedure.proof bad.step b.place b.step b.counted b.there;
-    }
+pub the-step : (theory : Theory) (procedure place : ℕ) (a : HasProcedure theory procedure)
+    (f : Procedure) → HasStep a.procedure place
+    → item_numbered procedure theory.procedures ≡ Some f → HasStep f place
+the-step theory procedure place a f x e =
+    subst (λ (z : Procedure). HasStep z place) (the-procedure theory procedure a f e) x
 
--- a bad place; gaps and steps that fail are no ends
-abbrev pub bad-place : ℕ → ℕ → Fault → BadPlace
-bad-place procedure step fault = record { procedure = procedure; step = step; fault = fault }
+pub the-rule : (theory : Theory) (procedure place : ℕ) (a : HasProcedure theory procedure)
+    (f : Procedure) (x : HasStep a.procedure place) (step : Step)
+    → (reason_of x.step.reason ≡ auto → ⊥)
+    → item_numbered procedure theory.procedures ≡ Some f → item_numbered place f.proof ≡ Some step
+    → reason_of step.reason ≡ auto → ⊥
+the-rule theory procedure place a f x step closed e d =
+    let same : x.step ≡ step = some_same x.step step (sym x.there
+    ∙ ap (λ (z : Procedure). item_numbered place z.proof) (the-procedure theory procedure a f e)
+    ∙ d) in
+    subst (λ (z : Step). reason_of z.reason ≡ auto → ⊥) same closed
 
+-- ends are no gaps, and no steps that fail
 pub gap-no-end : gap ≡ no_proof → ⊥
 gap-no-end e = cc
 
@@ -75,7 +65,7 @@ pub failure-no-end : (v : verdicts.Verdict) → fails v ≡ no_proof → ⊥
 failure-no-end v e = cc
 
 -- there is no verdict on a gap
-no-verdict : (ps : model.Procedures) (reason : model.Reason) (earlier : List model.Step)
+pub no-verdict : (ps : model.Procedures) (reason : model.Reason) (earlier : List model.Step)
     (j : model.Judgement) (v : verdicts.Verdict) → VerdictBy ps reason earlier j v → reason ≡ auto
     → ⊥
 no-verdict ps auto earlier j v h e = h
@@ -108,49 +98,75 @@ not-open-at ps f steps zero v x h e d = absurd cc
 not-open-at ps f steps (suc k) v x h e d =
     not-left-open ps f [] steps 1 (suc k) k v x h (omega arith) e d
 
--- so it names a rule
-pub has-rule : (theory : Theory) (procedure place : ℕ) (v : verdicts.Verdict) (f : Procedure)
-    (x : Step) → IsBadAt (theory_of theory) procedure place (fails v)
-    → item_numbered procedure theory.procedures ≡ Some f → item_numbered place f.proof ≡ Some x
-    → reason_of x.reason ≡ auto → ⊥
-has-rule theory procedure place v f x h e d q =
-    let bad = bad-place procedure place (fails v) in
-    let a : ProcedureThere theory bad = procedure-there theory bad h in
-    let same : a.procedure ≡ f = some_same a.procedure f
-    (sym (at-place theory.procedures procedure a.place a.procedure a.counted a.there) ∙ e) in
-    not-open-at (procedures_of (theory_of theory)) (nameless_procedure (procedure_of f)) f.proof
-    place v x (subst (λ (z : Procedure). FirstBadStep (procedures_of (theory_of theory))
-    (nameless_procedure (procedure_of z)) [] (steps_in z.proof) 1 place (fails v)) same a.first) d q
+abbrev pub step-at : (f : Procedure) (place : ℕ) → StepThere f.proof 1 place → HasStep f place
+step-at f place b = record {
+  step = b.step;
+  there = at-place f.proof place b.place b.step b.counted b.there;
+}
 
--- the gap, as it is read
-pub gap-verdict : (theory : Theory) (procedure place : ℕ) (f : Procedure) (x : Step)
-    → IsBadAt (theory_of theory) procedure place gap
-    → item_numbered procedure theory.procedures ≡ Some f → item_numbered place f.proof ≡ Some x
-    → CheckVerdict (theory_of theory) status.GapLeft (gap_line x.number f.name x.line)
-gap-verdict theory procedure place f x first e d =
-    has_gap procedure place (procedure_of f) (step_of x) first
-    (seen procedure_of theory.procedures procedure f e) (seen step_of f.proof place x d)
+-- THE FIRST BAD PLACE of a theory stands in it
+module _ (theory : Theory) where
+  abbrev procedure-of : (bad : BadPlace) → ProcedureThere theory bad
+      → HasProcedure theory bad.procedure
+  procedure-of bad a = record {
+    procedure = a.procedure;
+    there = at-place theory.procedures bad.procedure a.place a.procedure a.counted a.there;
+  }
 
--- the step that fails
-pub fail-verdict : (theory : Theory) (procedure place : ℕ) (f : Procedure) (x : Step)
-    (name : List ℕ) (v : verdicts.Verdict)
-    → IsBadAt (theory_of theory) procedure place (fails v)
-    → item_numbered procedure theory.procedures ≡ Some f → item_numbered place f.proof ≡ Some x
-    → NamesRule (reason_of x.reason) name
-    → CheckVerdict (theory_of theory) status.StepFails (fail_line x.number f.name x.line name v)
-fail-verdict theory procedure place f x name v first e d named =
-    step_fails procedure place (procedure_of f) (step_of x) name named.citations named.arguments v
-    first (seen procedure_of theory.procedures procedure f e) (seen step_of f.proof place x d)
-    named.is
+  pub bad-place : (procedure place : ℕ) (fault : Fault)
+      → IsFirstBad (theory_of theory)
+      (record { procedure = procedure; step = place; fault = fault })
+      → HasPlace theory procedure place fault
+  bad-place procedure place fault h = by_fault fault (procedure-there theory _ h)
+    where
+      by_fault : (x : Fault)
+          → ProcedureThere theory (record { procedure = procedure; step = place; fault = x })
+          → HasPlace theory procedure place x
+      by_fault no_proof a = procedure-of _ a
+      by_fault gap a = (
+        procedure-of _ a,
+        step-at a.procedure place
+            (step-there (procedures_of (theory_of theory))
+            (nameless_procedure (procedure_of a.procedure)) [] a.procedure.proof 1 place gap a.first
+            gap-no-end),
+      )
+      by_fault (fails v) a =
+          let x = step-at a.procedure place
+          (step-there (procedures_of (theory_of theory))
+          (nameless_procedure (procedure_of a.procedure)) [] a.procedure.proof 1 place (fails v)
+          a.first (failure-no-end v)) in (
+            procedure-of _ a,
+            x,
+            not-open-at (procedures_of (theory_of theory))
+                (nameless_procedure (procedure_of a.procedure)) a.procedure.proof place v x.step
+                a.first x.there,
+          )
 
--- the end without the procedure's own triple
-pub end-verdict : (theory : Theory) (procedure place : ℕ) (f : Procedure)
-    → IsBadAt (theory_of theory) procedure place no_proof
-    → item_numbered procedure theory.procedures ≡ Some f
-    → CheckVerdict (theory_of theory) status.StepFails (no_proof_line f.name)
-end-verdict theory procedure place f first e =
-    has_no_proof procedure place (procedure_of f) first
-    (seen procedure_of theory.procedures procedure f e)
+-- THE ANSWER to a bad place
+module _ (theory : Theory) (procedure place : ℕ) (f : Procedure)
+    (there : item_numbered procedure theory.procedures ≡ Some f) where
+  -- the end without the procedure's own triple
+  pub end-answer : PlaceAnswer (theory_of theory) procedure place no_proof status.StepFails
+      (no_proof_line f.name)
+  end-answer =
+      has_no_proof (procedure_of f) (seen procedure_of theory.procedures procedure f there)
+
+  module _ (x : Step) (stands : item_numbered place f.proof ≡ Some x) where
+    -- the gap, as it is read
+    pub gap-answer : PlaceAnswer (theory_of theory) procedure place gap status.GapLeft
+        (gap_line x.number f.name x.line)
+    gap-answer =
+        has_gap (procedure_of f) (step_of x) (seen procedure_of theory.procedures procedure f there)
+        (seen step_of f.proof place x stands)
+
+    -- the step that fails
+    pub fail-answer : (name : List ℕ) (v : verdicts.Verdict) → NamesRule (reason_of x.reason) name
+        → PlaceAnswer (theory_of theory) procedure place (fails v) status.StepFails
+        (fail_line x.number f.name x.line name v)
+    fail-answer name v named =
+        step_fails (procedure_of f) (step_of x) name named.citations named.arguments v
+        (seen procedure_of theory.procedures procedure f there)
+        (seen step_of f.proof place x stands) named.is
 
 -- the line for an accepted theory, by its counts
 pub accepted_counts : (theory : Theory) (procedures steps : ℕ)

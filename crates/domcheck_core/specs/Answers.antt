@@ -14,15 +14,18 @@ use Rattle.model_limits.specs.Limits as limits
 use Rattle.model_limits.specs.Limits.{standard_limits}
 use Rattle.model_groves.specs.Sizes.{size}
 use Rattle.rule_table.specs.Verdicts as verdicts
-use Rattle.rule_table.specs.Accepted.{IsAccepted, Fault, gap, fails, no_proof, IsFirstBad}
+use Rattle.rule_table.specs.Accepted.{IsAccepted, BadPlace, Fault, gap, fails, no_proof, IsFirstBad}
+use Rattle.model_filling.specs.Offers.{Voice}
+use Rattle.model_filling.specs.Filled.{IsFilled, FailsFirst, filled_limit}
 use Rattle.model_text.specs.Lexemes.{Lexeme}
 use Rattle.model_text.specs.Nesting.{lexemes_of}
 use Rattle.model_text.specs.FaultTokens.{IsFaultToken}
 use Rattle.model_documents.specs.Grammar.{SpellsGrove}
 use Rattle.model_documents.specs.Numbers.{first_out_of_range, first_repeat}
 use Rattle.model_grammar.specs.Theories.{SpellsTheory}
+use Rattle.model_grammar.specs.TheoryWriting.{theory_text}
 use Rattle.model_generator.specs.Made.{made_text}
-use Rattle.model_answers.specs.Words.{Request, check, run, make, trial}
+use Rattle.model_answers.specs.Words.{Request, check, fill, run, make, trial}
 use Rattle.model_answers.specs.Arguments.{called}
 use Rattle.model_answers.specs.Texts.{limit_passed, theory_limit, IsFile}
 use Rattle.model_answers.specs.Output.{line, accepted_text, accepted_line, fail_line, no_proof_line, gap_line, bad_words_line, bad_text_line, bad_document_text_line, file_fault_line, range_line, repeat_line, limit_line, fault_line, spent_line, ended_lines}
@@ -81,39 +84,65 @@ pub data NoFile (bytes : List ℕ) : Status → List ℕ → Type 0 where
       → SpellsTheory theory (lexemes_of bytes) → theory_refusal theory ≡ Some (s, output)
       → NoFile bytes s output
 
--- CHECK
+-- the answer to the bytes of a file, where this is the answer to its theory
+pub data FileAnswer (Verdict : Theory → Status → List ℕ → Type 0) (bytes : List ℕ)
+    : Status → List ℕ → Type 0 where
+  no_file : {s : Status} {output : List ℕ} → NoFile bytes s output
+      → FileAnswer Verdict bytes s output
+  judged : (theory : Theory) {s : Status} {output : List ℕ} → IsFile bytes theory
+      → Verdict theory s output → FileAnswer Verdict bytes s output
+
+-- BAD PLACES
 -- the one with the number, counted from 1
 abbrev pub item_numbered : {A : Type 0} → ℕ → List A → Option A
 item_numbered zero items = None
 item_numbered (suc n) items = slice_get items n
 
--- the first bad place is at this step of this procedure, each counted from 1, and has this fault
-abbrev pub IsBadAt : Theory → ℕ → ℕ → Fault → Type 0
-IsBadAt theory procedure step fault =
-    IsFirstBad theory (record { procedure = procedure; step = step; fault = fault })
+-- the answer to a bad place of a theory: the step of a procedure, or the end of its proof, each
+-- counted from 1, and why it is bad
+pub data PlaceAnswer (theory : Theory) (procedure place : ℕ)
+    : Fault → Status → List ℕ → Type 0 where
+  has_gap : (f : ProcedureOf Named) (step : StepOf Named)
+      → item_numbered procedure theory.procedures ≡ Some f → item_numbered place f.proof ≡ Some step
+      → PlaceAnswer theory procedure place gap status.GapLeft
+      (gap_line step.number f.name step.line)
+  step_fails : (f : ProcedureOf Named) (step : StepOf Named) (name citations : List ℕ)
+      (arguments : List Term) (verdict : verdicts.Verdict)
+      → item_numbered procedure theory.procedures ≡ Some f → item_numbered place f.proof ≡ Some step
+      → step.reason ≡ by_rule name citations arguments
+      → PlaceAnswer theory procedure place (fails verdict) status.StepFails
+      (fail_line step.number f.name step.line name verdict)
+  has_no_proof : (f : ProcedureOf Named) → item_numbered procedure theory.procedures ≡ Some f
+      → PlaceAnswer theory procedure place no_proof status.StepFails (no_proof_line f.name)
 
+-- CHECK
 -- the answer of `check` on the theory of a file
 pub data CheckVerdict (theory : Theory) : Status → List ℕ → Type 0 where
   says_yes : IsAccepted theory → CheckVerdict theory status.Done (accepted_line theory)
-  has_gap : (procedure place : ℕ) (f : ProcedureOf Named) (step : StepOf Named)
-      → IsBadAt theory procedure place gap
-      → item_numbered procedure theory.procedures ≡ Some f → item_numbered place f.proof ≡ Some step
-      → CheckVerdict theory status.GapLeft (gap_line step.number f.name step.line)
-  step_fails : (procedure place : ℕ) (f : ProcedureOf Named) (step : StepOf Named)
-      (name citations : List ℕ) (arguments : List Term) (verdict : verdicts.Verdict)
-      → IsBadAt theory procedure place (fails verdict)
-      → item_numbered procedure theory.procedures ≡ Some f → item_numbered place f.proof ≡ Some step
-      → step.reason ≡ by_rule name citations arguments
-      → CheckVerdict theory status.StepFails (fail_line step.number f.name step.line name verdict)
-  has_no_proof : (procedure place : ℕ) (f : ProcedureOf Named)
-      → IsBadAt theory procedure place no_proof → item_numbered procedure theory.procedures ≡ Some f
-      → CheckVerdict theory status.StepFails (no_proof_line f.name)
+  says_no : (bad : BadPlace) {s : Status} {output : List ℕ} → IsFirstBad theory bad
+      → PlaceAnswer theory bad.procedure bad.step bad.fault s output
+      → CheckVerdict theory s output
 
 -- and on bytes
-pub data CheckAnswer (bytes : List ℕ) : Status → List ℕ → Type 0 where
-  no_file : {s : Status} {output : List ℕ} → NoFile bytes s output → CheckAnswer bytes s output
-  judged : (theory : Theory) {s : Status} {output : List ℕ} → IsFile bytes theory
-      → CheckVerdict theory s output → CheckAnswer bytes s output
+abbrev pub CheckAnswer : List ℕ → Status → List ℕ → Type 0
+CheckAnswer bytes = FileAnswer CheckVerdict bytes
+
+-- FILL
+-- the answer of `fill` on the theory of a file, whose gaps these fillers fill: the text of the
+-- filled theory, the limit that it passes, or the first place that fails
+pub data FillVerdict (voices : List Voice) (theory : Theory) : Status → List ℕ → Type 0 where
+  says_filled : (filled : Theory) → IsFilled theory voices filled → filled_limit filled ≡ None
+      → FillVerdict voices theory status.Done (theory_text filled)
+  fills_too_much : (filled : Theory) {s : Status} {output : List ℕ} → IsFilled theory voices filled
+      → option_map limit_answer (filled_limit filled) ≡ Some (s, output)
+      → FillVerdict voices theory s output
+  cannot_fill : (bad : BadPlace) {s : Status} {output : List ℕ} → FailsFirst theory voices bad
+      → PlaceAnswer theory bad.procedure bad.step bad.fault s output
+      → FillVerdict voices theory s output
+
+-- and on bytes
+abbrev pub FillAnswer : List Voice → List ℕ → Status → List ℕ → Type 0
+FillAnswer voices bytes = FileAnswer (FillVerdict voices) bytes
 
 -- RUN
 -- the answer of an outcome; the last never comes, since the next pick is free
@@ -195,18 +224,21 @@ pub data RunAnswer (document : Option (List ℕ)) (bytes procedure : List ℕ) (
 abbrev pub Books : Type 0
 Books = List ℕ → Option (List ℕ)
 
--- where the books that the request reads are told
-pub data IsAnswer (books : Books) : Option Request → Status → List ℕ → Type 0 where
-  bad_words : IsAnswer books None status.BadWords bad_words_line
+-- where the books that the request reads are told, and these fillers fill gaps
+pub data IsAnswer (voices : List Voice) (books : Books)
+    : Option Request → Status → List ℕ → Type 0 where
+  bad_words : IsAnswer voices books None status.BadWords bad_words_line
   checked : (file bytes : List ℕ) {s : Status} {output : List ℕ} → books file ≡ Some bytes
-      → CheckAnswer bytes s output → IsAnswer books (Some (check file)) s output
+      → CheckAnswer bytes s output → IsAnswer voices books (Some (check file)) s output
+  filled : (file bytes : List ℕ) {s : Status} {output : List ℕ} → books file ≡ Some bytes
+      → FillAnswer voices bytes s output → IsAnswer voices books (Some (fill file)) s output
   ran : (file procedure document : List ℕ) (fuel : ℕ) (arguments : List (List ℕ)) (bytes : List ℕ)
       {s : Status} {output : List ℕ} → books file ≡ Some bytes
       → RunAnswer (books document) bytes procedure fuel arguments s output
-      → IsAnswer books (Some (run file procedure document fuel arguments)) s output
-  made : (n : ℕ) → IsAnswer books (Some (make n)) status.Done (made_text n)
+      → IsAnswer voices books (Some (run file procedure document fuel arguments)) s output
+  made : (n : ℕ) → IsAnswer voices books (Some (make n)) status.Done (made_text n)
   tried : (n : ℕ)
-      → IsAnswer books (Some (trial n)) status.Done (line (accepted_text n (8 * n)))
+      → IsAnswer voices books (Some (trial n)) status.Done (line (accepted_text n (8 * n)))
 
 -- the book of this name is told
 abbrev pub IsToldBook : Books → List ℕ → Type 0
@@ -216,6 +248,7 @@ IsToldBook books name = (bytes : List ℕ) × (books name ≡ Some bytes)
 abbrev pub IsTold : Option Request → Books → Type 0
 IsTold None books = Unit
 IsTold (Some (check file)) books = IsToldBook books file
+IsTold (Some (fill file)) books = IsToldBook books file
 IsTold (Some (run file procedure document fuel arguments)) books =
     (bytes : List ℕ) × (books file ≡ Some bytes)
     × (IsCalled bytes procedure arguments → IsToldBook books document)

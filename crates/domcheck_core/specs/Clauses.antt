@@ -5,8 +5,12 @@ use Rattle.outside_io.specs.Causes.{Told}
 use Rattle.outside_io.specs.Pieces.{Took, TookPrefix}
 use Rattle.model_commands.specs.Theories.{Theory, procedures_of}
 use Rattle.model_machine.specs.LocalTriples.{MeetsItsSpecification}
-use Rattle.rule_table.specs.Accepted.{Each}
-use Rattle.model_answers.specs.Words.{Request, check, run, make, trial, reading_of}
+use Rattle.model_grammar.specs.TheoryWriting.{theory_text}
+use Rattle.model_round_trip.specs.ReadBack.{without_lines}
+use Rattle.rule_table.specs.Accepted.{Each, IsAccepted}
+use Rattle.model_filling.specs.Offers.{Voice}
+use Rattle.model_filling.specs.Filled.{IsFilled}
+use Rattle.model_answers.specs.Words.{Request, check, fill, run, make, trial, reading_of}
 use Rattle.model_answers.specs.Texts.{IsFile}
 use Rattle.domcheck_core.specs.Answers.{Books, IsAnswer, IsTold, IsCalled, NotCalled}
 use Rattle.domcheck_core.specs.declared.status.Status.{Status}
@@ -21,12 +25,31 @@ abbrev pub OfFile : Option Request → Books → (List ℕ → Type 0) → Type 
 OfFile (Some (check file)) books P = Told (books file) P
 OfFile r books P = Unit
 
+-- of those of the file that `fill` asks for
+abbrev pub OfGaps : Option Request → Books → (List ℕ → Type 0) → Type 0
+OfGaps (Some (fill file)) books P = Told (books file) P
+OfGaps r books P = Unit
+
 -- The bytes are a file of a theory, and each of its procedures, started in any context round data
 -- that meets its requires, faults in no number of steps and ends with data that meets its ensures.
 abbrev pub IsSoundFile : List ℕ → Type 0
 IsSoundFile bytes =
     (theory : Theory) × IsFile bytes theory
     × Each (MeetsItsSpecification (procedures_of theory)) (procedures_of theory)
+
+-- The bytes are a file of a theory, and the text is that of the theory with its gaps filled by
+-- these fillers; and the text is a file itself, whose theory is the filled one but for the lines of
+-- its steps, and is accepted.
+abbrev pub IsFilledFile : List Voice → List ℕ → List ℕ → Type 0
+IsFilledFile voices bytes text =
+    (theory : Theory) × (filled : Theory) × (read : Theory)
+    × IsFile bytes theory × IsFilled theory voices filled × (text ≡ theory_text filled)
+    × IsFile text read × (without_lines read ≡ without_lines filled) × IsAccepted read
+
+-- the sink took such a text
+abbrev pub TookFilled : List Voice → List ℕ → Option (List ℕ) → Option (List ℕ) → Type 0
+TookFilled voices bytes before after =
+    (text : List ℕ) × IsFilledFile voices bytes text × Took before after text
 
 -- the three statuses that may come for any file: want of memory, and a fault of library or sink
 abbrev pub GivesUp : Status → Type 0
@@ -37,9 +60,9 @@ abbrev pub Says : Status → Option (List ℕ) → Option (List ℕ) → Status 
 Says s before after wanted output = (s ≡ wanted) × Took before after output
 
 -- the answer is that of the definition, or the call gives up
-abbrev pub IsAnswered : Option Request → Books → Status → Type 0
-IsAnswered r books s =
-    IsTold r books → ((output : List ℕ) × IsAnswer books r s output) ⊎ GivesUp s
+abbrev pub IsAnswered : List Voice → Option Request → Books → Status → Type 0
+IsAnswered voices r books s =
+    IsTold r books → ((output : List ℕ) × IsAnswer voices books r s output) ⊎ GivesUp s
 
 -- this status comes only where the cause stands; and where it stands, it comes or the call gives up
 abbrev pub ExactlyWhere : Type 0 → Status → Status → Type 0
@@ -53,10 +76,16 @@ BadWordsExactly (Some (run file procedure document fuel arguments)) books s =
     ExactlyWhere (NotCalled bytes procedure arguments) s status.BadWords)
 BadWordsExactly r books s = Unit
 
--- the numbers of the statuses that a request may have, whatever is told
+-- the numbers of the statuses that a request may have, whatever is told: of one that reads a file
+-- and judges it
+abbrev pub file_statuses : List ℕ
+file_statuses = 0 ∷ 1 ∷ 3 ∷ 4 ∷ 8 ∷ 9 ∷ 10 ∷ 11 ∷ 12 ∷ []
+
+-- and of each
 abbrev pub statuses : Option Request → List ℕ
 statuses None = 2 ∷ 10 ∷ 12 ∷ []
-statuses (Some (check file)) = 0 ∷ 1 ∷ 3 ∷ 4 ∷ 8 ∷ 9 ∷ 10 ∷ 11 ∷ 12 ∷ []
+statuses (Some (check file)) = file_statuses
+statuses (Some (fill file)) = file_statuses
 statuses (Some (run file procedure document fuel arguments)) =
     0 ∷ 2 ∷ 3 ∷ 4 ∷ 5 ∷ 6 ∷ 7 ∷ 8 ∷ 10 ∷ 11 ∷ 12 ∷ []
 statuses (Some (make n)) = 0 ∷ 10 ∷ 12 ∷ []
@@ -66,17 +95,19 @@ statuses (Some (trial n)) = 0 ∷ 10 ∷ 12 ∷ []
 -- before its reading passes
 abbrev pub ReadRose : Option Request → Books → (List ℕ → Type 0) → Type 0
 ReadRose (Some (check file)) books rose = rose file
+ReadRose (Some (fill file)) books rose = rose file
 ReadRose (Some (run file procedure document fuel arguments)) books rose =
     rose file ⊎ (rose document × Told (books file) (λ bytes. IsCalled bytes procedure arguments))
 ReadRose r books rose = ⊥
 
 -- what the sink took: all of the output of the answer; at a fault of the sink a prefix of that of
 -- some answer; at want of memory and a fault of the library nothing
-abbrev pub Wrote : Option Request → Books → Status → Option (List ℕ) → Option (List ℕ) → Type 0
-Wrote r books status.OutOfMemory before after = Took before after []
-Wrote r books status.ReadFault before after = Took before after []
-Wrote r books status.WriteFault before after =
-    IsTold r books → (s : Status) × (output : List ℕ) × IsAnswer books r s output
+abbrev pub Wrote : List Voice → Option Request → Books → Status → Option (List ℕ)
+    → Option (List ℕ) → Type 0
+Wrote voices r books status.OutOfMemory before after = Took before after []
+Wrote voices r books status.ReadFault before after = Took before after []
+Wrote voices r books status.WriteFault before after =
+    IsTold r books → (s : Status) × (output : List ℕ) × IsAnswer voices books r s output
     × TookPrefix before after output
-Wrote r books s before after =
-    IsTold r books → (output : List ℕ) × IsAnswer books r s output × Took before after output
+Wrote voices r books s before after =
+    IsTold r books → (output : List ℕ) × IsAnswer voices books r s output × Took before after output

@@ -2,11 +2,13 @@
 ghost use Rattle.std.specs.Prelude.{◌≡◌, ◌≤◌, ◌⊎◌, ℕ, List, None, Some, IfOk, IsErrOf};
 ghost use Rattle.outside_io.specs.Causes.{Rose, Told};
 ghost use Rattle.model_answers.specs.Words as words;
+ghost use Rattle.model_filling.specs.Offers.{Voice};
+ghost use Rattle.boxed_fillers.specs.Voices.{voices_of};
 ghost use Rattle.domcheck_core.specs.Answers.{IsCalled};
 ghost use Rattle.domcheck_core.specs.Books.{IsReply};
 ghost use Rattle.domcheck_core.specs.Clauses.{asked, ReadRose};
 
-use crate::books::{check_book, open_book, run_book};
+use crate::books::{check_book, fill_book, open_book, run_book};
 use crate::generated::{print_generated, try_generated};
 use crate::replies::{Refusal, Reply, reported};
 use crate::runs::Opened;
@@ -17,6 +19,7 @@ use outside_io::Library;
 use request_words::{Request, WordFault, read_words};
 use std::alloc::Global;
 use std::mem;
+use step_filler::Filler;
 
 // The answer of `run` with these words.
 fn run<L: Library>(
@@ -28,8 +31,8 @@ fn run<L: Library>(
     fuel: u32,
     arguments: &Texts,
 ) -> Result<Reply, Refusal>
-    ensures answer { IfOk result (λ r.
-        IsReply (Some (words.run file.now procedure.now document.now fuel arguments.now))
+    ensures answer { (voices : List Voice) → IfOk result (λ r.
+        IsReply voices (Some (words.run file.now procedure.now document.now fuel arguments.now))
         (L.book library.old) r.status r.output) }
     ensures cause { IsErrOf result Refusal.ReadFault
         → Rose (L.faults library.old file.now) (L.faults library.new file.now)
@@ -55,9 +58,10 @@ pub fn answer_words<L: Library>(
     alloc: Global,
     words: &[String],
     library: &mut L,
+    fillers: &mut Vec<Box<dyn Filler>>,
 ) -> Result<Reply, Refusal>
-    ensures answer { IfOk result (λ r.
-        IsReply (asked words.now) (L.book library.old) r.status r.output) }
+    ensures answer { IfOk result (λ r. IsReply (voices_of turn offers fillers.old.items)
+        (asked words.now) (L.book library.old) r.status r.output) }
     ensures cause { IsErrOf result Refusal.ReadFault
         → ReadRose (asked words.now) (L.book library.old) (λ name.
         Rose (L.faults library.old name) (L.faults library.new name)) }
@@ -68,6 +72,7 @@ pub fn answer_words<L: Library>(
 {
     match read_words(alloc, words) {
         Ok(Request::Check { file }) => check_book(alloc, library, &file),
+        Ok(Request::Fill { file }) => fill_book(alloc, library, &file, fillers),
         Ok(
             Request::Run {
                 file,

@@ -2,18 +2,21 @@
 ghost use Rattle.std.specs.Prelude.{◌≡◌, ◌≤◌, ◌<◌, ℕ, List, Some, length, IfOk, IsErrOf, MatchOption};
 ghost use Rattle.outside_io.specs.Causes.{Rose, Told};
 ghost use Rattle.model_limits.specs.Limits.{file_limit, standard_limits};
-ghost use Rattle.domcheck_core.specs.Answers.{CheckAnswer, limit_answer};
+ghost use Rattle.boxed_fillers.specs.Voices.{voices_of};
+ghost use Rattle.domcheck_core.specs.Answers.{CheckAnswer, FillAnswer, limit_answer};
 ghost use Rattle.domcheck_core.specs.Books.{ReadFrom};
 ghost use Rattle.domcheck_core.specs.Calls.{FitsCall, IsOpened, CallAnswer};
 
 use crate::calls::Call;
 use crate::checks::{Ending, check_until};
+use crate::fills::fill_until;
 use crate::replies::{Refusal, Reply, answered};
 use crate::runs::{Opened, open_file, run_document};
 use crate::texts::past;
 use dom_terms::{LimitKind, OutOfMemory, Text, Texts};
 use outside_io::{Library, ReadAllFault, read_all};
 use std::alloc::Global;
+use step_filler::Filler;
 use theory_syntax::Theory;
 
 // The bytes of a book, or none where it has more than a file may have.
@@ -57,6 +60,27 @@ pub fn check_book<L: Library>(alloc: Global, library: &mut L, file: &Text) -> Re
 {
     match read_book(alloc, library, file.as_str())? {
         Some(bytes) => Ok(check_until(alloc, &bytes, Ending::Leave)?),
+        None => Ok(too_large(alloc)?),
+    }
+}
+
+/// The answer of `fill` on the file of this name. The memory of the theories is left to the system.
+pub fn fill_book<L: Library>(
+    alloc: Global,
+    library: &mut L,
+    file: &Text,
+    fillers: &mut Vec<Box<dyn Filler>>,
+) -> Result<Reply, Refusal>
+    ensures answer { IfOk result (λ r. ReadFrom (L.book library.old file.now)
+        (λ bytes. FillAnswer (voices_of turn offers fillers.old.items) bytes r.status r.output)) }
+    ensures cause { IsErrOf result Refusal.ReadFault
+        → Rose (L.faults library.old file.now) (L.faults library.new file.now) }
+    ensures kept { (other : List ℕ)
+        → Told (L.book library.old other) (λ b. L.book library.new other ≡ Some b) }
+    ensures later { (other : List ℕ) → L.faults library.old other ≤ L.faults library.new other }
+{
+    match read_book(alloc, library, file.as_str())? {
+        Some(bytes) => Ok(fill_until(alloc, &bytes, fillers, Ending::Leave)?),
         None => Ok(too_large(alloc)?),
     }
 }

@@ -7,9 +7,9 @@ ghost use Rattle.rule_table.specs.Accepted as bad;
 ghost use Rattle.row_patterns.specs.Verdicts.{verdict_in};
 ghost use Rattle.theory_syntax.specs.Judgements.{reason_of};
 ghost use Rattle.theory_syntax.specs.Theories.{theory_of};
-ghost use Rattle.domcheck_core.specs.Answers.{CheckAnswer, IsBadAt, CheckVerdict, item_numbered};
+ghost use Rattle.domcheck_core.specs.Answers.{CheckAnswer, CheckVerdict, PlaceAnswer, item_numbered};
 ghost use Rattle.domcheck_core.specs.Clauses.{IsSoundFile};
-ghost use Rattle.domcheck_core.specs.Stands.{HasProcedure, HasStep, NamesRule};
+ghost use Rattle.domcheck_core.specs.Stands.{HasPlace, HasProcedure, HasStep, NamesRule};
 
 use crate::file::read_file;
 use crate::replies::{Reply, accepted, answered, reported};
@@ -54,10 +54,11 @@ fn rule_at<'a>(step: &'a Step) -> &'a Text
     name
 }
 
-// The answer where the first bad place is a gap: that step of that procedure, each counted from 1.
-fn gap(alloc: Global, theory: &Theory, procedure: u32, step: u32) -> Result<Reply, OutOfMemory>
-    requires { IsBadAt (theory_of theory.now) procedure step bad.gap }
-    ensures { IfOk result (λ r. CheckVerdict (theory_of theory.now) r.status r.output) }
+/// The answer to a bad place that is a gap: that step of that procedure, each counted from 1.
+pub fn gap(alloc: Global, theory: &Theory, procedure: u32, step: u32) -> Result<Reply, OutOfMemory>
+    requires { HasPlace theory.now procedure step bad.gap }
+    ensures { IfOk result
+        (λ r. PlaceAnswer (theory_of theory.now) procedure step bad.gap r.status r.output) }
 {
     let procedure = procedure_at(theory, procedure);
     let step = step_at(procedure, step);
@@ -69,16 +70,17 @@ fn gap(alloc: Global, theory: &Theory, procedure: u32, step: u32) -> Result<Repl
     reported(alloc, Status::GapLeft, report)
 }
 
-// The answer where it is a step with this verdict.
-fn failure(
+/// The answer to one that is a step with this verdict.
+pub fn failure(
     alloc: Global,
     theory: &Theory,
     procedure: u32,
     step: u32,
     verdict: dom_terms::Verdict,
 ) -> Result<Reply, OutOfMemory>
-    requires { IsBadAt (theory_of theory.now) procedure step (bad.fails (verdict_in verdict)) }
-    ensures { IfOk result (λ r. CheckVerdict (theory_of theory.now) r.status r.output) }
+    requires { HasPlace theory.now procedure step (bad.fails (verdict_in verdict)) }
+    ensures { IfOk result (λ r. PlaceAnswer (theory_of theory.now) procedure step
+        (bad.fails (verdict_in verdict)) r.status r.output) }
 {
     let procedure = procedure_at(theory, procedure);
     let step = step_at(procedure, step);
@@ -92,10 +94,11 @@ fn failure(
     reported(alloc, Status::StepFails, report)
 }
 
-// The answer where it is the end of the proof of a procedure.
-fn no_proof(alloc: Global, theory: &Theory, procedure: u32) -> Result<Reply, OutOfMemory>
-    requires { (step : ℕ) × IsBadAt (theory_of theory.now) procedure step bad.no_proof }
-    ensures { IfOk result (λ r. CheckVerdict (theory_of theory.now) r.status r.output) }
+/// The answer to one that is the end of the proof of a procedure, after however many steps.
+pub fn no_proof(alloc: Global, theory: &Theory, procedure: u32) -> Result<Reply, OutOfMemory>
+    requires { HasProcedure theory.now procedure }
+    ensures { (step : ℕ) → IfOk result (λ r.
+        PlaceAnswer (theory_of theory.now) procedure step bad.no_proof r.status r.output) }
 {
     let procedure = procedure_at(theory, procedure).name.copy(alloc)?;
     reported(alloc, Status::StepFails, Report::NoProof { procedure })
@@ -122,7 +125,7 @@ fn verdict(alloc: Global, theory: &Theory) -> Result<Reply, OutOfMemory>
     }
 }
 
-/// What is done with the memory of a theory when it was checked.
+/// What is done with the memory of a theory when it was checked or filled.
 #[derive(Clone, Copy)]
 pub enum Ending {
     /// It is given back.
@@ -132,8 +135,8 @@ pub enum Ending {
     Leave,
 }
 
-// Gives the memory of a theory back, or leaves it.
-fn let_go(theory: Theory, ending: Ending) {
+/// Gives the memory of a theory back, or leaves it.
+pub fn let_go(theory: Theory, ending: Ending) {
     match ending {
         Ending::GiveBack => drop(theory),
         Ending::Leave => mem::forget(theory),

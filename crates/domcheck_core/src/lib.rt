@@ -1,14 +1,16 @@
-//! Checks annotated program files, and runs their procedures on documents. `check_bytes` and
-//! `run_bytes` give the answer to bytes in hand, and `domcheck` is the thin layer over them: it
-//! reads the words, fetches what they name and writes the answer. Its contract says what each
-//! answer means, when it comes and what is written, for every library and every sink. Stands on the
-//! readers of words, files and documents, the checker of theories, the machine and the outside.
+//! Checks annotated program files, fills the gaps of their proofs, and runs their procedures on
+//! documents. `check_bytes`, `fill_bytes` and `run_bytes` give the answer to bytes in hand, and
+//! `domcheck` is the thin layer over them: it reads the words, fetches what they name and writes
+//! the answer. Its contract says what each answer means, when it comes and what is written, for
+//! every library, every sink and whatever fillers. Stands on the readers of words, files and
+//! documents, the checker of theories, the fillers of gaps, the machine and the outside.
 #![tactic(auto)]
 
 ghost use Rattle.std.specs.Prelude.{◌≡◌, ◌≤◌, ◌⊎◌, ℕ, List, Contains, None, Some};
 ghost use Rattle.outside_io.specs.Causes.{Rose, Told};
+ghost use Rattle.boxed_fillers.specs.Voices.{voices_of};
 ghost use Rattle.domcheck_core.specs.Answers.{IsAnswer};
-ghost use Rattle.domcheck_core.specs.Clauses.{asked, OfFile, IsSoundFile, BadWordsExactly, GivesUp, Says, IsAnswered, statuses, ReadRose, Wrote};
+ghost use Rattle.domcheck_core.specs.Clauses.{asked, OfFile, IsSoundFile, OfGaps, TookFilled, BadWordsExactly, GivesUp, Says, IsAnswered, statuses, ReadRose, Wrote};
 ghost use Rattle.domcheck_core.specs.Numbers.{status_number};
 
 mod answers;
@@ -17,6 +19,7 @@ mod calls;
 mod checks;
 mod document;
 mod file;
+mod fills;
 mod generated;
 mod groves;
 mod limits;
@@ -26,7 +29,9 @@ mod status;
 mod texts;
 
 use answers::answer_words;
+pub use boxed_fillers::{FillFault, fill_theory};
 pub use checks::check_bytes;
+pub use fills::fill_bytes;
 use outside_io::{Library, Sink, write_all_of};
 use replies::Refusal;
 pub use replies::Reply;
@@ -34,31 +39,43 @@ pub use request_words::{Request, WordFault, read_words};
 pub use runs::run_bytes;
 pub use status::Status;
 use std::alloc::Global;
+pub use step_filler::Filler;
 
 /// Does what the words after the program's name ask for, and answers how it ended. The forms today
-/// are `check FILE`, `run FILE PROC DOC FUEL ARG*`, `make N` and `trial N`. The output is built
-/// whole and then written. It is made for a program that ends behind it: the memory of the theory
-/// of a file that was read is mostly left to the system. `check_bytes` and `run_bytes` give all
-/// back.
+/// are `check FILE`, `fill FILE`, `run FILE PROC DOC FUEL ARG*`, `make N` and `trial N`. The output
+/// is built whole and then written. The fillers are asked in their order for the steps of the gaps
+/// of a file that is filled; nobody trusts them. It is made for a program that ends after it: the
+/// memory of the theory of a file that was read is mostly left to the system. `check_bytes`,
+/// `fill_bytes` and `run_bytes` give all back.
 pub fn domcheck<L: Library, S: Sink>(
     alloc: Global,
     words: &[String],
     library: &mut L,
     sink: &mut S,
+    fillers: Vec<Box<dyn Filler>>,
 ) -> Status
     // A yes is a proof.
     ensures soundness_of_yes { OfFile (asked words.now) (L.book library.old)
         (λ bytes. result ≡ Status.Done → IsSoundFile bytes) }
 
+    // What is filled is a file of its own, which is accepted.
+    ensures filled { OfGaps (asked words.now) (L.book library.old)
+        (λ bytes. result ≡ Status.Done
+        → TookFilled (voices_of turn offers fillers.items) bytes
+        (S.taken sink.old) (S.taken sink.new)) }
+
     // The answer to each request is the one that is defined, status and output, and no other.
-    ensures answered { IsAnswered (asked words.now) (L.book library.old) result }
+    ensures answered { IsAnswered (voices_of turn offers fillers.items) (asked words.now)
+        (L.book library.old) result }
     ensures exactly { (s : Status) (output : List ℕ)
-        → IsAnswer (L.book library.old) (asked words.now) s output
+        → IsAnswer (voices_of turn offers fillers.items) (L.book library.old) (asked words.now) s
+        output
         → Says result (S.taken sink.old) (S.taken sink.new) s output ⊎ GivesUp result }
 
     // It is given where nothing failed, but for want of memory.
     ensures complete { (s : Status) (output : List ℕ)
-        → IsAnswer (L.book library.old) (asked words.now) s output
+        → IsAnswer (voices_of turn offers fillers.items) (L.book library.old) (asked words.now) s
+        output
         → (ReadRose (asked words.now) (L.book library.old) (λ name.
         Rose (L.faults library.old name) (L.faults library.new name)) → ⊥)
         → (Rose (S.faults sink.old) (S.faults sink.new) → ⊥)
@@ -78,8 +95,8 @@ pub fn domcheck<L: Library, S: Sink>(
         → Rose (S.faults sink.old) (S.faults sink.new) }
 
     // What the sink took.
-    ensures wrote { Wrote (asked words.now) (L.book library.old) result
-        (S.taken sink.old) (S.taken sink.new) }
+    ensures wrote { Wrote (voices_of turn offers fillers.items) (asked words.now)
+        (L.book library.old) result (S.taken sink.old) (S.taken sink.new) }
 
     // The words are read first: where they have no reading the library isn't asked.
     ensures words_first { asked words.now ≡ None → library.new ≡ library.old }
@@ -90,8 +107,11 @@ pub fn domcheck<L: Library, S: Sink>(
     ensures later { (name : List ℕ) → L.faults library.old name ≤ L.faults library.new name }
     ensures sink_later { S.faults sink.old ≤ S.faults sink.new }
 {
-    match answer_words(alloc, words, library) {
+    let mut fillers = fillers;
+    match answer_words(alloc, words, library, &mut fillers) {
         Ok(reply) => {
+            // so the text of a filled theory is a file, whose literals are UTF-8
+            reply.output.is_utf8();
             if write_all_of(sink, reply.output.as_str().as_bytes()).is_err() {
                 return Status::WriteFault;
             }

@@ -27,7 +27,8 @@ pub enum Status {
     FuelSpent,
     /// A counted quantity passes its limit.
     Limit(LimitKind),
-    /// The first bad place of the file is a gap, a step whose reason is left open.
+    /// The first bad place of the file is a gap, a step whose reason is left open; where gaps are
+    /// filled, one that nobody fills.
     GapLeft,
     /// Memory ran out, at any place; nothing was written.
     OutOfMemory,

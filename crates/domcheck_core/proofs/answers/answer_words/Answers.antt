@@ -1,3 +1,4 @@
+use Rattle.std.proofs.Common.{[]}
 use Rattle.domcheck_core.specs.Answers.{bad_words, made, tried}
 use Rattle.domcheck_core.proofs.answers.answer_words.Goals as goal
 
@@ -5,9 +6,14 @@ pub returns-in-Ok-Check-clause-answer : goal.returns-in-Ok-Check-clause-answer
 returns-in-Ok-Check-clause-answer g c =
     rw (rw c.in-Ok-Check.field-0-is at c.in-Ok-Check.ensures.reading) c.check_book.ensures.answer
 
+pub returns-in-Ok-Fill-clause-answer : goal.returns-in-Ok-Fill-clause-answer
+returns-in-Ok-Fill-clause-answer g c =
+    rw (rw c.in-Ok-Fill.field-0-is at c.in-Ok-Fill.ensures.reading) c.fill_book.ensures.answer
+
 pub returns-in-Ok-Run-clause-answer : goal.returns-in-Ok-Run-clause-answer
 returns-in-Ok-Run-clause-answer g c =
-    rw (rw c.in-Ok-Run.field-0-is at c.in-Ok-Run.ensures.reading) c.run.ensures.answer
+    rw (rw c.in-Ok-Run.field-0-is at c.in-Ok-Run.ensures.reading)
+    (c.run.ensures.answer [])
 
 pub returns-in_ok-reported-in-Err-BadWords-clause-answer :
     goal.returns-in_ok-reported-in-Err-BadWords-clause-answer

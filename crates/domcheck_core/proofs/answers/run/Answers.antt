@@ -9,7 +9,7 @@ run_book-reply-requires g c =
     opened.1
 
 pub returns-in-Called-clause-answer : goal.returns-in-Called-clause-answer
-returns-in-Called-clause-answer g c =
+returns-in-Called-clause-answer g c = λ voices.
     IfOk-weaker c.run_book-reply.result _ _
     (λ r h. called_reply _ c.args.procedure.now c.args.arguments.now c.args.fuel c.in-Called.theory
     c.in-Called.call (rw c.in-Called.is at c.in_ok-theory.ensures.opened) _ _
@@ -17,6 +17,6 @@ returns-in-Called-clause-answer g c =
     c.run_book-reply.ensures.answer
 
 pub returns-in-Answered-clause-answer : goal.returns-in-Answered-clause-answer
-returns-in-Answered-clause-answer g c =
+returns-in-Answered-clause-answer g c = λ voices.
     replied _ c.args.procedure.now c.args.arguments.now c.args.fuel _ _ _
     (rw c.in-Answered.is at c.in_ok-theory.ensures.opened)
