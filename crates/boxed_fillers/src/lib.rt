@@ -54,6 +54,7 @@ pub fn fill_theory<F: Filler>(
     ensures refused { IfErr result (Refuses (theory_of theory.now)
         (voices_of F.turn F.offers fillers.old.items)) }
 {
+    // moved and not lent, since nothing is known of a list that was lent on
     let mut listed = Listed {
         fillers: mem::replace(fillers, Vec::new(alloc)),
     };

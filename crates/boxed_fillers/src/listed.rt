@@ -12,7 +12,7 @@ use theory_syntax::{Judgement, Steps, Theory};
 /// The fillers of a list, taken out of it while they are asked.
 #[derive(Drop)]
 pub(crate) struct Listed<F: Filler> {
-    /// They, in their order.
+    /// The fillers, in their order.
     pub(crate) fillers: Vec<F>,
 }
 
