@@ -12,6 +12,7 @@ mod laws;
 mod layers;
 mod pens;
 mod same_forms;
+mod sides;
 mod spot;
 mod turns;
 mod weights;

@@ -1,0 +1,8 @@
+use Rattle.model_shapes.specs.Sorts.{shape, forest}
+use Rattle.step_filler.specs.Turns.{way_of}
+use Rattle.step_filler.proofs.Turning.{one-as, turned-is}
+use Rattle.step_filler.proofs.sides.write_alone.Goals as goal
+
+pub returns-in-Ok-clause-written : goal.returns-in-Ok-clause-written
+returns-in-Ok-clause-written c = one-as c.write_so.ensures.written
+    (turned-is (way_of c.args.way) (shape forest) c.in-Ok.ensures.alone c.in-Ok.ensures.tidied)
