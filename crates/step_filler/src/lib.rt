@@ -11,9 +11,11 @@ mod forms;
 mod laws;
 mod layers;
 mod pens;
+mod roots;
 mod same_forms;
 mod sides;
 mod spot;
+mod tidy;
 mod turns;
 mod weights;
 
@@ -22,3 +24,4 @@ pub use fillers::Filler;
 pub use form_laws::what_is_obvious_by_form_is_offered;
 pub use laws::{what_has_the_sizes_is_whole, what_is_obvious_by_conjuncts_is_offered};
 pub use spot::{Spot, what_is_obvious_by_filling_is_offered};
+pub use tidy::Tidy;
