@@ -11,6 +11,7 @@ mod forms;
 mod laws;
 mod layers;
 mod pens;
+mod root_sides;
 mod roots;
 mod same_forms;
 mod sides;

@@ -12,6 +12,7 @@ ghost use Rattle.step_filler.specs.Roots.{IsArranged};
 
 use crate::forms::summed;
 use crate::pens::Pen;
+use crate::root_sides::sum;
 use crate::same_forms::{is_same, without_root};
 use dom_terms::{Copied, DataSort, OutOfMemory, Sort, with};
 use formula_syntax::Formula;
@@ -39,15 +40,6 @@ struct Passage {
     before: Arranged,
     // The same once the one has passed the other.
     after: Arranged,
-}
-
-// One grove beside another.
-fn sum(alloc: Global, first: &Formula, rest: &Formula) -> Result<Formula, OutOfMemory>
-    ensures { IfOk result (λ sum. formula_of sum
-        ≡ model.grove_sum (formula_of first.now) (formula_of rest.now)) }
-{
-    let (first, rest) = with(first.copy(alloc)?, rest.copy(alloc))?;
-    summed(alloc, first, rest)
 }
 
 // Two roots in front of others.

@@ -5,7 +5,7 @@ use Rattle.assistant_laws.specs.FormPlans.{grove_plan}
 use Rattle.formula_syntax.specs.Formulas.{formula_of}
 use Rattle.step_filler.specs.Turns.{way_of}
 use Rattle.step_filler.proofs.Turning.{pens-as, onward-pens, backward-pens, onward-back, backward-back, ended-is}
-use Rattle.step_filler.proofs.sides.write_grove.Goals as goal
+use Rattle.step_filler.proofs.root_sides.write_grove.Goals as goal
 
 pub returns-in-Onward-clause-written : goal.returns-in-Onward-clause-written
 returns-in-Onward-clause-written c =

@@ -1,5 +1,5 @@
 use Rattle.step_filler.proofs.Penning.{one-pens, both-pens}
-use Rattle.step_filler.proofs.sides.take_root.Goals as goal
+use Rattle.step_filler.proofs.root_sides.take_root.Goals as goal
 
 pub returns-clause-written : goal.returns-clause-written
 returns-clause-written c = both-pens

@@ -6,7 +6,7 @@ use Rattle.formula_syntax.specs.Formulas.{formula_of}
 use Rattle.step_filler.specs.Turns.{way_of}
 use Rattle.step_filler.proofs.Penning.{both-pens}
 use Rattle.step_filler.proofs.Turning.{pens-as, onward-pens, backward-pens, staged-is}
-use Rattle.step_filler.proofs.sides.+grove_sides.Goals as goal
+use Rattle.step_filler.proofs.root_sides.+grove_sides.Goals as goal
 
 pub take_second_root-returns-clause-written : goal.take_second_root-returns-clause-written
 take_second_root-returns-clause-written t c = both-pens c.write_itself-kept.ensures.written

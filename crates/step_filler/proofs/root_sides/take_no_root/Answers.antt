@@ -4,7 +4,7 @@ use Rattle.formula_syntax.specs.Formulas.{formula_of}
 use Rattle.step_filler.specs.Turns.{way_of}
 use Rattle.step_filler.proofs.Penning.{alone-pens}
 use Rattle.step_filler.proofs.Turning.{pens-as, onward-pens, backward-pens, crossed-is}
-use Rattle.step_filler.proofs.sides.take_no_root.Goals as goal
+use Rattle.step_filler.proofs.root_sides.take_no_root.Goals as goal
 
 pub returns-in-Onward-clause-written : goal.returns-in-Onward-clause-written
 returns-in-Onward-clause-written c = pens-as

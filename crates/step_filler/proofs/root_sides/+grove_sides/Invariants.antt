@@ -2,7 +2,7 @@
 use Rattle.std.proofs.Common.{◌+◌, ◌*◌}
 use Rattle.model_formulas.specs.Parts.{parts}
 use Rattle.formula_syntax.specs.Formulas.{formula_of}
-use Rattle.step_filler.proofs.sides.+grove_sides.Given as goal
+use Rattle.step_filler.proofs.root_sides.+grove_sides.Given as goal
 
 abbrev pub decreases-take_roots : goal.decreases-take_roots
 decreases-take_roots l = 4 * parts (formula_of l.grove.now)
