@@ -5,7 +5,7 @@ use Rattle.model_formulas.specs.Formulas.{Named, grove_sum}
 use Rattle.model_commands.specs.Theories.{entails}
 use Rattle.assistant_laws.specs.ConjunctPlans.{same_named}
 use Rattle.assistant_laws.specs.FormPlans.{pass}
-use Rattle.assistant_laws.specs.Plans.{Plan, alone, from_two}
+use Rattle.assistant_laws.specs.Plans.{alone, from_two}
 use Rattle.assistant_laws.specs.Ways.{itself}
 use Rattle.formula_syntax.specs.Formulas.{formula_of}
 use Rattle.step_filler.specs.declared.roots.Arranged.{Arranged}

@@ -15,23 +15,11 @@ ghost use Rattle.step_filler.specs.Given.{offer_of, given_by};
 
 use crate::drafts::{Draft, Stop};
 use crate::fillers::Filler;
+use crate::same_forms::is_same;
 use dom_terms::{OutOfMemory, Sort};
-use formula_syntax::{Entailment, Formula, same_formula};
+use formula_syntax::{Entailment, Formula};
 use std::alloc::Global;
 use theory_syntax::{Judgement, Step, Steps};
-
-// Whether the formulas are the same.
-#[tactic(auto, using(crate::proofs::Conjuncts::decided))]
-fn is_same(alloc: Global, left: &Formula, right: &Formula) -> bool
-    requires left { parts (formula_of left.now) < 4294967295 }
-    requires right { parts (formula_of right.now) < 4294967295 }
-    ensures { result ≡ plans.same_named (formula_of left.now) (formula_of right.now) }
-{
-    match same_formula(alloc, left, right) {
-        Ok(same) => same,
-        Err(_) => unreachable!(),
-    }
-}
 
 // Whether the target is a conjunct of the formula.
 #[tactic(auto, using(crate::proofs::Conjuncts::either_side, crate::proofs::Conjuncts::alone))]

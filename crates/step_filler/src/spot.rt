@@ -10,7 +10,6 @@ ghost use Rattle.model_filling.specs.Sizes.{IsSized};
 ghost use Rattle.assistant_laws.specs.Obvious.{is_obvious_by_filling};
 ghost use Rattle.assistant_laws.specs.Proposals.{Proves};
 ghost use Rattle.model_files.specs.Sizes.{JudgementIsSmall};
-ghost use Rattle.assistant_laws.specs.ConjunctPlans.{same_named};
 ghost use Rattle.assistant_laws.specs.Fillings.{filling, fills, shows_its_hole};
 ghost use Rattle.assistant_laws.specs.FillingPlans.{plan_by_filling, plan_of_application};
 ghost use Rattle.dom_terms.specs.Sorts.{data_sort_of};
@@ -24,24 +23,12 @@ ghost use Rattle.step_filler.specs.Given.{given_by, offer_of};
 use crate::drafts::{Draft, Stop};
 use crate::fillers::Filler;
 use crate::layers::{Filling, Way, fill, filled};
+use crate::same_forms::is_same;
 use assistant_laws::what_is_obvious_by_filling_is_proved;
 use dom_terms::{Copied, DataSort, OutOfMemory, Sort, same_data_sort};
-use formula_syntax::{Formula, Side, same_formula};
+use formula_syntax::{Formula, Side};
 use std::alloc::Global;
 use theory_syntax::{Judgement, Step, Steps};
-
-// Whether the formulas are the same.
-#[tactic(auto, using(crate::proofs::Conjuncts::decided))]
-fn is_same(alloc: Global, left: &Formula, right: &Formula) -> bool
-    requires left { parts (formula_of left.now) < 4294967295 }
-    requires right { parts (formula_of right.now) < 4294967295 }
-    ensures { result ≡ same_named (formula_of left.now) (formula_of right.now) }
-{
-    match same_formula(alloc, left, right) {
-        Ok(same) => same,
-        Err(OutOfMemory) => false,
-    }
-}
 
 // Whether the context formula is built round one hole of the sort, which is in sight.
 fn shows_its_hole(hole: DataSort, context: &Formula) -> bool
