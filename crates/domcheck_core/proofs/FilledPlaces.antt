@@ -15,7 +15,7 @@ use Rattle.theory_syntax.specs.declared.theories.Theory.{Theory}
 use Rattle.theory_syntax.specs.Judgements.{reason_of, step_of}
 use Rattle.theory_syntax.specs.Theories.{procedure_of, theory_of}
 use Rattle.hoare_kernel.proofs.BadPlaces.{StepThere}
-use Rattle.domcheck_core.specs.Stands.{HasProcedure, HasStep, HasPlace}
+use Rattle.domcheck_core.specs.Stands.{HasProcedure, HasPlace}
 use Rattle.domcheck_core.proofs.Verdicts.{at-place, step-at, no-verdict}
 
 -- A STEP of a proof, counted from the place of the first: for a gap there is one, for a failure one
