@@ -4,7 +4,7 @@
     docs/reached.py [--files]                       the contract of `domcheck`
     docs/reached.py [--files] CRATE FUNCTION        that of another function, as formula_syntax same_formula
 
-Begins with the names in the contract, for `domcheck` in those of the traits `Library`, `Sink` and `Filler` too, and follows
+Begins with the names in the contract, for `domcheck` in those of the traits `Library` and `Sink` too, and follows
 each through the imports of its file, definition by definition. Prints, crate by crate, how many lines of specs/ are
 reached, with comments and without; with --files, the names of the files. Of `domcheck` it says as well which files
 have a first line that isn't true: a file that the contract doesn't reach begins with "-- Needn't be believed: ", and
@@ -22,8 +22,7 @@ HEAD = re.compile(r"^(?!--|use |pub use |abbrev pub use |mod |pub mod |module )"
                   r"(?:(?:abbrev |unfoldable |pub |data |record )*)([^\s:(){}]+)\s*(?::|\(|\{)")
 BLOCK = r"module |(abbrev )?mutual$"
 MARK = "-- Needn't be believed: "
-PROMISE = [("domcheck_core", "domcheck"), ("outside_io", "fetch"), ("outside_io", "put"),
-           ("step_filler", "propose")]
+PROMISE = [("domcheck_core", "domcheck"), ("outside_io", "fetch"), ("outside_io", "put")]
 
 
 def read(path):

@@ -1,5 +1,4 @@
--- Needn't be believed: `make` alone prints such a text, and a law says which bytes it is. The text
--- of formulas and theories, byte by byte, and line by line.
+-- The text of formulas and theories, byte by byte, and line by line.
 use Rattle.std.specs.Prelude.{ℕ, List, [], ◌∷◌, ◌++◌, codes, map}
 use Rattle.model_shapes.specs.Sorts.{DataSort, tree, forest, grove, Sort, value, shape, context}
 use Rattle.model_terms.specs.Variables.{Var, logic, var_sort}

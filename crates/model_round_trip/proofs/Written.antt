@@ -227,7 +227,8 @@ procedure_spelled v f h =
     (procedure_around f h (steps_spelled v f.proof h.proof))
 
 procedures_spelled : (v : ℕ) (fs : List (ProcedureOf Named)) → HasOne fs
-    → Each IsWritableProcedure fs → SpellsProcedures (map (procedure_with undeclared) fs) (all_lexemes (procedures_lines v fs))
+    → Each IsWritableProcedure fs
+    → SpellsProcedures (map (procedure_with undeclared) fs) (all_lexemes (procedures_lines v fs))
 procedures_spelled v [] one h = absurd one
 procedures_spelled v (f ∷ []) one h =
     subst (SpellsProcedures (procedure_with undeclared f ∷ []))

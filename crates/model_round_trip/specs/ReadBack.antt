@@ -1,4 +1,4 @@
--- Needn't be believed: the program's promise doesn't speak of it. What printed text reads back as.
+-- What printed text reads back as.
 use Rattle.std.specs.Prelude.{◌≡◌, ℕ, List, map}
 use Rattle.model_formulas.specs.Formulas.{Named}
 use Rattle.model_commands.specs.Commands.{Command}

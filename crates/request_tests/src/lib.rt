@@ -1,6 +1,6 @@
 //! Tests of the top call, of libraries and sinks that fail in mid-stream, and of fillers that offer
-//! what isn't usable, which no row of words shows. They stand apart from the other tests of calls, so that those needn't wait for the proof
-//! of the top call.
+//! what isn't usable, which no row of words shows. They stand apart from the other tests of calls,
+//! so that those needn't wait for the proof of the top call.
 //! Stands on the top call and on the outside.
 #![tactic(auto)]
 

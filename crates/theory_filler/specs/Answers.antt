@@ -1,4 +1,5 @@
--- What is answered where fillers are asked for the steps of a gap, and what they are after that.
+-- Needn't be believed: the program's promise doesn't speak of it. What is answered where fillers
+-- are asked for the steps of a gap, and what they are after that.
 use Rattle.std.specs.Prelude.{◌≡◌, ℕ, ◌+◌, ◌-◌, Bool, true, false, List, [], ◌∷◌, ◌++◌, Some, None, length, map, slice_get}
 use Rattle.model_formulas.specs.Formulas.{Named}
 use Rattle.model_commands.specs.Theories.{JudgementOf, ProcedureOf, Theory}

@@ -101,11 +101,11 @@ fn finished(alloc: Global, theory: &Theory, procedures: Procedures) -> Result<Th
 }
 
 /// The filled theory: the same, with the filled proof of each procedure in place of its own. The
-/// first place that fails comes exactly where there is one: Fails, Gap and NoProof with the
-/// procedure and the step as they are counted in the theory handed in. Limit comes exactly where
-/// no place fails and the filled theory passes that limit, of its steps or else of the bytes of its
-/// text. OutOfMemory comes only where memory is refused. Whatever comes, each filler was asked some
-/// times or not at all.
+/// first place that fails comes exactly where there is one: Fails and Gap with the procedure and
+/// the step as they are counted in the theory handed in, NoProof with the procedure whose filled
+/// proof doesn't end in its own triple. Limit comes exactly where no place fails and the filled
+/// theory passes that limit, of its steps or else of the bytes of its text. OutOfMemory comes only
+/// where memory is refused. Whatever comes, each filler was asked some times or not at all.
 pub fn fill<F: Fillers>(
     alloc: Global,
     theory: &Theory,

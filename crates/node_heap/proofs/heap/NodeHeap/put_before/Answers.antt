@@ -98,7 +98,8 @@ index-requires c =
 is_child : (t : In-Some) (r : Record) (k : ℕ)
     → Found t.self.inside.records t.self.inside.nodes.items (grove t) t.args.next k
     → get t.self.inside.records k ≡ Some r
-    → holds r.parent t.in-Some.above ≡ holds (parent_of (rows_of (grove t) t.args.next)) t.args.parent
+    → holds r.parent t.in-Some.above
+    ≡ holds (parent_of (rows_of (grove t) t.args.next)) t.args.parent
 is_child t r k found a = child_test t.self.inside.records t.self.inside.nodes.items
     t.self.inside.lists.items (grove t) t.self.invariant.links t.args.parent t.args.next
     t.in-Some.above k (above t) found r a
