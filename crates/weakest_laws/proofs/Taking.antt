@@ -1,0 +1,95 @@
+-- What the binders of the table come to: a value for a variable, and what is under one more binder.
+use Rattle.std.proofs.Common.{◌≡◌, ◌++◌, ◌+ℤ◌, ◌-ℤ◌, List, ℕ, refl, sym, ap, ◌∙◌, subst}
+use mathlib.Core.HLevel.{Stable}
+use mathlib.Core.Path.{fun_ext}
+use Rattle.model_shapes.specs.Sorts.{Sort, value, ValueSort, int_sort, str_sort}
+use Rattle.model_shapes.specs.Things.{Thing, val, trees, Fits}
+use Rattle.model_shapes.specs.Trees.{Trees}
+use Rattle.model_shapes.specs.Values.{Value, FitsValue, int, str}
+use Rattle.model_terms.specs.Variables.{Var, prog, logic, bound}
+use Rattle.model_terms.specs.Terms.{Term, literal, variable, sum, difference, appended, raised_var}
+use Rattle.model_terms.specs.Computing.{Computes}
+use Rattle.model_terms.specs.Stores.{ProgVar, as_var, sort_of, Store, set, lookup, value_of}
+use Rattle.model_formulas.specs.Formulas.{Formula}
+use Rattle.model_formulas.specs.Substitution.{formula_with, closing}
+use Rattle.model_formulas.specs.Satisfaction.{Environment, Meets, choosing, with_store, meaning_of, number_of, text_meant}
+use Rattle.model_formulas.proofs.Substitutes.{with-meets, after}
+use Rattle.model_formulas.proofs.Quantified.{closing-env}
+use Rattle.model_commands.proofs.StoreLaws.{meaning-value}
+use Rattle.triple_laws.proofs.Endings.{set-env}
+use Rattle.weakest_laws.specs.Table.{below, taking}
+
+-- the program variables alone count for a term of a command
+pub meaning-plain : (s : ValueSort) (t : Term) (e e' : Environment)
+    → ((x : List ℕ) (u : ValueSort) → e (prog x u) ≡ e' (prog x u)) → Computes s t
+    → meaning_of e t ≡ meaning_of e' t
+meaning-plain s (literal v) e e' h c = refl
+meaning-plain s (variable (prog x u)) e e' h c = h x u
+meaning-plain s (variable (logic x u)) e e' h c = absurd c
+meaning-plain s (variable (bound i u)) e e' h c = absurd c
+meaning-plain s (sum a b) e e' h c =
+    λ i. val (int (number_of (meaning-plain int_sort a e e' h c.1 i)
+    +ℤ number_of (meaning-plain int_sort b e e' h c.2 i)))
+meaning-plain s (difference a b) e e' h c =
+    λ i. val (int (number_of (meaning-plain int_sort a e e' h c.1 i)
+    -ℤ number_of (meaning-plain int_sort b e e' h c.2 i)))
+meaning-plain s (appended a b) e e' h c =
+    λ i. val (str (text_meant (meaning-plain str_sort a e e' h c.1 i)
+    ++ text_meant (meaning-plain str_sort b e e' h c.2 i)))
+
+-- so a term of a command stands for its value wherever the store's values are those of the program
+-- variables
+pub plain-value : (s : ValueSort) (t : Term) (st : Store) (e e' : Environment)
+    → ((x : List ℕ) (u : ValueSort) → e' (prog x u) ≡ val (lookup st x u)) → Computes s t
+    → meaning_of e' t ≡ val (value_of st t)
+plain-value s t st e e' h c =
+    meaning-plain s t e' (with_store (lookup st) e) h c ∙ meaning-value s t st e c
+
+-- what a value sort has is a value
+pub value-of-sort : (G : Type 0) (s : ValueSort) (P : Thing → Type 0) (v : Thing)
+    → Fits (value s) v → P v → ((w : Value) → FitsValue s w → P (val w) → G) → G
+value-of-sort G s P (val w) f p h = h w f p
+value-of-sort G s P (trees r) f p h = absurd f
+
+-- under one more binder a formula says what it said
+pub below-meets : (q : Formula) (v : Thing) (e : Environment)
+    → Meets (below q) (choosing v e) ≡ Meets q e
+below-meets q v e =
+    with-meets q (λ x. variable (raised_var x)) (choosing v e) ∙ ap (Meets q) (fun_ext by_variable)
+  where
+    by_variable : (x : Var) → after (λ x. variable (raised_var x)) (choosing v e) x ≡ e x
+    by_variable (prog x s) = refl
+    by_variable (logic x s) = refl
+    by_variable (bound i s) = refl
+
+module _ (e : Environment) (st : Store) where
+  abbrev env : Environment
+  env = with_store (lookup st) e
+
+  -- with $v for a program variable, the formula says what it says of the store with that value
+  pub closed-meets : (x : ProgVar) (v : Value) (q : Formula)
+      → Meets (formula_with (closing (as_var x)) q) (choosing (val v) env)
+      ≡ Meets q (with_store (lookup (set x v st)) e)
+  closed-meets x v q =
+      with-meets q (closing (as_var x)) (choosing (val v) env)
+      ∙ ap (Meets q) (closing-env (as_var x) (val v) env ∙ sym (set-env x v st e))
+
+  -- some value for the variable
+  pub taken : (G : Type 0) → Stable G → (x : ProgVar) (p q : Formula) (s : Sort) (r : Trees)
+      → Meets (taking x p q) env s r
+      → ((w : Value) → FitsValue (sort_of x) w → Meets p (choosing (val w) env) s r
+      → Meets q (with_store (lookup (set x w st)) e) s r → G) → G
+  taken G stable x p q s r m f =
+      stable (λ n. m (λ y.
+      value-of-sort ⊥ (sort_of x) (λ v. Meets p (choosing v env) s r
+      × Meets (formula_with (closing (as_var x)) q) (choosing v env) s r) y.0 y.1 y.2
+      (λ w fits h. n (f w fits h.0 (subst (λ M. M s r) (closed-meets x w q) h.1)))))
+
+  pub take : (x : ProgVar) (p q : Formula) (s : Sort) (r : Trees) (w : Value)
+      → FitsValue (sort_of x) w → Meets p (choosing (val w) env) s r
+      → Meets q (with_store (lookup (set x w st)) e) s r → Meets (taking x p q) env s r
+  take x p q s r w fits mp mq = λ n. n (
+    val w,
+    fits,
+    (mp, subst (λ M. M s r) (sym (closed-meets x w q)) mq),
+  )
