@@ -1,18 +1,16 @@
 -- The row of appendChild.
-use Rattle.std.proofs.Common.{◌≡◌, ℕ, ◌≤◌, ◌+◌, ◌*◌, List, [], Bool, true, false, cond, refl, sym, ap, ◌∙◌, subst, arith}
+use Rattle.std.proofs.Common.{◌≡◌, ℕ, ◌≤◌, ◌*◌, List, [], Bool, true, false, cond, refl, sym, ap, ◌∙◌, subst, arith}
 use mathlib.Core.HLevel.{Stable}
-use Rattle.model_shapes.specs.Shapes.{holes, SameAt, Shaped}
-use Rattle.model_shapes.specs.Sorts.{ValueSort, shape, context, tree, forest, grove, node_sort}
+use Rattle.model_shapes.specs.Shapes.{SameAt, Shaped}
+use Rattle.model_shapes.specs.Sorts.{shape, context, tree, forest, grove, node_sort}
 use Rattle.model_shapes.specs.Things.{Thing, val, trees, Fits}
 use Rattle.model_shapes.specs.Trees.{Trees, none, node, hole, beside, fill, node_uses, WellFormed}
-use Rattle.model_shapes.specs.Values.{Value, node_number, list_number, str}
+use Rattle.model_shapes.specs.Values.{node_number, list_number, str}
 use Rattle.model_shapes.proofs.Basics.{node_uses-fill, holes-beside}
 use Rattle.model_shapes.proofs.Filling.{fill-left, inner-WellFormed}
 use Rattle.model_shapes.proofs.Representatives.{representative}
-use Rattle.model_shapes.proofs.Shapes.{SameAt-sym, SameAt-trans, SameAt-eq, same-Shaped, same-node_uses, same-WellFormed}
-use Rattle.model_terms.specs.Variables.{prog}
+use Rattle.model_shapes.proofs.Shapes.{SameAt-sym, SameAt-trans, SameAt-eq, same-node_uses, same-WellFormed}
 use Rattle.model_terms.specs.Terms.{Term}
-use Rattle.model_terms.specs.Computing.{Computes}
 use Rattle.model_terms.specs.Stores.{Store, lookup, value_of}
 use Rattle.model_formulas.specs.Formulas.{Formula, whole, node_formula, same_as, one_tree, conjunction, value_meets}
 use Rattle.model_formulas.specs.Satisfaction.{Environment, Meets, choosing, with_store, meaning_of}
@@ -25,7 +23,7 @@ use Rattle.model_groves.specs.Groves.{nodes_where, numbered, node_at, without, a
 use Rattle.model_groves.specs.Picks.{Pick}
 use Rattle.model_groves.proofs.Groves.{node-taken-out, node-those-le, holes-taken-out, same-after, adding-beside}
 use Rattle.model_machine.specs.Fitting.{Fine}
-use Rattle.model_machine.specs.Machine.{run, move, Move, becomes, faults, cycle, appending}
+use Rattle.model_machine.specs.Machine.{run, move, becomes, faults, cycle, appending}
 use Rattle.model_machine.proofs.Fine.{FoundNode, found-node, appended-shaped, not-positive}
 use Rattle.entailment_laws.proofs.Pieces.{put_in}
 use Rattle.entailment_laws.proofs.Plain.{val-is}
@@ -37,7 +35,7 @@ use Rattle.weakest_laws.specs.Weakest.{MeetsWith}
 use Rattle.weakest_laws.specs.Table.{at, str_var, list_var, standing, and_tree, appended, taken_out, some_tree, weakest}
 use Rattle.weakest_laws.proofs.Taking.{plain-value}
 use Rattle.weakest_laws.proofs.Cutting.{Cut, cut, outside-Shaped, node-Shaped, positive-list}
-use Rattle.weakest_laws.proofs.Rows.{any_pick, on-the-same, stable-landing, meets-same, Located, located_in, locate, value-there}
+use Rattle.weakest_laws.proofs.Rows.{any_pick, on-the-same, stable-landing, meets-same, Located, located_in, locate}
 use Rattle.weakest_laws.proofs.MovedNodes.{taken, added}
 use Rattle.weakest_laws.proofs.Moved.{moved-in, move-out, Numbered, some-tree-met, some-tree-meets, OutOf, taken-out-met, taken-out-meets}
 

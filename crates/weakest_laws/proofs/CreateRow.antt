@@ -1,21 +1,20 @@
 -- The row of createNode.
-use Rattle.std.proofs.Common.{◌≡◌, ℕ, zero, suc, ◌≤◌, ◌<◌, ◌+◌, List, [], Bool, true, false, not, ◌&&◌, cond, refl, sym, ap, ◌∙◌, subst, arith}
-use Rattle.model_shapes.specs.Shapes.{holes, SameAt, Shaped}
-use Rattle.model_shapes.specs.Sorts.{ValueSort, value, shape, context, tree, forest, grove, node_sort, list_sort, str_sort}
-use Rattle.model_shapes.specs.Things.{Thing, val, Fits}
+use Rattle.std.proofs.Common.{◌≡◌, ℕ, zero, suc, ◌<◌, List, [], Bool, true, false, not, ◌&&◌, cond, refl, sym, ap, ◌∙◌, subst, arith}
+use Rattle.model_shapes.specs.Shapes.{SameAt, Shaped}
+use Rattle.model_shapes.specs.Sorts.{shape, context, tree, forest, grove, node_sort, list_sort, str_sort}
+use Rattle.model_shapes.specs.Things.{val}
 use Rattle.model_shapes.specs.Trees.{Trees, none, node, hole, beside, fill, node_uses, list_uses, WellFormed}
 use Rattle.model_shapes.specs.Values.{Value, FitsValue, null, nolist, node_number, list_number, int, str, boolean}
 use Rattle.model_shapes.proofs.Basics.{node_uses-beside, list_uses-beside}
 use Rattle.model_shapes.proofs.Filling.{fill-left}
 use Rattle.model_shapes.proofs.Shapes.{SameAt-sym, same-Shaped, right-WellFormed}
 use Rattle.model_shapes.proofs.Truth.{both_true}
-use Rattle.model_terms.specs.Variables.{prog}
 use Rattle.model_terms.specs.Terms.{Term}
 use Rattle.model_terms.specs.Stores.{ProgVar, as_var, Store, set, lookup, value_of, text_in}
 use Rattle.model_terms.proofs.StoreLaws.{value-fits}
 use Rattle.model_formulas.specs.Formulas.{Formula, empty, bare_hole, one_root, node_formula, grove_sum_hole}
 use Rattle.model_formulas.specs.Substitution.{formula_with, closing}
-use Rattle.model_formulas.specs.Satisfaction.{Environment, Meets, choosing, with_store, meaning_of}
+use Rattle.model_formulas.specs.Satisfaction.{Environment, Meets, choosing, with_store}
 use Rattle.model_formulas.proofs.Closed.{closed}
 use Rattle.model_formulas.proofs.Stable.{stable}
 use Rattle.model_commands.specs.Commands.{create_node}
@@ -37,7 +36,6 @@ use Rattle.weakest_laws.specs.Weakest.{MeetsWith}
 use Rattle.weakest_laws.specs.Table.{node_var, list_var, below, weakest}
 use Rattle.weakest_laws.proofs.Taking.{plain-value, value-of-sort, below-meets, closed-meets}
 use Rattle.weakest_laws.proofs.Cutting.{positive-node, positive-list}
-use Rattle.weakest_laws.proofs.Rows.{meets-same}
 
 -- a text is the value that it is
 text-is : (v : Value) → FitsValue str_sort v → str (text_in v) ≡ v

@@ -1,5 +1,5 @@
 -- The formula of a straight-line command is met exactly where its weakest precondition is.
-use Rattle.std.proofs.Common.{◌≡◌, ◌↔◌, ℕ, List, [], ◌∷◌, ◌++◌, Bool, true, false, cond, ◌&&◌, refl, sym, ap, ◌∙◌, subst}
+use Rattle.std.proofs.Common.{◌≡◌, ◌↔◌, ℕ, List, [], ◌∷◌, ◌++◌, Bool, true, false, cond, ◌&&◌, refl, sym, ◌∙◌, subst}
 use Rattle.std.specs.List.{list_all}
 use Rattle.std.proofs.Math.Decide.{ℕ_discrete}
 use Rattle.std.proofs.lemmas.List.Folds.{list_all-append}
@@ -10,7 +10,6 @@ use Rattle.model_shapes.specs.Things.{val}
 use Rattle.model_shapes.specs.Values.{Value, null, nolist, node_number, list_number, int, str, boolean}
 use Rattle.model_shapes.proofs.Truth.{both_true, false≢true}
 use Rattle.model_terms.specs.Terms.{Term}
-use Rattle.model_terms.specs.Variables.{bound}
 use Rattle.model_terms.specs.Stores.{ProgVar, sort_of, Store, set, value_of, lookup, ProperStore, text_in}
 use Rattle.model_terms.proofs.StoreLaws.{value-fits}
 use Rattle.model_formulas.specs.Formulas.{Formula, equality}
@@ -32,7 +31,7 @@ use Rattle.weakest_laws.specs.Weakest.{MeetsWith, MeetsWeakest}
 use Rattle.weakest_laws.specs.Straight.{goes_straight, is_straight}
 use Rattle.weakest_laws.specs.Table.{at, weakest, weakest_of}
 use Rattle.weakest_laws.proofs.Taking.{plain-value, taken, take}
-use Rattle.weakest_laws.proofs.Steps.{Well, WellOn, rests, rested, steps, stepped, AtOnce, landed, lands, goes-ends, ends-goes}
+use Rattle.weakest_laws.proofs.Steps.{Well, rests, rested, steps, stepped, AtOnce, landed, lands, goes-ends, ends-goes}
 use Rattle.weakest_laws.proofs.Rows.{any_pick, stable-landing}
 use Rattle.weakest_laws.proofs.ReadRows.{name-lands, name-meets, children-lands, children-meets}
 use Rattle.weakest_laws.proofs.ParentRow.{parent-lands, parent-meets}

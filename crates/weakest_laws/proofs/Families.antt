@@ -1,11 +1,11 @@
 -- A child among the children of a node, in formulas and in groves.
-use Rattle.std.proofs.Common.{◌≡◌, ◌⊎◌, ℕ, ◌≤◌, ◌+◌, List, Bool, true, false, cond, refl, sym, ap, ◌∙◌, subst, ⊎_elim, arith}
+use Rattle.std.proofs.Common.{◌≡◌, ℕ, List, Bool, true, false, cond, refl, sym, ap, ◌∙◌, subst, ⊎_elim, arith}
 use Rattle.std.proofs.Math.Decide.{ℕ_discrete}
 use mathlib.Core.HLevel.{Stable}
 use Rattle.model_shapes.specs.Shapes.{holes, SameAt, Shaped}
 use Rattle.model_shapes.specs.Sorts.{shape, tree, forest, grove}
 use Rattle.model_shapes.specs.Things.{val}
-use Rattle.model_shapes.specs.Trees.{Trees, none, node, hole, beside, node_uses, list_uses, root_uses, WellFormed}
+use Rattle.model_shapes.specs.Trees.{Trees, none, node, hole, beside, WellFormed}
 use Rattle.model_shapes.specs.Values.{str, node_number, list_number}
 use Rattle.model_shapes.proofs.Basics.{beside_assoc, node_uses-beside, list_uses-beside, root_uses-beside, holes-beside}
 use Rattle.model_shapes.proofs.Cancelling.{node-head}
@@ -15,7 +15,6 @@ use Rattle.model_terms.specs.Terms.{Term}
 use Rattle.model_formulas.specs.Formulas.{Formula, whole, truth, node_formula, concatenation, one_tree}
 use Rattle.model_formulas.specs.Satisfaction.{Environment, Meets, meaning_of}
 use Rattle.model_groves.specs.Groves.{is_yes, nodes_where, numbered, parental, has_root}
-use Rattle.model_groves.proofs.Decided.{yes-is}
 use Rattle.model_machine.proofs.Fine.{less-WellFormed}
 use Rattle.triple_laws.proofs.Finding.{has_root-in}
 use Rattle.triple_laws.proofs.Moving.{wide, split_at}

@@ -1,8 +1,8 @@
 -- The row of insertBefore.
-use Rattle.std.proofs.Common.{◌≡◌, ◌⊎◌, ◌||◌, inl, inr, ⊎_elim, ℕ, ◌≤◌, ◌+◌, ◌*◌, List, [], Bool, true, false, cond, refl, sym, ap, ◌∙◌, subst, arith}
+use Rattle.std.proofs.Common.{◌≡◌, inl, inr, ⊎_elim, ℕ, ◌≤◌, ◌*◌, List, [], Bool, true, false, cond, refl, sym, ap, ◌∙◌, subst, arith}
 use mathlib.Core.HLevel.{Stable}
 use Rattle.model_shapes.specs.Shapes.{holes, SameAt, Shaped}
-use Rattle.model_shapes.specs.Sorts.{ValueSort, shape, context, tree, forest, grove, node_sort}
+use Rattle.model_shapes.specs.Sorts.{shape, context, tree, forest, grove, node_sort}
 use Rattle.model_shapes.specs.Things.{Thing, val, trees, Fits}
 use Rattle.model_shapes.specs.Trees.{Trees, none, node, hole, beside, fill, width, node_uses, WellFormed}
 use Rattle.model_shapes.specs.Values.{Value, null, nolist, node_number, list_number, int, str, boolean}
@@ -10,9 +10,7 @@ use Rattle.model_shapes.proofs.Basics.{node_uses-fill, holes-beside, beside_asso
 use Rattle.model_shapes.proofs.Filling.{fill-left, inner-WellFormed}
 use Rattle.model_shapes.proofs.Representatives.{representative}
 use Rattle.model_shapes.proofs.Shapes.{SameAt-sym, SameAt-trans, SameAt-eq, same-Shaped, same-node_uses, same-WellFormed, left-Shaped-shape, right-Shaped-shape}
-use Rattle.model_terms.specs.Variables.{prog}
 use Rattle.model_terms.specs.Terms.{Term, literal}
-use Rattle.model_terms.specs.Computing.{Computes}
 use Rattle.model_terms.specs.Stores.{Store, lookup, value_of}
 use Rattle.model_formulas.specs.Formulas.{Formula, whole, node_formula, same_as, one_tree, conjunction, disjunction, equality, concatenation, value_meets}
 use Rattle.model_formulas.specs.Satisfaction.{Environment, Meets, choosing, with_store, meaning_of}
@@ -29,12 +27,12 @@ use Rattle.model_groves.proofs.Decided.{no-is}
 use Rattle.model_groves.proofs.Groves.{node-taken-out, same-after, those-beside, adding_before-beside, width-numbered, found-number}
 use Rattle.model_shapes.proofs.Narrow.{narrow}
 use Rattle.model_machine.specs.Fitting.{Fine}
-use Rattle.model_machine.specs.Machine.{run, move, Move, becomes, faults, cycle, self_ref, not_child, appending, inserting, inserting_at}
+use Rattle.model_machine.specs.Machine.{run, move, becomes, faults, cycle, self_ref, not_child, appending, inserting, inserting_at}
 use Rattle.model_machine.proofs.Fine.{FoundNode, found-node, inserted-shaped, not-positive}
 use Rattle.entailment_laws.proofs.Pieces.{put_in}
 use Rattle.entailment_laws.proofs.Plain.{val-is}
 use Rattle.triple_laws.proofs.Finding.{parent_tree, found-in, has_root-in}
-use Rattle.triple_laws.proofs.Here.{Found, uses-here, own-uses}
+use Rattle.triple_laws.proofs.Here.{Found, uses-here}
 use Rattle.triple_laws.proofs.Moving.{found, child-list, wide, split_at}
 use Rattle.triple_laws.proofs.OneStep.{Lands}
 use Rattle.weakest_laws.specs.Weakest.{MeetsWith}
@@ -42,7 +40,7 @@ use Rattle.weakest_laws.specs.Table.{at, str_var, list_var, standing, and_tree, 
 use Rattle.weakest_laws.proofs.Taking.{plain-value}
 use Rattle.weakest_laws.proofs.Cutting.{Cut, cut, outside-Shaped, node-Shaped, positive-list, Root, root-of}
 use Rattle.weakest_laws.proofs.TakenOut.{is-no, root-stays, less-Shaped, cut-less, found-less}
-use Rattle.weakest_laws.proofs.Rows.{any_pick, on-the-same, stable-landing, meets-same, Located, located_in, locate, value-there}
+use Rattle.weakest_laws.proofs.Rows.{any_pick, on-the-same, stable-landing, meets-same, Located, located_in, locate}
 use Rattle.weakest_laws.proofs.MovedNodes.{taken, put-before, child-used}
 use Rattle.weakest_laws.proofs.Moved.{moved-in, move-out, Numbered, some-tree-met, some-tree-meets, OutOf, taken-out-met, taken-out-meets}
 use Rattle.weakest_laws.proofs.AppendRow.{same-name, same-number, same-list, append-lands, append-meets}

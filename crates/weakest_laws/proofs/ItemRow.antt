@@ -1,17 +1,16 @@
 -- The row of item.
-use Rattle.std.proofs.Common.{◌≡◌, ◌⊎◌, ℕ, zero, suc, ◌≤◌, ◌+◌, ℤ, pos, negsuc, int_le, IsTrue, List, true, inl, inr, refl, sym, ap, ◌∙◌, subst, ⊎_elim, arith, leb-true, le-leb}
+use Rattle.std.proofs.Common.{◌≡◌, ◌⊎◌, ℕ, zero, suc, ◌≤◌, pos, negsuc, int_le, IsTrue, List, true, inl, inr, refl, sym, ap, ◌∙◌, subst, ⊎_elim, arith, leb-true, le-leb}
 use mathlib.Core.HLevel.{dec→stable}
-use Rattle.model_shapes.specs.Shapes.{holes, SameAt, Shaped}
-use Rattle.model_shapes.specs.Sorts.{ValueSort, value, shape, tree, forest, grove, list_sort, int_sort, node_sort}
+use Rattle.model_shapes.specs.Shapes.{Shaped}
+use Rattle.model_shapes.specs.Sorts.{ValueSort, value, shape, tree, forest, grove, list_sort, int_sort}
 use Rattle.model_shapes.specs.Tests.{value_eq}
-use Rattle.model_shapes.specs.Things.{Thing, val}
-use Rattle.model_shapes.specs.Trees.{Trees, none, node, hole, beside, width, WellFormed}
+use Rattle.model_shapes.specs.Things.{val}
+use Rattle.model_shapes.specs.Trees.{Trees, none, node, hole, width, WellFormed}
 use Rattle.model_shapes.specs.Values.{Value, FitsValue, null, nolist, node_number, list_number, int, str, boolean}
 use Rattle.model_shapes.proofs.Basics.{beside_assoc}
 use Rattle.model_shapes.proofs.Shapes.{right-WellFormed}
 use Rattle.model_terms.specs.Variables.{prog, bound}
 use Rattle.model_terms.specs.Terms.{Term, literal}
-use Rattle.model_terms.specs.Computing.{Computes}
 use Rattle.model_terms.specs.Stores.{ProgVar, sort_of, Store, set, lookup, value_of, int_in}
 use Rattle.model_terms.proofs.StoreLaws.{value-fits}
 use Rattle.model_formulas.specs.Formulas.{Formula, truth, node_formula, conjunction, disjunction, equality, at_most, length_is}
@@ -21,7 +20,7 @@ use Rattle.model_commands.specs.Sorting.{Sorted}
 use Rattle.model_commands.specs.SortTests.{is_sorted, BodiesSorted}
 use Rattle.model_commands.specs.Theories.{Procedures}
 use Rattle.model_commands.proofs.Sorting.{sorted-command}
-use Rattle.model_groves.specs.Groves.{nodes_where, listed, list_at, item_of, number_at}
+use Rattle.model_groves.specs.Groves.{listed, list_at, item_of, number_at}
 use Rattle.model_groves.specs.Picks.{Pick}
 use Rattle.model_machine.specs.Fitting.{Fine}
 use Rattle.model_machine.specs.Machine.{run, no_list}

@@ -1,20 +1,20 @@
 -- What the rows of the moves share: the grove after the move, and a tree taken out of a grove.
-use Rattle.std.proofs.Common.{◌≡◌, ◌⊎◌, ℕ, zero, suc, ◌≤◌, ◌+◌, List, true, inl, inr, refl, sym, ap, ◌∙◌, subst, ⊎_elim, arith}
+use Rattle.std.proofs.Common.{◌≡◌, ℕ, zero, suc, List, inl, inr, refl, sym, ap, ◌∙◌, subst, ⊎_elim, arith}
 use mathlib.Core.HLevel.{Stable}
 use Rattle.model_shapes.specs.RootHoles.{root_holes}
 use Rattle.model_shapes.specs.Shapes.{holes, SameAt, Shaped}
-use Rattle.model_shapes.specs.Sorts.{DataSort, Sort, ValueSort, node_sort, shape, context, tree, forest, grove}
+use Rattle.model_shapes.specs.Sorts.{DataSort, ValueSort, node_sort, shape, context, tree, forest, grove}
 use Rattle.model_shapes.specs.Things.{Thing, val, trees, Fits}
 use Rattle.model_shapes.specs.Trees.{Trees, none, node, fill, WellFormed}
 use Rattle.model_shapes.specs.Values.{node_number, str, list_number}
 use Rattle.model_shapes.proofs.Filling.{put-Shaped, outer-WellFormed}
-use Rattle.model_shapes.proofs.Shapes.{SameAt-eq, same-WellFormed, one-hole, root_holes-le}
+use Rattle.model_shapes.proofs.Shapes.{SameAt-eq, same-WellFormed, one-hole}
 use Rattle.model_terms.specs.Variables.{bound, prog}
 use Rattle.model_terms.specs.Terms.{Term}
 use Rattle.model_terms.specs.Computing.{Computes}
 use Rattle.model_terms.specs.Stores.{Store, lookup, value_of}
-use Rattle.model_formulas.specs.Formulas.{Formula, truth, empty, one_tree, one_root, application, hole_adjoint, node_formula, same_as, value_meets}
-use Rattle.model_formulas.specs.Satisfaction.{Environment, Meets, IfTrees, choosing, with_store, meaning_of}
+use Rattle.model_formulas.specs.Formulas.{Formula, truth, empty, one_tree, one_root, hole_adjoint, same_as, value_meets}
+use Rattle.model_formulas.specs.Satisfaction.{Environment, Meets, IfTrees, choosing, with_store}
 use Rattle.entailment_laws.proofs.Pieces.{put_in}
 use Rattle.entailment_laws.proofs.Plain.{val-is}
 use Rattle.triple_laws.proofs.Moving.{emptied-WellFormed, nothing-Shaped, wide}

@@ -1,24 +1,23 @@
 -- The row of parentNode.
-use Rattle.std.proofs.Common.{◌≡◌, ℕ, ◌≤◌, ◌+◌, List, true, inl, inr, refl, sym, ap, ◌∙◌, subst, ⊎_elim, arith}
-use Rattle.model_shapes.specs.Shapes.{holes, SameAt, Shaped, OneHole}
+use Rattle.std.proofs.Common.{◌≡◌, ℕ, List, true, inl, inr, refl, sym, ap, ◌∙◌, subst, ⊎_elim, arith}
+use Rattle.model_shapes.specs.Shapes.{SameAt, Shaped, OneHole}
 use Rattle.model_shapes.specs.Sorts.{ValueSort, value, shape, tree, forest, grove, node_sort, list_sort}
-use Rattle.model_shapes.specs.Things.{Thing, val}
+use Rattle.model_shapes.specs.Things.{val}
 use Rattle.model_shapes.specs.Trees.{Trees, none, node, hole, beside, fill, WellFormed}
 use Rattle.model_shapes.specs.Values.{Value, FitsValue, null, node_number, list_number, str}
 use Rattle.model_shapes.proofs.Basics.{fill-no_hole}
 use Rattle.model_shapes.proofs.Shapes.{same-WellFormed, right-WellFormed}
 use Rattle.model_terms.specs.Variables.{prog, bound}
 use Rattle.model_terms.specs.Terms.{Term, literal}
-use Rattle.model_terms.specs.Computing.{Computes}
 use Rattle.model_terms.specs.Stores.{ProgVar, sort_of, Store, set, lookup, value_of}
-use Rattle.model_formulas.specs.Formulas.{Formula, whole, truth, node_formula, conjunction, disjunction, equality, one_root, grove_sum}
+use Rattle.model_formulas.specs.Formulas.{Formula, whole, truth, node_formula, conjunction, equality, one_root, grove_sum}
 use Rattle.model_formulas.specs.Satisfaction.{Environment, Meets, choosing}
 use Rattle.model_commands.specs.Commands.{parent_node}
 use Rattle.model_commands.specs.Sorting.{Sorted}
 use Rattle.model_commands.specs.SortTests.{is_sorted, BodiesSorted}
 use Rattle.model_commands.specs.Theories.{Procedures}
 use Rattle.model_commands.proofs.Sorting.{sorted-command}
-use Rattle.model_groves.specs.Groves.{nodes_where, numbered, parental, node_at, first_number, has_root}
+use Rattle.model_groves.specs.Groves.{nodes_where, parental, node_at, first_number, has_root}
 use Rattle.model_groves.specs.Picks.{Pick}
 use Rattle.model_groves.proofs.Groves.{those-pass, Roots}
 use Rattle.model_machine.specs.Fitting.{Fine}
@@ -33,9 +32,9 @@ use Rattle.weakest_laws.specs.Weakest.{MeetsWith}
 use Rattle.weakest_laws.specs.Table.{at, str_var, list_var, among, anywhere, some_str, some_list, has_parent, weakest}
 use Rattle.weakest_laws.proofs.Taking.{plain-value, taken, take}
 use Rattle.weakest_laws.proofs.Cutting.{Cut, cut, node-Shaped, positive-list, Root, root-of}
-use Rattle.weakest_laws.proofs.Rows.{any_pick, on-the-same, reading-lands, meets-same, Located, located_in, locate, there}
+use Rattle.weakest_laws.proofs.Rows.{any_pick, on-the-same, reading-lands, meets-same, Located, locate, there}
 use Rattle.weakest_laws.proofs.Families.{ChildMet, child-met, child-meets, Orphan, orphan, root-first, others-shaped}
-use Rattle.weakest_laws.proofs.ReadRows.{env, formed, Landing, stable-at, NodeRead, node-read, number-is}
+use Rattle.weakest_laws.proofs.ReadRows.{env, Landing, stable-at, NodeRead, node-read, number-is}
 
 module _ (ps : Procedures) (bodies : BodiesSorted ps) (q : Formula) (e : Environment) (st : Store)
     (g : Trees) (fine : Fine st g) (x : ProgVar) (t : Term)

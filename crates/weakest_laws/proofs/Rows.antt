@@ -2,14 +2,14 @@
 -- some node of a grove comes to.
 use Rattle.std.proofs.Common.{◌≡◌, ℕ, List, [], ◌∷◌, refl, sym, ap, ◌∙◌, subst}
 use mathlib.Core.HLevel.{Stable}
-use Rattle.model_shapes.specs.Shapes.{Same, SameAt, Shaped}
-use Rattle.model_shapes.specs.Sorts.{Sort, ValueSort, shape, context, tree, forest, grove, node_sort, list_sort}
+use Rattle.model_shapes.specs.Shapes.{SameAt, Shaped}
+use Rattle.model_shapes.specs.Sorts.{ValueSort, shape, context, tree, forest, grove, node_sort, list_sort}
 use Rattle.model_shapes.specs.Things.{val}
 use Rattle.model_shapes.specs.Trees.{Trees, none, node, hole, fill, WellFormed}
 use Rattle.model_shapes.specs.Values.{Value, FitsValue, node_number, str, list_number}
 use Rattle.model_shapes.proofs.Shapes.{SameAt-sym, SameAt-eq, same-WellFormed}
 use Rattle.model_terms.specs.Computing.{Computes}
-use Rattle.model_terms.specs.Stores.{ProgVar, sort_of, Store, set, value_in, lookup, value_of}
+use Rattle.model_terms.specs.Stores.{ProgVar, sort_of, Store, set, lookup, value_of}
 use Rattle.model_terms.specs.Terms.{Term}
 use Rattle.model_terms.specs.Variables.{prog}
 use Rattle.model_terms.proofs.StoreLaws.{set-same}
@@ -20,7 +20,6 @@ use Rattle.model_formulas.proofs.Stable.{stable}
 use Rattle.model_commands.specs.Theories.{Procedures}
 use Rattle.model_groves.specs.Groves.{node_at, list_at}
 use Rattle.model_groves.specs.Picks.{Pick}
-use Rattle.model_machine.specs.Fitting.{Fine}
 use Rattle.model_machine.specs.Machine.{FaultKind, Move, Piece, becomes, faults, bad_pick, move, reading}
 use Rattle.model_machine.specs.SameMoves.{SameMove}
 use Rattle.model_machine.proofs.Fine.{FineMove}

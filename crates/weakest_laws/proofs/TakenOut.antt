@@ -1,13 +1,12 @@
 -- A node that stands outside a tree stays where the tree is taken out, with what is left of its
 -- children.
-use Rattle.std.proofs.Common.{◌≡◌, ℕ, zero, suc, ◌≤◌, ◌+◌, ◌*◌, List, Bool, true, false, cond, ◌||◌, refl, sym, ap, ◌∙◌, subst, arith}
+use Rattle.std.proofs.Common.{◌≡◌, ℕ, zero, suc, ◌≤◌, ◌*◌, List, Bool, true, false, cond, ◌||◌, refl, sym, ap, ◌∙◌, subst, arith}
 use Rattle.std.proofs.Math.Decide.{ℕ_discrete}
 use Rattle.model_shapes.specs.Shapes.{holes, Shaped}
 use Rattle.model_shapes.specs.Sorts.{shape, grove}
 use Rattle.model_shapes.specs.Trees.{Trees, none, node, hole, beside, fill, node_uses, WellFormed}
 use Rattle.model_shapes.proofs.Basics.{node_uses-fill}
 use Rattle.model_groves.specs.Groves.{is_yes, nodes_where, numbered, has_root, without}
-use Rattle.model_groves.proofs.Decided.{yes-is}
 use Rattle.model_groves.proofs.Groves.{without-beside, node-taken-out, list-taken-out, holes-taken-out}
 use Rattle.model_groves.proofs.InContext.{context-apart}
 use Rattle.model_machine.proofs.Fine.{less-WellFormed}

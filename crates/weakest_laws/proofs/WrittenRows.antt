@@ -1,21 +1,18 @@
 -- The written rows are those of the table.
-use Rattle.std.proofs.Common.{◌≡◌, ℕ, zero, suc, List, [], ◌∷◌, refl, sym, ap, ◌∙◌, subst, inl, inr}
-use Rattle.model_shapes.specs.Sorts.{Sort, ValueSort, value, shape, context, node_sort, list_sort, int_sort, str_sort, tree, forest, grove}
-use Rattle.model_shapes.specs.Trees.{decided}
+use Rattle.std.proofs.Common.{◌≡◌, ℕ, zero, suc, List, [], ◌∷◌, refl, sym, ap, ◌∙◌}
+use Rattle.model_shapes.specs.Sorts.{ValueSort, int_sort, str_sort}
 use Rattle.model_shapes.specs.Values.{Name}
 use Rattle.model_terms.specs.Variables.{Var, prog, logic, bound, var_sort}
 use Rattle.model_terms.specs.VariableTests.{var_eq}
-use Rattle.model_terms.specs.Terms.{Term, literal, variable, sum, difference, appended, raised, raised_var, term_with, Substitution}
+use Rattle.model_terms.specs.Terms.{Term, literal, variable, sum, difference, appended, raised_var, term_with}
 use Rattle.model_terms.specs.Computing.{Computes}
-use Rattle.model_terms.specs.Stores.{ProgVar, named, as_var, sort_of}
-use Rattle.model_formulas.specs.Formulas.{Formula, Named, existential}
+use Rattle.model_formulas.specs.Formulas.{Formula, Named}
 use Rattle.model_formulas.specs.Substitution.{formula_with, FreeIn, closing, replacing}
 use Rattle.model_formulas.specs.Nameless.{nameless, walked, names, naming}
 use Rattle.model_formulas.specs.Deciding.{name_or, closing_at, replacing_at}
 use Rattle.model_formulas.proofs.Nameless.{then_with, formula-then, walked-names, nameless-closed}
 use Rattle.model_formulas.proofs.Renaming.{with-alike}
 use Rattle.weakest_laws.specs.Table.{below}
-use Rattle.weakest_laws.specs.Written.{IsNew, Differ}
 
 -- PLACES: the variables of binders, the nearest first
 abbrev pub Apart : Var → List Var → Type 0

@@ -1,5 +1,5 @@
 -- Each written row is the row of the table.
-use Rattle.std.proofs.Common.{◌≡◌, ℕ, List, [], ◌∷◌, refl, sym, ap, ◌∙◌}
+use Rattle.std.proofs.Common.{◌≡◌, List, [], ◌∷◌, refl, sym, ap, ◌∙◌}
 use Rattle.model_shapes.specs.Sorts.{Sort, value, shape, context, node_sort, list_sort, int_sort, str_sort, tree, forest, grove}
 use Rattle.model_shapes.specs.Values.{Name}
 use Rattle.model_terms.specs.Variables.{Var, logic, var_sort}
@@ -8,13 +8,13 @@ use Rattle.model_terms.specs.Computing.{Computes}
 use Rattle.model_terms.specs.Stores.{ProgVar, named, as_var, sort_of}
 use Rattle.model_formulas.specs.Formulas.{Formula, Named, whole, truth, conjunction, disjunction, existential, universal, equality, at_most, empty, bare_hole, node_formula, one_tree, one_root, concatenation, grove_sum, grove_sum_hole, application, hole_adjoint, context_adjoint, same_as, length_is, value_meets}
 use Rattle.model_formulas.specs.Substitution.{formula_with, closing, replacing}
-use Rattle.model_formulas.specs.Nameless.{nameless, walked, naming}
-use Rattle.model_terms.specs.Terms.{literal, term_with}
+use Rattle.model_formulas.specs.Nameless.{nameless, walked}
+use Rattle.model_terms.specs.Terms.{literal}
 use Rattle.model_shapes.specs.Values.{null, int}
 use Rattle.std.specs.Prelude.{negsuc}
 use Rattle.model_commands.specs.Commands.{assign, create_node, node_name, child_nodes, parent_node, list_item, append_child, remove_child, insert_before}
-use Rattle.weakest_laws.specs.Table.{weakest, below, has_name, has_children, has_parent, has_item, appended, removed, inserted, some_tree, anywhere, among, standing}
-use Rattle.weakest_laws.specs.Written.{IsNew, Differ, node_of, str_of, list_of, int_of, tree_of, forest_of, grove_of, context_of, value_for, written_taking, written_name, written_children, written_parent, written_item, written_create, written_tree, written_standing, written_appended, written_removed, written_inserted, written_moving, followed_by, same}
+use Rattle.weakest_laws.specs.Table.{weakest, below, appended, inserted}
+use Rattle.weakest_laws.specs.Written.{IsNew, Differ, node_of, str_of, list_of, int_of, tree_of, forest_of, grove_of, context_of, value_for, written_taking, written_name, written_children, written_parent, written_item, written_create, written_appended, written_removed, written_inserted, written_moving}
 use Rattle.weakest_laws.proofs.WrittenRows.{Apart, AllApart, placed, plain-stays, under-one, NoneFree, put-in, put-below}
 
 same-names : (n m : Name) (s u : Sort) → logic m u ≡ logic n s → n ≡ m

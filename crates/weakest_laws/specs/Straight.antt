@@ -1,6 +1,6 @@
 -- Needn't be believed: the program's promise doesn't speak of it. Straight-line commands, the first
 -- part of a command that keeps it from being one, and how long a command is.
-use Rattle.std.specs.Prelude.{◌≡◌, ℕ, Bool, true, false, not, List, length, map, Option}
+use Rattle.std.specs.Prelude.{ℕ, Bool, true, false, not, length, map, Option}
 use Rattle.std.specs.List.{list_all, filter, position_from}
 use Rattle.model_commands.specs.Commands.{Command, skip, block, if_else, while_do, local, call}
 use Rattle.model_commands.specs.CommandParts.{commands_in}

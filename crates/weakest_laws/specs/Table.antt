@@ -11,7 +11,7 @@ use Rattle.model_terms.specs.Terms.{Term, literal, variable, raised_var}
 use Rattle.model_terms.specs.Stores.{ProgVar, as_var, sort_of}
 use Rattle.model_formulas.specs.Formulas.{Formula, whole, truth, conjunction, disjunction, existential, universal, equality, at_most, empty, bare_hole, node_formula, one_tree, one_root, concatenation, grove_sum, grove_sum_hole, application, hole_adjoint, context_adjoint, same_as, length_is, value_meets}
 use Rattle.model_formulas.specs.Substitution.{formula_with, closing}
-use Rattle.model_commands.specs.Commands.{Command, skip, block, assign, create_node, node_name, child_nodes, parent_node, list_item, append_child, remove_child, insert_before, Block, stop, ◌then◌}
+use Rattle.model_commands.specs.Commands.{Command, block, assign, create_node, node_name, child_nodes, parent_node, list_item, append_child, remove_child, insert_before, Block, stop, ◌then◌}
 
 -- the variable of the n-th binder outwards, from 0
 abbrev pub at : ℕ → Sort → Term
