@@ -2,7 +2,7 @@
 use Rattle.std.proofs.Common.{◌≡◌, ℕ, ◌≤◌, ◌*◌, List, [], Bool, true, false, cond, refl, sym, ap, ◌∙◌, subst, arith}
 use mathlib.Core.HLevel.{Stable}
 use Rattle.model_shapes.specs.Shapes.{SameAt, Shaped}
-use Rattle.model_shapes.specs.Sorts.{shape, context, tree, forest, grove, node_sort}
+use Rattle.model_shapes.specs.Sorts.{value, shape, context, tree, forest, grove, node_sort, list_sort, str_sort}
 use Rattle.model_shapes.specs.Things.{Thing, val, trees, Fits}
 use Rattle.model_shapes.specs.Trees.{Trees, none, node, hole, beside, fill, node_uses, WellFormed}
 use Rattle.model_shapes.specs.Values.{node_number, list_number, str}
@@ -33,7 +33,7 @@ use Rattle.triple_laws.proofs.Moving.{found, child-list, wide, split_at, emptied
 use Rattle.triple_laws.proofs.OneStep.{Lands}
 use Rattle.weakest_laws.specs.Weakest.{MeetsWith}
 use Rattle.weakest_laws.specs.Table.{at, str_var, list_var, standing, and_tree, appended, taken_out, some_tree, weakest}
-use Rattle.weakest_laws.proofs.Taking.{plain-value}
+use Rattle.weakest_laws.proofs.Taking.{plain-value, some-thing}
 use Rattle.weakest_laws.proofs.Cutting.{Cut, cut, outside-Shaped, node-Shaped, positive-list}
 use Rattle.weakest_laws.proofs.Rows.{any_pick, on-the-same, stable-landing, meets-same, Located, located_in, locate}
 use Rattle.weakest_laws.proofs.MovedNodes.{taken, added}
@@ -201,7 +201,8 @@ module _ (ps : Procedures) (q : Formula) (e : Environment) (st : Store) (g : Tre
                 (node_at z start) st start)) (sym v.names)
                 (appending-lands J p.number v.number v.name v.kids v.list st start start-formed
                 moved-found parent-used
-                (meets-same q e st r (adding p.number moved (without v.number start)) end-same mq))))
+                (meets-same q e st r (adding p.number moved (without v.number start)) end-same
+                mq))))
 
     with_things : (k : Pick) (r : Trees) → MeetsWith q e st r → (c s f l u : Thing)
         → Fits (context tree grove) c → Fits (shape forest) f → Fits (shape tree) u
@@ -210,7 +211,8 @@ module _ (ps : Procedures) (q : Formula) (e : Environment) (st : Store) (g : Tre
     with_things k r mq (trees c) s (val x) l u fc ff fu m = absurd ff
     with_things k r mq (trees c) s (trees f) l (val x) fc ff fu m = absurd fu
     with_things k r mq (trees c) s (trees f) l (trees u) fc ff fu m =
-        taken-out-met 0 before u its' g fine.whole.well_formed (Landing k) (stable-here k) refl m.0.0
+        taken-out-met 0 before u its' g fine.whole.well_formed (Landing k) (stable-here k) refl
+        m.0.0
         (λ o. some-tree-met e st b so.1 its' (λ z w. refl) (Landing k) (stable-here k) u m.0.1 (λ v.
         locate (Landing k) (stable-here k) (same_as (at 4 (context tree grove))) (str_var 3) a
         (same_as (at 2 (shape forest))) (list_var 1) its' (fill o.around none) o.meets (λ p mc.
@@ -339,53 +341,41 @@ module _ (ps : Procedures) (q : Formula) (e : Environment) (st : Store) (g : Tre
                 (SameAt-eq grove less (fill at-parent.outside (node f.name i f.kids f.list none))
                 at-parent.is) same (refl, number, refl, refl)
 
+            kids-meet : Meets inside_after chosen (shape forest) (beside f.kids tree_moved)
+            kids-meet =
+                split_at whole (shape forest) (beside f.kids tree_moved)
+                (Meets (same_as (at 2 (shape forest))) chosen)
+                (Meets (one_tree (same_as (at 0 (shape tree)))) chosen) f.kids tree_moved
+                (child-list f.name i f.kids f.list parent-shaped)
+                (wide forest tree_moved (λ v. cc) moved-shaped) refl refl (moved-shaped, refl)
+
             after-meets : Meets after chosen (shape grove) end
             after-meets =
                 put_in tree (shape grove) end (same_as (at 4 (context tree grove)))
                 (node_formula (str_var 3) a inside_after (list_var 1)) chosen
                 at-parent.outside parent_after parent-outside after-shaped
-                (SameAt-eq grove end end refl) same (
-                  refl,
-                  number,
-                  refl,
-                  split_at whole (shape forest) (beside f.kids tree_moved)
-                      (Meets (same_as (at 2 (shape forest))) chosen)
-                      (Meets (one_tree (same_as (at 0 (shape tree)))) chosen) f.kids tree_moved
-                      (child-list f.name i f.kids f.list parent-shaped)
-                      (wide forest tree_moved (λ v. cc) moved-shaped) refl refl (moved-shaped, refl),
-                )
+                (SameAt-eq grove end end refl) same (refl, number, refl, kids-meet)
+
+            out-meets : Meets (taken_out (at 0 (shape tree)) before) chosen (shape grove) g
+            out-meets =
+                taken-out-meets 0 before chosen g fine.whole s' j k' l' out refl
+                (subst (Meets before chosen (shape grove)) less-is before-meets)
+
+            child-meets : Meets (some_tree b) chosen (shape tree) tree_moved
+            child-meets =
+                some-tree-meets e st b so.1 chosen (λ z u. refl) s' j k' l' moved-shaped b-is
 
             meets-with : MeetsWith (weakest (append_child a b) q) e st g
             meets-with =
                 move-out e st (appended a b) q g end end-shaped
-                (λ n. n (
-                  trees c,
-                  fc,
-                  λ n. n (
-                    val (str f.name),
-                    tt,
-                    λ n. n (
-                      trees f.kids,
-                      child-list f.name i f.kids f.list parent-shaped,
-                      λ n. n (
-                        val (list_number f.list),
-                        positive-list f.name i f.kids f.list none parent-shaped.well_formed,
-                        λ n. n (
-                          trees tree_moved,
-                          moved-shaped,
-                          (
-                            (
-                              taken-out-meets 0 before chosen g fine.whole s' j k' l' out refl
-                                  (subst (Meets before chosen (shape grove)) less-is before-meets),
-                              some-tree-meets e st b so.1 chosen (λ z u. refl) s' j k' l' moved-shaped b-is,
-                            ),
-                            after-meets,
-                          ),
-                        ),
-                      ),
-                    ),
-                  ),
-                ))
+                (some-thing (context tree grove) (trees c) fc
+                (some-thing (value str_sort) (val (str f.name)) tt
+                (some-thing (shape forest) (trees f.kids)
+                (child-list f.name i f.kids f.list parent-shaped)
+                (some-thing (value list_sort) (val (list_number f.list))
+                (positive-list f.name i f.kids f.list none parent-shaped.well_formed)
+                (some-thing (shape tree) (trees tree_moved) moved-shaped
+                (((out-meets, child-meets), after-meets)))))))
                 (subst (MeetsWith q e st) end-is mq)
 
         meets-all : MeetsWith (weakest (append_child a b) q) e st g

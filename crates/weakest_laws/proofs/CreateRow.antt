@@ -2,7 +2,7 @@
 use Rattle.std.proofs.Common.{◌≡◌, ℕ, zero, suc, ◌<◌, List, [], Bool, true, false, not, ◌&&◌, cond, refl, sym, ap, ◌∙◌, subst, arith}
 use Rattle.model_shapes.specs.Shapes.{SameAt, Shaped}
 use Rattle.model_shapes.specs.Sorts.{shape, context, tree, forest, grove, node_sort, list_sort, str_sort}
-use Rattle.model_shapes.specs.Things.{val}
+use Rattle.model_shapes.specs.Things.{Thing, val}
 use Rattle.model_shapes.specs.Trees.{Trees, none, node, hole, beside, fill, node_uses, list_uses, WellFormed}
 use Rattle.model_shapes.specs.Values.{Value, FitsValue, null, nolist, node_number, list_number, int, str, boolean}
 use Rattle.model_shapes.proofs.Basics.{node_uses-beside, list_uses-beside}
@@ -233,8 +233,8 @@ module _ (ps : Procedures) (q : Formula) (e : Environment) (st : Store) (g : Tre
 
           pub at-context : Meets (below after) its (shape grove) (fill c g)
           at-context =
-              closed (below after) its (shape grove) (beside g (node name y.number none y.list none))
-              (fill c g) (SameAt-sym grove (fill c g) (beside g (node name y.number none y.list
+              closed (below after) its (shape grove)
+              (beside g (node name y.number none y.list none)) (fill c g) (SameAt-sym grove (fill c g) (beside g (node name y.number none y.list
               none)) same-whole)
               (subst (λ z. Meets (below after) z (shape grove)
               (beside g (node name y.number none y.list none)))
@@ -243,16 +243,17 @@ module _ (ps : Procedures) (q : Formula) (e : Environment) (st : Store) (g : Tre
               (at-free pick (same-Shaped (shape grove) (fill c g)
               (beside g (node name y.number none y.list none)) same-whole whole))))
 
+      -- what the row says of a context, with these for $m and $v
+      abbrev Says : Thing → Thing → Trees → Type 0
+      Says m v c = Meets (below after) (choosing m (choosing v here)) (shape grove) (fill c g)
+
       pub create-meets : MeetsWith (weakest (create_node x t) q) e st g
       create-meets v fv m fm c wc mk whole =
-          value-of-sort (Meets (below after) (choosing m (choosing v here)) (shape grove) (fill c g))
-          node_sort (λ z. v ≡ z) v fv refl (λ wv fwv qv.
-          value-of-sort (Meets (below after) (choosing m (choosing v here)) (shape grove) (fill c g))
-          list_sort (λ z. m ≡ z) m fm refl (λ wm fwm qm.
-          subst (λ z. z) (λ i. Meets (below after) (choosing (sym qm i) (choosing (sym qv i) here))
-          (shape grove) (fill c g))
-          (stable (below after) (choosing (val wm) (choosing (val wv) here)) (shape grove) (fill c g)
-          (λ n. subst (λ z. z) (λ i. Meets round (choosing (qm i) (choosing (qv i) here))
+          value-of-sort (Says m v c) node_sort (λ z. v ≡ z) v fv refl (λ wv fwv qv.
+          value-of-sort (Says m v c) list_sort (λ z. m ≡ z) m fm refl (λ wm fwm qm.
+          subst (λ z. z) (λ i. Says (sym qm i) (sym qv i) c)
+          (stable (below after) (choosing (val wm) (choosing (val wv) here)) (shape grove)
+          (fill c g) (λ n. subst (λ z. z) (λ i. Meets round (choosing (qm i) (choosing (qv i) here))
           (context grove grove) c) mk (λ a. a.2 (λ b.
           n (at-context wv wm c wc whole b.0
           (subst (λ z. SameAt grove c (beside z b.0)) b.2.1 b.2.0)

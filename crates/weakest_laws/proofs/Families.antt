@@ -180,7 +180,11 @@ module _ (before : Trees) (s : List ℕ) (i : ℕ) (k : Trees) (l : ℕ) (after 
     pub root-first : SameAt grove (beside before (node s i k l after))
         (beside (node s i k l none) (beside before after))
     root-first t =
-        omega (arith, root_uses-beside t before (node s i k l after), root_uses-beside t before after)
+        omega (
+          arith,
+          root_uses-beside t before (node s i k l after),
+          root_uses-beside t before after,
+        )
 
     pub others-shaped : Shaped (shape grove) (beside before after)
     others-shaped = record {

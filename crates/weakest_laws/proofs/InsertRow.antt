@@ -2,7 +2,7 @@
 use Rattle.std.proofs.Common.{◌≡◌, inl, inr, ⊎_elim, ℕ, ◌≤◌, ◌*◌, List, [], Bool, true, false, cond, refl, sym, ap, ◌∙◌, subst, arith}
 use mathlib.Core.HLevel.{Stable}
 use Rattle.model_shapes.specs.Shapes.{holes, SameAt, Shaped}
-use Rattle.model_shapes.specs.Sorts.{shape, context, tree, forest, grove, node_sort}
+use Rattle.model_shapes.specs.Sorts.{value, shape, context, tree, forest, grove, node_sort, list_sort, str_sort}
 use Rattle.model_shapes.specs.Things.{Thing, val, trees, Fits}
 use Rattle.model_shapes.specs.Trees.{Trees, none, node, hole, beside, fill, width, node_uses, WellFormed}
 use Rattle.model_shapes.specs.Values.{Value, null, nolist, node_number, list_number, int, str, boolean}
@@ -37,7 +37,7 @@ use Rattle.triple_laws.proofs.Moving.{found, child-list, wide, split_at}
 use Rattle.triple_laws.proofs.OneStep.{Lands}
 use Rattle.weakest_laws.specs.Weakest.{MeetsWith}
 use Rattle.weakest_laws.specs.Table.{at, str_var, list_var, standing, and_tree, appended, inserted, taken_out, some_tree, weakest}
-use Rattle.weakest_laws.proofs.Taking.{plain-value}
+use Rattle.weakest_laws.proofs.Taking.{plain-value, some-thing}
 use Rattle.weakest_laws.proofs.Cutting.{Cut, cut, outside-Shaped, node-Shaped, positive-list, Root, root-of}
 use Rattle.weakest_laws.proofs.TakenOut.{is-no, root-stays, less-Shaped, cut-less, found-less}
 use Rattle.weakest_laws.proofs.Rows.{any_pick, on-the-same, stable-landing, meets-same, Located, located_in, locate}
@@ -493,7 +493,8 @@ module _ (ps : Procedures) (q : Formula) (e : Environment) (st : Store) (g : Tre
           );
         }
 
-        new-kids : Shaped (shape forest) (beside (beside (beside y.before tree_moved) beyond) y.after)
+        new-kids : Shaped (shape forest)
+            (beside (beside (beside y.before tree_moved) beyond) y.after)
         new-kids = child-list s i (beside (beside (beside y.before tree_moved) beyond) y.after) l
             after-shaped
 
@@ -534,7 +535,8 @@ module _ (ps : Procedures) (q : Formula) (e : Environment) (st : Store) (g : Tre
 
         beyond-forest : Shaped (shape forest) beyond
         beyond-forest =
-            right-Shaped-shape forest y.before beyond (λ n. tt) beyond-holes front-shaped.well_formed
+            right-Shaped-shape forest y.before beyond (λ n. tt) beyond-holes
+            front-shaped.well_formed
 
         beyond-shaped : Shaped (shape tree) beyond
         beyond-shaped = record {
@@ -575,76 +577,71 @@ module _ (ps : Procedures) (q : Formula) (e : Environment) (st : Store) (g : Tre
                       before-shaped beyond-forest refl refl (beyond-shaped, refl)) refl,
                 )
 
+            -- the children after the move: two of them, three, and all
+            two-meet : Meets (and_tree (same_as (at 4 (shape forest))) 1) chosen (shape forest)
+                (beside y.before tree_moved)
+            two-meet =
+                split_at whole (shape forest) (beside y.before tree_moved)
+                (Meets (same_as (at 4 (shape forest))) chosen)
+                (Meets (one_tree (same_as (at 1 (shape tree)))) chosen) y.before tree_moved
+                before-shaped (wide forest tree_moved (λ v. cc) moved-shaped) refl refl
+                (moved-shaped, refl)
+
+            three-meet : Meets (and_tree (and_tree (same_as (at 4 (shape forest))) 1) 0) chosen
+                (shape forest) (beside (beside y.before tree_moved) beyond)
+            three-meet =
+                split_at whole (shape forest) (beside (beside y.before tree_moved) beyond)
+                (Meets (and_tree (same_as (at 4 (shape forest))) 1) chosen)
+                (Meets (one_tree (same_as (at 0 (shape tree)))) chosen)
+                (beside y.before tree_moved) beyond two-shaped beyond-forest refl two-meet
+                (beyond-shaped, refl)
+
+            all-meet : Meets inside_after chosen (shape forest)
+                (beside (beside (beside y.before tree_moved) beyond) y.after)
+            all-meet =
+                split_at whole (shape forest)
+                (beside (beside (beside y.before tree_moved) beyond) y.after)
+                (Meets (and_tree (and_tree (same_as (at 4 (shape forest))) 1) 0) chosen)
+                (Meets (same_as (at 3 (shape forest))) chosen)
+                (beside (beside y.before tree_moved) beyond) y.after three-shaped rest-shaped refl
+                three-meet refl
+
             after-meets : Meets after chosen (shape grove) end
             after-meets =
                 put_in tree (shape grove) end (same_as (at 6 (context tree grove)))
                 (node_formula (str_var 5) a inside_after (list_var 2)) chosen
                 at-parent.outside parent_after parent-outside after-shaped
-                (SameAt-eq grove end end refl) same (
-                  refl,
-                  number,
-                  refl,
-                  split_at whole (shape forest)
-                      (beside (beside (beside y.before tree_moved) beyond) y.after)
-                      (Meets (and_tree (and_tree (same_as (at 4 (shape forest))) 1) 0) chosen)
-                      (Meets (same_as (at 3 (shape forest))) chosen)
-                      (beside (beside y.before tree_moved) beyond) y.after three-shaped rest-shaped refl
-                      (split_at whole (shape forest) (beside (beside y.before tree_moved) beyond)
-                      (Meets (and_tree (same_as (at 4 (shape forest))) 1) chosen)
-                      (Meets (one_tree (same_as (at 0 (shape tree)))) chosen)
-                      (beside y.before tree_moved) beyond two-shaped beyond-forest refl
-                      (split_at whole (shape forest) (beside y.before tree_moved)
-                      (Meets (same_as (at 4 (shape forest))) chosen)
-                      (Meets (one_tree (same_as (at 1 (shape tree)))) chosen) y.before tree_moved
-                      before-shaped (wide forest tree_moved (λ v. cc) moved-shaped) refl refl
-                      (moved-shaped, refl)) (beyond-shaped, refl)) refl,
-                )
+                (SameAt-eq grove end end refl) same (refl, number, refl, all-meet)
+
+            out-meets : Meets (taken_out (at 1 (shape tree)) before) chosen (shape grove) g
+            out-meets =
+                taken-out-meets 1 before chosen g fine.whole s' j k' l' out refl
+                (subst (Meets before chosen (shape grove)) less-is before-meets)
+
+            child-meets : Meets (some_tree b) chosen (shape tree) tree_moved
+            child-meets =
+                some-tree-meets e st b so.1 chosen (λ z u. refl) s' j k' l' moved-shaped b-is
+
+            next-meets : Meets (some_tree d) chosen (shape tree) beyond
+            next-meets =
+                some-tree-meets e st d so.2 chosen (λ z u. refl) y.name t y.kids y.list
+                beyond-shaped d-is
 
             meets-with : MeetsWith (weakest (insert_before a b d) q) e st g
             meets-with =
                 move-out e st
                 (disjunction (conjunction (equality d (literal null)) (appended a b))
                 (inserted a b d)) q g end end-shaped
-                (λ no. no (inr (λ n. n (
-                  trees c,
-                  fc,
-                  λ n. n (
-                    val (str s),
-                    tt,
-                    λ n. n (
-                      trees y.before,
-                      before-shaped,
-                      λ n. n (
-                        trees y.after,
-                        rest-shaped,
-                        λ n. n (
-                          val (list_number l),
-                          positive-list s i kids_left l none parent-shaped.well_formed,
-                          λ n. n (
-                            trees tree_moved,
-                            moved-shaped,
-                            λ n. n (
-                              trees beyond,
-                              beyond-shaped,
-                              (
-                                (
-                                  (
-                                    taken-out-meets 1 before chosen g fine.whole s' j k' l' out refl
-                                        (subst (Meets before chosen (shape grove)) less-is before-meets),
-                                    some-tree-meets e st b so.1 chosen (λ z u. refl) s' j k' l' moved-shaped b-is,
-                                  ),
-                                  some-tree-meets e st d so.2 chosen (λ z u. refl) y.name t y.kids y.list beyond-shaped
-                                      d-is,
-                                ),
-                                after-meets,
-                              ),
-                            ),
-                          ),
-                        ),
-                      ),
-                    ),
-                  ),
-                ))))
+                (λ no. no (inr
+                (some-thing (context tree grove) (trees c) fc
+                (some-thing (value str_sort) (val (str s)) tt
+                (some-thing (shape forest) (trees y.before) before-shaped
+                (some-thing (shape forest) (trees y.after) rest-shaped
+                (some-thing (value list_sort) (val (list_number l))
+                (positive-list s i kids_left l none parent-shaped.well_formed)
+                (some-thing (shape tree) (trees tree_moved) moved-shaped
+                (some-thing (shape tree) (trees beyond) beyond-shaped
+                (((out-meets, child-meets), next-meets), after-meets))))))))))
                 (subst (MeetsWith q e st) end-is mq)
 
         meets-all : MeetsWith (weakest (insert_before a b d) q) e st g

@@ -2,7 +2,7 @@
 use Rattle.std.proofs.Common.{◌≡◌, ◌⊎◌, ℕ, zero, suc, ◌≤◌, pos, negsuc, int_le, IsTrue, List, true, inl, inr, refl, sym, ap, ◌∙◌, subst, ⊎_elim, arith, leb-true, le-leb}
 use mathlib.Core.HLevel.{dec→stable}
 use Rattle.model_shapes.specs.Shapes.{Shaped}
-use Rattle.model_shapes.specs.Sorts.{ValueSort, value, shape, tree, forest, grove, list_sort, int_sort}
+use Rattle.model_shapes.specs.Sorts.{ValueSort, value, shape, tree, forest, grove, node_sort, list_sort, str_sort, int_sort}
 use Rattle.model_shapes.specs.Tests.{value_eq}
 use Rattle.model_shapes.specs.Things.{val}
 use Rattle.model_shapes.specs.Trees.{Trees, none, node, hole, width, WellFormed}
@@ -30,7 +30,7 @@ use Rattle.triple_laws.proofs.Finding.{number-in}
 use Rattle.triple_laws.proofs.Moving.{child-list}
 use Rattle.weakest_laws.specs.Weakest.{MeetsWith}
 use Rattle.weakest_laws.specs.Table.{at, str_var, list_var, node_var, int_var, among, anywhere, some_str, some_list, some_node, some_int, has_item, weakest}
-use Rattle.weakest_laws.proofs.Taking.{plain-value, taken, take}
+use Rattle.weakest_laws.proofs.Taking.{plain-value, some-thing, taken, take}
 use Rattle.weakest_laws.proofs.Cutting.{Cut, cut, node-Shaped, positive-node, positive-list, found-list, Child, child-at}
 use Rattle.weakest_laws.proofs.Rows.{any_pick, on-the-same, reading-lands, meets-same, Read, read-off, Located, located_in, locate, list-there, there}
 use Rattle.weakest_laws.proofs.Families.{ChildMet, child-met, child-meets}
@@ -163,7 +163,8 @@ module _ (ps : Procedures) (bodies : BodiesSorted ps) (q : Formula) (e : Environ
               (λ a. inl (subst (λ z. IsTrue (int_le z (negsuc 0))) place a))
               (λ a. inr (subst (λ z. IsTrue (int_le z (int_in (value_of st f))))
               (sym (ap number_of o.kids_meet))
-              (subst (λ z. IsTrue (int_le (number_of (meaning_of e' (int_var 0))) z)) place a))) z))))
+              (subst (λ z. IsTrue (int_le (number_of (meaning_of e' (int_var 0))) z)) place a)))
+              z))))
 
       absent : Meets there_is_none (choosing (val w) here) (shape grove) g → Lands-here k
       absent m =
@@ -199,31 +200,14 @@ module _ (ps : Procedures) (bodies : BodiesSorted ps) (q : Formula) (e : Environ
             → MeetsWith (weakest (list_item x t f) q) e st g
         at-child n place y w is h mq =
             take e st x (has_item x t f) q (shape grove) g w h
-            (λ n. n (inl (λ n. n (
-              val (str s),
-              tt,
-              λ n. n (
-                val (node_number i),
-                positive-node s i kids l none shaped.well_formed,
-                λ n. n (
-                  val (str y.name),
-                  tt,
-                  λ n. n (
-                    val (list_number y.list),
-                    child-list-fits,
-                    there g fine.whole s i kids l c (str_var 3) (node_var 2)
-                        (among (length_is f) child) t e' refl refl (list-is e' (λ z u. refl))
-                        (subst (λ z. Meets (among (length_is f) child) e' (shape forest) z) (sym y.is)
-                        (child-meets y.before y.name y.number y.kids y.list y.after
-                        (subst (Shaped (shape forest)) y.is (child-list s i kids l shaped))
-                        (length_is f) (str_var 1) (at 4 (value (sort_of x))) (list_var 0) e'
-                        (ap (λ z. val (int (pos z))) y.place ∙ ap val (sym place)
-                        ∙ sym (plain-value int_sort f st e e' (λ z u. refl) so.2))
-                        refl (ap val (sym y.read ∙ is)) refl)),
-                  ),
-                ),
-              ),
-            ))))
+            (λ n. n (inl
+            (some-thing (value str_sort) (val (str s)) tt
+            (some-thing (value node_sort) (val (node_number i))
+            (positive-node s i kids l none shaped.well_formed)
+            (some-thing (value str_sort) (val (str y.name)) tt
+            (some-thing (value list_sort) (val (list_number y.list)) child-list-fits
+            (there g fine.whole s i kids l c (str_var 3) (node_var 2) (among (length_is f) child) t
+            e' refl refl (list-is e' (λ z u. refl)) kids-meet)))))))
             mq
           where
             child-list-fits : FitsValue list_sort (list_number y.list)
@@ -236,6 +220,16 @@ module _ (ps : Procedures) (bodies : BodiesSorted ps) (q : Formula) (e : Environ
                 (choosing (val (node_number i)) (choosing (val (str s))
                 (choosing (val w) here))))
 
+            kids-meet : Meets (among (length_is f) child) e' (shape forest) kids
+            kids-meet =
+                subst (Meets (among (length_is f) child) e' (shape forest)) (sym y.is)
+                (child-meets y.before y.name y.number y.kids y.list y.after
+                (subst (Shaped (shape forest)) y.is (child-list s i kids l shaped)) (length_is f)
+                (str_var 1) (at 4 (value (sort_of x))) (list_var 0) e'
+                (ap (λ z. val (int (pos z))) y.place ∙ ap val (sym place)
+                ∙ sym (plain-value int_sort f st e e' (λ z u. refl) so.2)) refl
+                (ap val (sym y.read ∙ is)) refl)
+
         at-none : (w : Value) → w ≡ null
             → IsTrue (int_le (int_in (value_of st f)) (negsuc 0))
             ⊎ IsTrue (int_le (pos (width kids)) (int_in (value_of st f)))
@@ -244,25 +238,11 @@ module _ (ps : Procedures) (bodies : BodiesSorted ps) (q : Formula) (e : Environ
         at-none w is-null out h mq =
             take e st x (has_item x t f) q (shape grove) g w h
             (λ n. n (inr (
-              (λ n. n (
-                val (str s),
-                tt,
-                λ n. n (
-                  val (node_number i),
-                  positive-node s i kids l none shaped.well_formed,
-                  λ n. n (
-                    val (int (pos (width kids))),
-                    tt,
-                    (
-                      there g fine.whole s i kids l c (str_var 2) (node_var 1) (length_is (int_var 0)) t e'
-                          refl refl (list-is e' (λ z u. refl)) refl,
-                      λ n. n (⊎_elim
-                          (λ a. inl (subst (λ z. IsTrue (int_le z (negsuc 0))) (sym place) a))
-                          (λ a. inr (subst (λ z. IsTrue (int_le (pos (width kids)) z)) (sym place) a)) out),
-                    ),
-                  ),
-                ),
-              )),
+              some-thing (value str_sort) (val (str s)) tt
+                  (some-thing (value node_sort) (val (node_number i))
+                  (positive-node s i kids l none shaped.well_formed)
+                  (some-thing (value int_sort) (val (int (pos (width kids)))) tt
+                  (its-length, no-place))),
               ap val is-null,
             )))
             mq
@@ -275,6 +255,17 @@ module _ (ps : Procedures) (bodies : BodiesSorted ps) (q : Formula) (e : Environ
             place =
                 ap number_of (plain-value int_sort f st e e' (λ z u. refl) so.2)
                 ∙ number-value (value_of st f)
+
+            its-length : Meets (anywhere (node_formula (str_var 2) (node_var 1)
+                (length_is (int_var 0)) t)) e' (shape grove) g
+            its-length =
+                there g fine.whole s i kids l c (str_var 2) (node_var 1) (length_is (int_var 0)) t
+                e' refl refl (list-is e' (λ z u. refl)) refl
+
+            no-place : Meets outside_of e' (shape grove) g
+            no-place = λ n. n (⊎_elim
+                (λ a. inl (subst (λ z. IsTrue (int_le z (negsuc 0))) (sym place) a))
+                (λ a. inr (subst (λ z. IsTrue (int_le (pos (width kids)) z)) (sym place) a)) out)
 
         by_place : (v : Value) → value_of st f ≡ v → FitsValue int_sort v
             → FitsValue (sort_of x) (item_of v kids)
@@ -293,7 +284,8 @@ module _ (ps : Procedures) (bodies : BodiesSorted ps) (q : Formula) (e : Environ
                 h mq
         by_place (int (negsuc n)) place fv h mq =
             at-none null refl
-            (inl (subst (λ z. IsTrue (int_le (int_in z) (negsuc 0))) (sym place) (le-leb 0 n (omega arith))))
+            (inl (subst (λ z. IsTrue (int_le (int_in z) (negsuc 0))) (sym place)
+            (le-leb 0 n (omega arith))))
             h mq
         by_place null place fv h mq = absurd fv
         by_place nolist place fv h mq = absurd fv

@@ -1,7 +1,7 @@
 -- The row of parentNode.
 use Rattle.std.proofs.Common.{◌≡◌, ℕ, List, true, inl, inr, refl, sym, ap, ◌∙◌, subst, ⊎_elim, arith}
 use Rattle.model_shapes.specs.Shapes.{SameAt, Shaped, OneHole}
-use Rattle.model_shapes.specs.Sorts.{ValueSort, value, shape, tree, forest, grove, node_sort, list_sort}
+use Rattle.model_shapes.specs.Sorts.{ValueSort, value, shape, tree, forest, grove, node_sort, list_sort, str_sort}
 use Rattle.model_shapes.specs.Things.{val}
 use Rattle.model_shapes.specs.Trees.{Trees, none, node, hole, beside, fill, WellFormed}
 use Rattle.model_shapes.specs.Values.{Value, FitsValue, null, node_number, list_number, str}
@@ -30,7 +30,7 @@ use Rattle.triple_laws.proofs.NodesMet.{NodeMet, node-met}
 use Rattle.triple_laws.proofs.ReadAxioms.{no-parent-of}
 use Rattle.weakest_laws.specs.Weakest.{MeetsWith}
 use Rattle.weakest_laws.specs.Table.{at, str_var, list_var, among, anywhere, some_str, some_list, has_parent, weakest}
-use Rattle.weakest_laws.proofs.Taking.{plain-value, taken, take}
+use Rattle.weakest_laws.proofs.Taking.{plain-value, some-thing, taken, take}
 use Rattle.weakest_laws.proofs.Cutting.{Cut, cut, node-Shaped, positive-list, Root, root-of}
 use Rattle.weakest_laws.proofs.Rows.{any_pick, on-the-same, reading-lands, meets-same, Located, locate, there}
 use Rattle.weakest_laws.proofs.Families.{ChildMet, child-met, child-meets, Orphan, orphan, root-first, others-shaped}
@@ -73,7 +73,8 @@ module _ (ps : Procedures) (bodies : BodiesSorted ps) (q : Formula) (e : Environ
       -- a parent is found
       with_parent : (e' : Environment) → ((z : List ℕ) (u : ValueSort)
           → e' (prog z u) ≡ val (lookup st z u)) → e' (bound 4 (value (sort_of x))) ≡ val w
-          → (o : Located (str_var 3) (at 4 (value (sort_of x))) (among truth child) (list_var 1) e' g)
+          → (o : Located (str_var 3) (at 4 (value (sort_of x))) (among truth child) (list_var 1) e'
+          g)
           → ChildMet truth (str_var 2) t truth (list_var 0) e' o.kids → Lands-here k
       with_parent e' agree is-w o y =
           on-the-same ps q e k (run (parent_node x t)) st g family whole-formed same
@@ -185,29 +186,14 @@ module _ (ps : Procedures) (bodies : BodiesSorted ps) (q : Formula) (e : Environ
           → MeetsWith (weakest (parent_node x t) q) e st g
       at-parent s i kids l rest is h f mq =
           take e st x (has_parent x t) q (shape grove) g (node_number i) f
-          (λ n. n (inl (λ n. n (
-            val (str s),
-            tt,
-            λ n. n (
-              val (str c.name),
-              tt,
-              λ n. n (
-                val (list_number l),
-                positive-list s i kids l none parent-shaped.well_formed,
-                λ n. n (
-                  val (list_number c.list),
-                  child-list-fits,
-                  there g fine.whole s i kids l cutting (str_var 3) (at 4 (value (sort_of x)))
-                      (among truth child) (list_var 1) e' refl refl refl
-                      (subst (λ z. Meets (among truth child) e' (shape forest) z) (sym c.is)
-                      (child-meets c.before c.name r.number c.kids c.list c.after
-                      (subst (Shaped (shape forest)) c.is (child-list s i kids l parent-shaped))
-                      truth (str_var 2) t (list_var 0) e' tt refl
-                      (number-is ps bodies q e st g fine t so.1 r.number r.names e' (λ z u. refl)) refl)),
-                ),
-              ),
-            ),
-          ))))
+          (λ n. n (inl
+          (some-thing (value str_sort) (val (str s)) tt
+          (some-thing (value str_sort) (val (str c.name)) tt
+          (some-thing (value list_sort) (val (list_number l))
+          (positive-list s i kids l none parent-shaped.well_formed)
+          (some-thing (value list_sort) (val (list_number c.list)) child-list-fits
+          (there g fine.whole s i kids l cutting (str_var 3) (at 4 (value (sort_of x)))
+          (among truth child) (list_var 1) e' refl refl refl kids-meet)))))))
           mq
         where
           cutting : Cut g s i kids l
@@ -229,35 +215,23 @@ module _ (ps : Procedures) (bodies : BodiesSorted ps) (q : Formula) (e : Environ
               (choosing (val (str c.name)) (choosing (val (str s))
               (choosing (val (node_number i)) here))))
 
+          kids-meet : Meets (among truth child) e' (shape forest) kids
+          kids-meet =
+              subst (Meets (among truth child) e' (shape forest)) (sym c.is)
+              (child-meets c.before c.name r.number c.kids c.list c.after
+              (subst (Shaped (shape forest)) c.is (child-list s i kids l parent-shaped)) truth
+              (str_var 2) t (list_var 0) e' tt refl
+              (number-is ps bodies q e st g fine t so.1 r.number r.names e' (λ z u. refl)) refl)
+
       at-no-parent : nodes_where (parental r.number) g ≡ none → FitsValue (sort_of x) null
           → MeetsWith q e (set x null st) g → MeetsWith (weakest (parent_node x t) q) e st g
       at-no-parent is f mq =
           take e st x (has_parent x t) q (shape grove) g null f
           (λ n. n (inr (
-            (λ n. n (
-              val (str r.name),
-              tt,
-              λ n. n (
-                val (list_number r.list),
-                positive-list r.name r.number r.kids r.list none r.shaped.well_formed,
-                split_at whole (shape grove) g (Meets (one_root root) e') (Meets truth e')
-                    (node r.name r.number r.kids r.list none) (beside o.before o.after)
-                    (wide grove (node r.name r.number r.kids r.list none) (λ v. cc) r.shaped)
-                    (others-shaped o.before r.name r.number r.kids r.list o.after w)
-                    (subst (λ z. SameAt grove z (beside (node r.name r.number r.kids r.list none)
-                    (beside o.before o.after))) (sym o.is)
-                    (root-first o.before r.name r.number r.kids r.list o.after w)) (
-                      r.shaped,
-                      (
-                        refl,
-                        number-is ps bodies q e st g fine t so.1 r.number r.names e' (λ z u. refl),
-                        refl,
-                        tt,
-                      ),
-                    )
-                    tt,
-              ),
-            )),
+            some-thing (value str_sort) (val (str r.name)) tt
+                (some-thing (value list_sort) (val (list_number r.list))
+                (positive-list r.name r.number r.kids r.list none r.shaped.well_formed)
+                root-meets),
             refl,
           )))
           mq
@@ -271,6 +245,25 @@ module _ (ps : Procedures) (bodies : BodiesSorted ps) (q : Formula) (e : Environ
           e' : Environment
           e' = choosing (val (list_number r.list)) (choosing (val (str r.name))
               (choosing (val null) here))
+
+          alone : Trees
+          alone = node r.name r.number r.kids r.list none
+
+          root-meets : Meets (grove_sum (one_root root) truth) e' (shape grove) g
+          root-meets =
+              split_at whole (shape grove) g (Meets (one_root root) e') (Meets truth e') alone
+              (beside o.before o.after) (wide grove alone (λ v. cc) r.shaped)
+              (others-shaped o.before r.name r.number r.kids r.list o.after w)
+              (subst (λ z. SameAt grove z (beside alone (beside o.before o.after))) (sym o.is)
+              (root-first o.before r.name r.number r.kids r.list o.after w)) (
+                r.shaped,
+                (
+                  refl,
+                  number-is ps bodies q e st g fine t so.1 r.number r.names e' (λ z u. refl),
+                  refl,
+                  tt,
+                ),
+              ) tt
 
       by_parent : (p : Trees) → nodes_where (parental r.number) g ≡ p
           → Roots (parental r.number) p → MeetsWith (weakest (parent_node x t) q) e st g

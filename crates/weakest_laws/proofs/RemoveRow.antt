@@ -2,7 +2,7 @@
 use Rattle.std.proofs.Common.{◌≡◌, ℕ, List, [], Bool, true, false, cond, refl, sym, ap, ◌∙◌, subst, arith}
 use mathlib.Core.HLevel.{Stable}
 use Rattle.model_shapes.specs.Shapes.{holes, SameAt, Shaped}
-use Rattle.model_shapes.specs.Sorts.{shape, context, tree, forest, grove, node_sort}
+use Rattle.model_shapes.specs.Sorts.{value, shape, context, tree, forest, grove, node_sort, list_sort, str_sort}
 use Rattle.model_shapes.specs.Things.{Thing, val, trees, Fits}
 use Rattle.model_shapes.specs.Trees.{Trees, none, node, hole, beside, fill, WellFormed}
 use Rattle.model_shapes.specs.Values.{node_number, list_number, str}
@@ -31,7 +31,7 @@ use Rattle.triple_laws.proofs.Moving.{child-list, wide, split_at}
 use Rattle.triple_laws.proofs.OneStep.{Lands}
 use Rattle.weakest_laws.specs.Weakest.{MeetsWith}
 use Rattle.weakest_laws.specs.Table.{at, str_var, list_var, standing, and_tree, removed, some_tree, weakest}
-use Rattle.weakest_laws.proofs.Taking.{plain-value}
+use Rattle.weakest_laws.proofs.Taking.{plain-value, some-thing}
 use Rattle.weakest_laws.proofs.Cutting.{Cut, cut, outside-Shaped, node-Shaped, positive-list, Root, root-of}
 use Rattle.weakest_laws.proofs.Rows.{any_pick, on-the-same, stable-landing, meets-same, Located, located_in, locate}
 use Rattle.weakest_laws.proofs.MovedNodes.{parent-there, out-there, is-child, less}
@@ -387,40 +387,21 @@ module _ (ps : Procedures) (q : Formula) (e : Environment) (st : Store) (g : Tre
                 ))
                 (moved-shaped, refl)
 
+            child-meets : Meets (some_tree b) chosen (shape tree) tree_moved
+            child-meets =
+                some-tree-meets e st b so.1 chosen (λ z u. refl) s' j k' l' moved-shaped b-is
+
             meets-with : MeetsWith (weakest (remove_child a b) q) e st g
             meets-with =
                 move-out e st (removed a b) q g end end-shaped
-                (λ n. n (
-                  trees c,
-                  fc,
-                  λ n. n (
-                    val (str s),
-                    tt,
-                    λ n. n (
-                      trees y.before,
-                      before-shaped,
-                      λ n. n (
-                        trees y.after,
-                        rest-shaped,
-                        λ n. n (
-                          val (list_number l),
-                          positive-list s i k l none parent-shaped.well_formed,
-                          λ n. n (
-                            trees tree_moved,
-                            moved-shaped,
-                            (
-                              (
-                                before-meets,
-                                some-tree-meets e st b so.1 chosen (λ z u. refl) s' j k' l' moved-shaped b-is,
-                              ),
-                              after-meets,
-                            ),
-                          ),
-                        ),
-                      ),
-                    ),
-                  ),
-                ))
+                (some-thing (context tree grove) (trees c) fc
+                (some-thing (value str_sort) (val (str s)) tt
+                (some-thing (shape forest) (trees y.before) before-shaped
+                (some-thing (shape forest) (trees y.after) rest-shaped
+                (some-thing (value list_sort) (val (list_number l))
+                (positive-list s i k l none parent-shaped.well_formed)
+                (some-thing (shape tree) (trees tree_moved) moved-shaped
+                ((before-meets, child-meets), after-meets)))))))
                 (subst (MeetsWith q e st) end-is mq)
 
         meets-all : MeetsWith (weakest (remove_child a b) q) e st g

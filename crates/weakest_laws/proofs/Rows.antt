@@ -1,5 +1,5 @@
--- What the rows of the table share: where a command lands, on groves that are the same too, and what
--- some node of a grove comes to.
+-- What the rows of the table share: where a command lands, on groves that are the same too, and
+-- what some node of a grove comes to.
 use Rattle.std.proofs.Common.{◌≡◌, ℕ, List, [], ◌∷◌, refl, sym, ap, ◌∙◌, subst}
 use mathlib.Core.HLevel.{Stable}
 use Rattle.model_shapes.specs.Shapes.{SameAt, Shaped}
@@ -41,7 +41,8 @@ any_pick = record { node = 0; list = 0 }
 -- where it is stable what is asked of an end, it is stable that a move lands
 pub stable-Lands : (J : Store → Trees → Type 0) → ((st : Store) (g : Trees) → Stable (J st g))
     → (m : Move) → Stable (Lands J m)
-stable-Lands J s (becomes ys st g) = λ h. (lists ys (λ n. h (λ x. n x.0)), s st g (λ n. h (λ x. n x.1)))
+stable-Lands J s (becomes ys st g) =
+    λ h. (lists ys (λ n. h (λ x. n x.0)), s st g (λ n. h (λ x. n x.1)))
   where
     lists : (ys : List Piece) → Stable (ys ≡ [])
     lists [] h = refl

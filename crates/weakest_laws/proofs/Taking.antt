@@ -12,7 +12,7 @@ use Rattle.model_terms.specs.Computing.{Computes}
 use Rattle.model_terms.specs.Stores.{ProgVar, as_var, sort_of, Store, set, lookup, value_of}
 use Rattle.model_formulas.specs.Formulas.{Formula}
 use Rattle.model_formulas.specs.Substitution.{formula_with, closing}
-use Rattle.model_formulas.specs.Satisfaction.{Environment, Meets, choosing, with_store, meaning_of, number_of, text_meant}
+use Rattle.model_formulas.specs.Satisfaction.{Environment, Meets, SomeThing, choosing, with_store, meaning_of, number_of, text_meant}
 use Rattle.model_formulas.proofs.Substitutes.{with-meets, after}
 use Rattle.model_formulas.proofs.Quantified.{closing-env}
 use Rattle.model_commands.proofs.StoreLaws.{meaning-value}
@@ -44,6 +44,10 @@ pub plain-value : (s : ValueSort) (t : Term) (st : Store) (e e' : Environment)
     → meaning_of e' t ≡ val (value_of st t)
 plain-value s t st e e' h c =
     meaning-plain s t e' (with_store (lookup st) e) h c ∙ meaning-value s t st e c
+
+-- some thing of the sort, where one is given
+pub some-thing : (s : Sort) {P : Thing → Type 0} (x : Thing) → Fits s x → P x → SomeThing s P
+some-thing s x f p = λ n. n (x, f, p)
 
 -- what a value sort has is a value
 pub value-of-sort : (G : Type 0) (s : ValueSort) (P : Thing → Type 0) (v : Thing)

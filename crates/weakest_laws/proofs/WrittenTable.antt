@@ -57,7 +57,8 @@ module _ (x : ProgVar) (v : Name) (p : Formula) (q : Named)
     pub row-assign : (t : Term) → Computes (sort_of x) t
         → nameless (written_taking x v (equality (variable V) t) q) ≡ weakest (assign x t) p
     row-assign t so = λ j. existential (value (sort_of x)) (conjunction
-        (equality (placed 0 (V ∷ []) V (tt, tt) refl j) (plain-stays (sort_of x) t (V ∷ []) tt so j))
+        (equality (placed 0 (V ∷ []) V (tt, tt) refl j)
+        (plain-stays (sort_of x) t (V ∷ []) tt so j))
         (put j))
 
     pub row-name : (l : Name) → Differ (l ∷ v ∷ []) → (t : Term) → Computes node_sort t

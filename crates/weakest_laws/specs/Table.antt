@@ -1,8 +1,8 @@
 -- Needn't be believed: the program's promise doesn't speak of it. The weakest precondition of a
 -- straight-line command as a formula, by a table of commands. The formulas have no names of bound
--- variables, so each variable that the table brings is new by itself: it is written by the number of
--- binders between it and its own. The terms of a command, which have no bound variables, stay as they
--- are under binders.
+-- variables, so each variable that the table brings is new by itself: it is written by the number
+-- of binders between it and its own. The terms of a command, which have no bound variables, stay as
+-- they are under binders.
 use Rattle.std.specs.Prelude.{ℕ, negsuc}
 use Rattle.model_shapes.specs.Sorts.{Sort, value, shape, context, node_sort, list_sort, int_sort, str_sort, tree, forest, grove}
 use Rattle.model_shapes.specs.Values.{null, int}
@@ -120,8 +120,9 @@ abbrev pub and_tree : Formula → ℕ → Formula
 and_tree p u = concatenation whole p (one_tree (same_as (at u (shape tree))))
 
 -- That $r, the variable of the nearest binder, is the grove after the child $u, numbered F, went to
--- the end of the children of E: (exists $c $s $q $l $u . ((($c @t $s#E[$q]%$l) without $u, and $u is
--- some tree F) and ($r is ($c @t $s#E[($q * <$u>)]%$l)))). The five are 4 to 0 then, and $r is 5.
+-- the end of the children of E: (exists $c $s $q $l $u . ((A and B) and
+-- ($r is ($c @t $s#E[($q * <$u>)]%$l)))). A is ($c @t $s#E[$q]%$l) without $u, and B says that $u is
+-- some tree with the number F. The five are 4 to 0 there, and $r is 5.
 abbrev pub appended : Term → Term → Formula
 appended e f =
     existential (context tree grove) (some_str (existential (shape forest) (some_list
@@ -131,9 +132,9 @@ appended e f =
     (value_meets (shape grove) (at 5 (shape grove))
     (standing 4 3 e (and_tree (same_as (at 2 (shape forest))) 0) 1)))))))
 
--- That it is the grove after the child went from the children of E to the roots: (exists $c $s $q $p
--- $l $u . ((($c @t $s#E[(($q * <$u>) * $p)]%$l) and $u is some tree F) and ($r is
--- (($c @t $s#E[($q * $p)]%$l) + [$u])))). The six are 5 to 0 then, and $r is 6.
+-- That it is the grove after the child went from the children of E to the roots:
+-- (exists $c $s $q $p $l $u . ((($c @t $s#E[(($q * <$u>) * $p)]%$l) and B) and
+-- ($r is (($c @t $s#E[($q * $p)]%$l) + [$u])))). The six are 5 to 0 there, and $r is 6.
 abbrev pub removed : Term → Term → Formula
 removed e f =
     existential (context tree grove) (some_str (existential (shape forest)
@@ -146,10 +147,11 @@ removed e f =
     (same_as (at 2 (shape forest)))) 1)
     (one_root (same_as (at 0 (shape tree))))))))))))
 
--- That it is the grove after the child went before $w, a child of E numbered G: (exists $c $s $q $p
--- $l $u $w . (((($c @t $s#E[(($q * <$w>) * $p)]%$l) without $u, and $u is some tree F) and $w is some
--- tree G) and ($r is ($c @t $s#E[((($q * <$u>) * <$w>) * $p)]%$l)))). The seven are 6 to 0 then, and
--- $r is 7.
+-- That it is the grove after the child went before $w, a child of E:
+-- (exists $c $s $q $p $l $u $w . (((A and B) and C) and
+-- ($r is ($c @t $s#E[((($q * <$u>) * <$w>) * $p)]%$l)))). A is ($c @t $s#E[(($q * <$w>) * $p)]%$l)
+-- without $u, and C says that $w is some tree with the number G. The seven are 6 to 0 there, and $r
+-- is 7.
 abbrev pub inserted : Term → Term → Term → Formula
 inserted e f g =
     existential (context tree grove) (some_str (existential (shape forest)

@@ -1,6 +1,6 @@
--- Needn't be believed: the rows of the table as they are written, with a name for each variable that
--- a row brings, in the order in which it brings them. Laws say that they are those of the table,
--- whatever the names, if they differ and none of them stands free in the formula asked for.
+-- Needn't be believed: the rows of the table as they are written, with a name for each variable
+-- that a row brings, in the order in which it brings them. Laws say that they are those of the
+-- table, whatever the names, if they differ and none of them stands free in the formula asked for.
 use Rattle.std.specs.Prelude.{◌≡◌, negsuc, List, [], ◌∷◌}
 use Rattle.model_shapes.specs.Sorts.{Sort, value, shape, context, node_sort, list_sort, int_sort, str_sort, tree, forest, grove}
 use Rattle.model_shapes.specs.Values.{Name, null, int}
