@@ -35,27 +35,10 @@ use Rattle.weakest_laws.specs.Weakest.{MeetsWith}
 use Rattle.weakest_laws.specs.Table.{at, str_var, list_var, standing, and_tree, appended, taken_out, some_tree, weakest}
 use Rattle.weakest_laws.proofs.Taking.{plain-value, some-thing}
 use Rattle.weakest_laws.proofs.Cutting.{Cut, cut, outside-Shaped, node-Shaped, positive-list}
+use Rattle.weakest_laws.proofs.TakenOut.{less-Shaped}
 use Rattle.weakest_laws.proofs.Rows.{any_pick, on-the-same, stable-landing, meets-same, Located, located_in, locate}
 use Rattle.weakest_laws.proofs.MovedNodes.{taken, added}
 use Rattle.weakest_laws.proofs.Moved.{moved-in, move-out, Numbered, some-tree-met, some-tree-meets, OutOf, taken-out-met, taken-out-meets}
-
--- where the node is in use without the tree, the tree is moved to its children
-appending-lands : (J : Store → Trees → Type 0) (i j : ℕ) (t : List ℕ) (q : Trees) (m : ℕ)
-    (st : Store) (g : Trees) → WellFormed g → nodes_where (numbered j) g ≡ node t j q m none
-    → 1 ≤ node_uses i (without j g) → J st (adding i (node t j q m none) (without j g))
-    → Lands J (appending (nodes_where (numbered i) g) (nodes_where (numbered j) g) st g)
-appending-lands J i j t q m st g w e used h =
-    let f : Found i g = found i g (omega (arith, node-taken-out i j g)) in
-    subst (λ z. Lands J (appending z (nodes_where (numbered j) g) st g)) (sym f.is)
-    (subst (λ z. Lands J (appending (node f.name i f.kids f.list f.rest) z st g)) (sym e)
-    (subst (λ b. Lands J (cond b (faults cycle) (becomes [] st (adding i moved (without j g)))))
-    (sym (ap positive zero-uses)) (refl, h)))
-  where
-    moved : Trees
-    moved = node t j q m none
-
-    zero-uses : node_uses i (node t j q m none) ≡ 0
-    zero-uses = omega (arith, node-taken-out i j g, w.nodes_once i, ap (node_uses i) e)
 
 pub same-name : (a b : List ℕ) → val (str a) ≡ val (str b) → a ≡ b
 same-name a b e = cc
@@ -67,11 +50,8 @@ pub same-list : (a b : ℕ) → val (list_number a) ≡ val (list_number b) → 
 same-list a b e = cc
 
 module _ (ps : Procedures) (q : Formula) (e : Environment) (st : Store) (g : Trees)
-    (fine : Fine st g) (a b : Term) (fits : is_sorted ps (append_child a b) ≡ true)
+    (fine : Fine st g) (a b : Term) (so : Sorted ps (append_child a b))
   where
-    so : Sorted ps (append_child a b)
-    so = sorted-command ps (append_child a b) fits
-
     abbrev here : Environment
     here = with_store (lookup st) e
 
@@ -163,17 +143,18 @@ module _ (ps : Procedures) (q : Formula) (e : Environment) (st : Store) (g : Tre
                 ((ap (λ z. beside z moved) p.kids_meet ∙ ap (beside f) (sym v.is) ∙ sym kids') i)
                 (same-list p.list p'.list (p.list_is ∙ sym p'.list_is) i) none
 
-            end-same : SameAt grove r (adding p.number moved (without v.number start))
+            abbrev landed : Trees
+            landed = adding p.number moved (without v.number start)
+
+            end-same : SameAt grove r landed
             end-same =
-                SameAt-trans grove r (fill p.outside new)
-                (adding p.number moved (without v.number start))
+                SameAt-trans grove r (fill p.outside new) landed
                 (SameAt-trans grove r (located_in p') (fill p.outside new) p'.same
                 (subst (λ z. SameAt grove (located_in p') (fill p.outside z)) (sym new-is)
                 (fill-left grove p'.outside p.outside (node p'.name p'.number p'.kids p'.list none)
                 (SameAt-trans grove p'.outside c p.outside mc' (SameAt-sym grove p.outside c mc)))))
-                (SameAt-sym grove (adding p.number moved (without v.number start))
-                (fill p.outside new)
-                (SameAt-trans grove (adding p.number moved (without v.number start))
+                (SameAt-sym grove landed (fill p.outside new)
+                (SameAt-trans grove landed
                 (adding p.number moved (fill p.outside old)) (fill p.outside new)
                 (same-after (adding p.number moved) (adding-beside p.number moved)
                 (without v.number start) (fill p.outside old)
@@ -189,20 +170,37 @@ module _ (ps : Procedures) (q : Formula) (e : Environment) (st : Store) (g : Tre
             parent-is : value_of st a ≡ node_number p.number
             parent-is =
                 val-is (value_of st a) (node_number p.number)
-                (sym (plain-value node_sort a st e its (λ z u. refl) so.0) ∙ sym p.number_is)
+                (sym (plain-value node_sort a st its (λ z u. refl) so.0) ∙ sym p.number_is)
+
+            -- the parent stands outside the tree
+            not-round : node_uses p.number moved ≡ 0
+            not-round =
+                omega (
+                  arith,
+                  node-taken-out p.number v.number start,
+                  start-formed.nodes_once p.number,
+                  ap (node_uses p.number) moved-found,
+                  parent-used,
+                )
+
+            found-parent : Found p.number start
+            found-parent =
+                found p.number start
+                (omega (arith, node-taken-out p.number v.number start, parent-used))
+
+            -- no test of the machine fails
+            is-move : appending (node_at (value_of st a) start) (node_at (value_of st b) start) st
+                start ≡ becomes [] st landed
+            is-move =
+                (λ y. appending (node_at (parent-is y) start) (node_at (v.names y) start) st start)
+                ∙ (λ y. appending (found-parent.is y) (moved-found y) st start)
+                ∙ (λ y. cond (positive (not-round y)) (faults cycle) (becomes [] st landed))
 
             with_all : Landing k
             with_all =
                 on-the-same ps q e k (run (append_child a b)) st g start fine.whole.well_formed
                 same-start
-                (subst (λ z. Lands J (appending (node_at z start) (node_at (value_of st b) start) st
-                start)) (sym parent-is)
-                (subst (λ z. Lands J (appending (node_at (node_number p.number) start)
-                (node_at z start) st start)) (sym v.names)
-                (appending-lands J p.number v.number v.name v.kids v.list st start start-formed
-                moved-found parent-used
-                (meets-same q e st r (adding p.number moved (without v.number start)) end-same
-                mq))))
+                (subst (Lands J) (sym is-move) (refl, meets-same q e st r landed end-same mq))
 
     with_things : (k : Pick) (r : Trees) → MeetsWith q e st r → (c s f l u : Thing)
         → Fits (context tree grove) c → Fits (shape forest) f → Fits (shape tree) u
@@ -256,12 +254,7 @@ module _ (ps : Procedures) (q : Formula) (e : Environment) (st : Store) (g : Tre
         less-is = ap (without j) out.is ∙ taken out.outside out.one s' j k' l' out-formed
 
         less-shaped : Shaped (shape grove) less
-        less-shaped = record {
-          well_formed = subst WellFormed (sym less-is)
-              (emptied-WellFormed out.outside tree_moved out.one out-formed);
-          width_fits = tt;
-          holes_fit = omega (arith, holes-taken-out j g, fine.whole.holes_fit);
-        }
+        less-shaped = less-Shaped j g fine.whole
 
         used : 1 ≤ node_uses i less
         used =
@@ -331,7 +324,7 @@ module _ (ps : Procedures) (q : Formula) (e : Environment) (st : Store) (g : Tre
 
             number : val (node_number i) ≡ meaning_of chosen a
             number =
-                ap val (sym a-is) ∙ sym (plain-value node_sort a st e chosen (λ z u. refl) so.0)
+                ap val (sym a-is) ∙ sym (plain-value node_sort a st chosen (λ z u. refl) so.0)
 
             before-meets : Meets before chosen (shape grove) less
             before-meets =

@@ -115,7 +115,7 @@ module _ (ps : Procedures) (q : Formula) (e : Environment) (st : Store) (g : Tre
                 (
                   shaped,
                   (
-                    ap val name-is ∙ sym (plain-value str_sort t st e chosen (λ z u. refl) so.1),
+                    ap val name-is ∙ sym (plain-value str_sort t st chosen (λ z u. refl) so.1),
                     refl,
                     refl,
                     refl,
@@ -224,7 +224,7 @@ module _ (ps : Procedures) (q : Formula) (e : Environment) (st : Store) (g : Tre
             where
               names : y.name ≡ name
               names = ap text_in (val-is (str y.name) (value_of st t)
-                  (y.name_is ∙ plain-value str_sort t st e its (λ z u. refl) so.1))
+                  (y.name_is ∙ plain-value str_sort t st its (λ z u. refl) so.1))
 
           same-whole : SameAt grove (fill c g) (beside g (node name y.number none y.list none))
           same-whole =
@@ -234,8 +234,9 @@ module _ (ps : Procedures) (q : Formula) (e : Environment) (st : Store) (g : Tre
           pub at-context : Meets (below after) its (shape grove) (fill c g)
           at-context =
               closed (below after) its (shape grove)
-              (beside g (node name y.number none y.list none)) (fill c g) (SameAt-sym grove (fill c g) (beside g (node name y.number none y.list
-              none)) same-whole)
+              (beside g (node name y.number none y.list none)) (fill c g)
+              (SameAt-sym grove (fill c g) (beside g (node name y.number none y.list none))
+              same-whole)
               (subst (λ z. Meets (below after) z (shape grove)
               (beside g (node name y.number none y.list none)))
               (λ i. choosing (y.list_is i) (choosing (y.number_is i) here))

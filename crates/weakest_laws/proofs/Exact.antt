@@ -24,6 +24,7 @@ use Rattle.model_groves.specs.Groves.{node_at, list_at, positive, has_root, with
 use Rattle.model_groves.specs.Picks.{Pick, is_free}
 use Rattle.model_machine.specs.Fitting.{Fine}
 use Rattle.model_machine.specs.Machine.{FaultKind, no_node, no_list, cycle, not_child, self_ref, Piece, run, Move, becomes, faults, bad_pick, move, pieces_of, reading, appending, removing, creating, inserting, inserting_at}
+use Rattle.model_machine.proofs.EachMove.{each-reading, each-creating, each-appending, each-removing, each-inserting}
 use Rattle.model_machine.proofs.Fine.{FineMove, move-fine}
 use Rattle.entailment_laws.proofs.Plain.{val-is}
 use Rattle.triple_laws.proofs.OneStep.{Lands}
@@ -31,7 +32,7 @@ use Rattle.weakest_laws.specs.Weakest.{MeetsWith, MeetsWeakest}
 use Rattle.weakest_laws.specs.Straight.{goes_straight, is_straight}
 use Rattle.weakest_laws.specs.Table.{at, weakest, weakest_of}
 use Rattle.weakest_laws.proofs.Taking.{plain-value, taken, take}
-use Rattle.weakest_laws.proofs.Steps.{Well, rests, rested, steps, stepped, AtOnce, landed, lands, goes-ends, ends-goes}
+use Rattle.weakest_laws.proofs.Steps.{Well, rests, rested, steps, stepped, AtOnce, landed, lands}
 use Rattle.weakest_laws.proofs.Rows.{any_pick, stable-landing}
 use Rattle.weakest_laws.proofs.ReadRows.{name-lands, name-meets, children-lands, children-meets}
 use Rattle.weakest_laws.proofs.ParentRow.{parent-lands, parent-meets}
@@ -41,91 +42,7 @@ use Rattle.weakest_laws.proofs.AppendRow.{append-lands, append-meets}
 use Rattle.weakest_laws.proofs.RemoveRow.{remove-lands, remove-meets}
 use Rattle.weakest_laws.proofs.InsertRow.{insert-lands, insert-meets}
 
--- EACH LEAVES NOTHING OF ITS OWN PENDING
 module _ (ps : Procedures) where
-  reads-at-once : (a : Trees) (f : FaultKind) (v : List ℕ → ℕ → Trees → ℕ → Value) (x : ProgVar)
-      (st : Store) (g : Trees) → AtOnce ps (reading a f v x st g)
-  reads-at-once none f v x st g = tt
-  reads-at-once (hole r) f v x st g = tt
-  reads-at-once (node s i k l r) f v x st g = refl
-
-  appends-at-once : (a b : Trees) (st : Store) (g : Trees) → AtOnce ps (appending a b st g)
-  appends-at-once none b st g = tt
-  appends-at-once (hole r) b st g = tt
-  appends-at-once (node s i k l r) none st g = tt
-  appends-at-once (node s i k l r) (hole r') st g = tt
-  appends-at-once (node s i k l r) (node s' j k' l' r') st g =
-      by_test (positive (node_uses i (node s' j k' l' none)))
-    where
-      by_test : (c : Bool) → AtOnce ps (cond c (faults cycle)
-          (becomes [] st (adding i (node s' j k' l' none) (without j g))))
-      by_test true = tt
-      by_test false = refl
-
-  removes-at-once : (a b : Trees) (st : Store) (g : Trees) → AtOnce ps (removing a b st g)
-  removes-at-once none b st g = tt
-  removes-at-once (hole r) b st g = tt
-  removes-at-once (node s i k l r) none st g = tt
-  removes-at-once (node s i k l r) (hole r') st g = tt
-  removes-at-once (node s i k l r) (node s' j k' l' r') st g = by_test (has_root j k)
-    where
-      by_test : (c : Bool) → AtOnce ps (cond c
-          (becomes [] st (beside (without j g) (node s' j k' l' none))) (faults not_child))
-      by_test true = refl
-      by_test false = tt
-
-  creates-at-once : (p : Pick) (x : ProgVar) (s : List ℕ) (st : Store) (g : Trees)
-      → AtOnce ps (creating p x s st g)
-  creates-at-once p x s st g = by_test (is_free p g)
-    where
-      by_test : (c : Bool) → AtOnce ps (cond c (becomes [] (set x (node_number p.node) st)
-          (beside g (node s p.node none p.list none))) bad_pick)
-      by_test true = refl
-      by_test false = tt
-
-  inserts-at-once : (a b c : Trees) (st : Store) (g : Trees) → AtOnce ps (inserting a b c st g)
-  inserts-at-once none b c st g = tt
-  inserts-at-once (hole r) b c st g = tt
-  inserts-at-once (node s i k l r) none c st g = tt
-  inserts-at-once (node s i k l r) (hole r') c st g = tt
-  inserts-at-once (node s i k l r) (node s' j k' l' r') none st g = tt
-  inserts-at-once (node s i k l r) (node s' j k' l' r') (hole r'') st g = tt
-  inserts-at-once (node s i k l r) (node s' j k' l' r') (node s'' n k'' l'' r'') st g =
-      by_tests (is_yes (ℕ_discrete j n)) (positive (node_uses i (node s' j k' l' none)))
-      (has_root n k)
-    where
-      by_tests : (x y z : Bool) → AtOnce ps (cond x (faults self_ref) (cond y (faults cycle)
-          (cond z (becomes [] st (adding_before n (node s' j k' l' none) (without j g)))
-          (faults not_child))))
-      by_tests true y z = tt
-      by_tests false true z = tt
-      by_tests false false true = refl
-      by_tests false false false = tt
-
-  inserts-before-at-once : (v : Value) (a b : Trees) (st : Store) (g : Trees)
-      → AtOnce ps (inserting_at v a b st g)
-  inserts-before-at-once null a b st g = appends-at-once a b st g
-  inserts-before-at-once nolist a b st g = inserts-at-once a b none st g
-  inserts-before-at-once (node_number n) a b st g =
-      inserts-at-once a b (node_at (node_number n) g) st g
-  inserts-before-at-once (list_number n) a b st g = inserts-at-once a b none st g
-  inserts-before-at-once (int z) a b st g = inserts-at-once a b none st g
-  inserts-before-at-once (str z) a b st g = inserts-at-once a b none st g
-  inserts-before-at-once (boolean z) a b st g = inserts-at-once a b none st g
-
-  -- the terms of appendChild fit where those of insertBefore do
-  last-fits : (a b d : Term) → is_sorted ps (insert_before a b d) ≡ true
-      → is_sorted ps (append_child a b) ≡ true
-  last-fits a b d fits = three (evaluates node_sort a) (evaluates node_sort b)
-      (evaluates node_sort d) fits
-    where
-      three : (x y z : Bool)
-          → ((true && ((x && (y && z)) && true)) && true) ≡ true
-          → ((true && ((x && y) && true)) && true) ≡ true
-      three true true z h = refl
-      three true false z h = absurd cc
-      three false y z h = absurd cc
-
   -- where a move lands may be said otherwise of stores and groves that fit
   said-otherwise : (J K : Store → Trees → Type 0)
       → ((st : Store) (g : Trees) → Fine st g → J st g → K st g)
@@ -178,7 +95,7 @@ module _ (ps : Procedures) (bodies : BodiesSorted ps) (e : Environment) where
           (equality (at 0 (value (sort_of x))) t) q (shape grove) g m (λ w f is mq. (
             refl,
             subst (λ z. MeetsWith q e (set x z st) g)
-                (val-is w (value_of st t) (is ∙ plain-value (sort_of x) t st e
+                (val-is w (value_of st t) (is ∙ plain-value (sort_of x) t st
                 (choosing (val w) (with_store (lookup st) e)) (λ z u. refl) so)) mq,
           ))
 
@@ -187,7 +104,7 @@ module _ (ps : Procedures) (bodies : BodiesSorted ps) (e : Environment) where
       assign-meets h =
           take e st x (equality (at 0 (value (sort_of x))) t) q
           (shape grove) g (value_of st t) (value-fits (sort_of x) t st so fine.proper)
-          (sym (plain-value (sort_of x) t st e
+          (sym (plain-value (sort_of x) t st
           (choosing (val (value_of st t)) (with_store (lookup st) e)) (λ z u. refl) so))
           (h any_pick).1
 
@@ -215,45 +132,52 @@ module _ (ps : Procedures) (bodies : BodiesSorted ps) (e : Environment) where
         (assign-meets x t fits q)
     exact (create_node x t) s fits q =
         single (create_node x t) fits q
-        (λ k st g. creates-at-once ps k x (text_in (value_of st t)) st g)
+        (λ k st g. each-creating (AtOnce ps) (λ f. tt) tt (λ st g. refl) k x
+        (text_in (value_of st t)) st g)
         (λ st g f. create-lands ps q e st g f x t fits)
         (λ st g f. create-meets ps q e st g f x t fits)
     exact (node_name x t) s fits q =
         single (node_name x t) fits q
-        (λ k st g. reads-at-once ps (node_at (value_of st t) g) no_node _ x st g)
+        (λ k st g. each-reading (AtOnce ps) (λ f. tt) tt (λ st g. refl)
+        (node_at (value_of st t) g) no_node _ x st g)
         (λ st g f. name-lands ps bodies q e st g f x t fits)
         (λ st g f. name-meets ps bodies q e st g f x t fits)
     exact (child_nodes x t) s fits q =
         single (child_nodes x t) fits q
-        (λ k st g. reads-at-once ps (node_at (value_of st t) g) no_node _ x st g)
+        (λ k st g. each-reading (AtOnce ps) (λ f. tt) tt (λ st g. refl)
+        (node_at (value_of st t) g) no_node _ x st g)
         (λ st g f. children-lands ps bodies q e st g f x t fits)
         (λ st g f. children-meets ps bodies q e st g f x t fits)
     exact (parent_node x t) s fits q =
         single (parent_node x t) fits q
-        (λ k st g. reads-at-once ps (node_at (value_of st t) g) no_node _ x st g)
+        (λ k st g. each-reading (AtOnce ps) (λ f. tt) tt (λ st g. refl)
+        (node_at (value_of st t) g) no_node _ x st g)
         (λ st g f. parent-lands ps bodies q e st g f x t fits)
         (λ st g f. parent-meets ps bodies q e st g f x t fits)
     exact (list_item x t u) s fits q =
         single (list_item x t u) fits q
-        (λ k st g. reads-at-once ps (list_at (value_of st t) g) no_list _ x st g)
+        (λ k st g. each-reading (AtOnce ps) (λ f. tt) tt (λ st g. refl)
+        (list_at (value_of st t) g) no_list _ x st g)
         (λ st g f. item-lands ps bodies q e st g f x t u fits)
         (λ st g f. item-meets ps bodies q e st g f x t u fits)
     exact (append_child a b) s fits q =
         single (append_child a b) fits q
-        (λ k st g. appends-at-once ps (node_at (value_of st a) g) (node_at (value_of st b) g) st g)
-        (λ st g f. append-lands ps q e st g f a b fits)
-        (λ st g f. append-meets ps q e st g f a b fits)
+        (λ k st g. each-appending (AtOnce ps) (λ f. tt) tt (λ st g. refl)
+        (node_at (value_of st a) g) (node_at (value_of st b) g) st g)
+        (λ st g f. append-lands ps q e st g f a b (sorted-command ps (append_child a b) fits))
+        (λ st g f. append-meets ps q e st g f a b (sorted-command ps (append_child a b) fits))
     exact (remove_child a b) s fits q =
         single (remove_child a b) fits q
-        (λ k st g. removes-at-once ps (node_at (value_of st a) g) (node_at (value_of st b) g) st g)
+        (λ k st g. each-removing (AtOnce ps) (λ f. tt) tt (λ st g. refl)
+        (node_at (value_of st a) g) (node_at (value_of st b) g) st g)
         (λ st g f. remove-lands ps q e st g f a b fits)
         (λ st g f. remove-meets ps q e st g f a b fits)
     exact (insert_before a b d) s fits q =
         single (insert_before a b d) fits q
-        (λ k st g. inserts-before-at-once ps (value_of st d) (node_at (value_of st a) g)
-        (node_at (value_of st b) g) st g)
-        (λ st g f. insert-lands ps q e st g f a b d fits (last-fits ps a b d fits))
-        (λ st g f. insert-meets ps q e st g f a b d fits (last-fits ps a b d fits))
+        (λ k st g. each-inserting (AtOnce ps) st g (λ f. tt) (λ g. refl) (value_of st d)
+        (node_at (value_of st a) g) (node_at (value_of st b) g))
+        (λ st g f. insert-lands ps q e st g f a b d fits)
+        (λ st g f. insert-meets ps q e st g f a b d fits)
     exact (if_else c a b) s fits q = absurd (false≢true s)
     exact (while_do c b) s fits q = absurd (false≢true s)
     exact (local x b) s fits q = absurd (false≢true s)
@@ -276,9 +200,6 @@ pub weakest-exact : (ps : Procedures) → BodiesSorted ps → (c : Command) → 
     → (g : Trees) → Shaped (shape grove) g
     → (MeetsWith (weakest c q) e st g ↔ MeetsWeakest ps c q e st g)
 weakest-exact ps bodies c straight fits q e st proper g whole =
-    let both_ways = exact ps bodies e c straight fits q (MeetsWith q e) []
+    exact ps bodies e c straight fits q (MeetsWith q e) []
     (λ st' g' f. (rests ps (MeetsWith q e) st' g', rested ps (MeetsWith q e) st' g')) st g
-    (record { proper = proper; whole = whole }) in (
-      λ m picks. ends-goes (MeetsWith q e) _ (both_ways.0 m picks),
-      λ w. both_ways.1 (λ picks. goes-ends (MeetsWith q e) _ (w picks)),
-    )
+    (record { proper = proper; whole = whole })

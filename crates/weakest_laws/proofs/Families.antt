@@ -1,14 +1,15 @@
 -- A child among the children of a node, in formulas and in groves.
-use Rattle.std.proofs.Common.{◌≡◌, ℕ, List, Bool, true, false, cond, refl, sym, ap, ◌∙◌, subst, ⊎_elim, arith}
+use Rattle.std.proofs.Common.{◌≡◌, ℕ, ◌+◌, List, Bool, true, false, cond, refl, sym, ap, ◌∙◌, subst, ⊎_elim, arith}
 use Rattle.std.proofs.Math.Decide.{ℕ_discrete}
 use mathlib.Core.HLevel.{Stable}
 use Rattle.model_shapes.specs.Shapes.{holes, SameAt, Shaped}
 use Rattle.model_shapes.specs.Sorts.{shape, tree, forest, grove}
 use Rattle.model_shapes.specs.Things.{val}
-use Rattle.model_shapes.specs.Trees.{Trees, none, node, hole, beside, WellFormed}
+use Rattle.model_shapes.specs.Trees.{Trees, none, node, hole, beside, width, WellFormed}
 use Rattle.model_shapes.specs.Values.{str, node_number, list_number}
-use Rattle.model_shapes.proofs.Basics.{beside_assoc, node_uses-beside, list_uses-beside, root_uses-beside, holes-beside}
+use Rattle.model_shapes.proofs.Basics.{beside_assoc, node_uses-beside, list_uses-beside, root_uses-beside, holes-beside, width-beside}
 use Rattle.model_shapes.proofs.Cancelling.{node-head}
+use Rattle.model_shapes.proofs.Narrow.{no_roots}
 use Rattle.model_shapes.proofs.Truth.{false≢true}
 use Rattle.model_shapes.proofs.Shapes.{left-Shaped-shape, right-Shaped-shape}
 use Rattle.model_terms.specs.Terms.{Term}
@@ -127,11 +128,6 @@ pub record Orphan (g : Trees) (s : List ℕ) (i : ℕ) (k : Trees) (l : ℕ) : T
   pub after : Trees
   pub is : g ≡ beside before (node s i k l after)
 
-nothing-beside : (a b : Trees) → beside a b ≡ none → (a ≡ none) × (b ≡ none)
-nothing-beside none b e = (refl, e)
-nothing-beside (node s i k l r) b e = absurd cc
-nothing-beside (hole r) b e = absurd cc
-
 -- is a root
 pub orphan : (n : ℕ) (g : Trees) → nodes_where (parental n) g ≡ none → (s : List ℕ) (i : ℕ)
     (k : Trees) (l : ℕ) (r : Trees) → n ≡ i → nodes_where (numbered n) g ≡ node s i k l r
@@ -161,14 +157,19 @@ orphan n (node s' i' k' l' r') h s i k l r same e =
       is = node-head s' s i' i k' k l' l (nodes_where (numbered n) r') r r' r' e refl;
     }
     by_test false e false c h in_kids in_rest =
-        let both = nothing-beside (nodes_where (parental n) k') (nodes_where (parental n) r') h in
+        let in-both : width (nodes_where (parental n) k') + width (nodes_where (parental n) r') ≡ 0 =
+        omega (
+          arith,
+          width-beside (nodes_where (parental n) k') (nodes_where (parental n) r'),
+          ap width h,
+        ) in
         ⊎_elim
-        (λ x. let o : Orphan r' s i k l = in_rest both.1 r x.1 in record {
+        (λ x. let o : Orphan r' s i k l = in_rest (no_roots (nodes_where (parental n) r') (omega (arith, in-both))) r x.1 in record {
           before = node s' i' k' l' o.before;
           after = o.after;
           is = ap (node s' i' k' l') o.is;
         })
-        (λ x. let o : Orphan k' s i k l = in_kids both.0 x.0 x.1 in
+        (λ x. let o : Orphan k' s i k l = in_kids (no_roots (nodes_where (parental n) k') (omega (arith, in-both))) x.0 x.1 in
         false≢true (sym c ∙ ap (has_root n) o.is ∙ ap (λ z. has_root z (beside o.before
         (node s i k l o.after))) same ∙ has_root-in o.before s i k l o.after))
         (first-of (nodes_where (numbered n) k') (nodes_where (numbered n) r') s i k l r e)

@@ -51,10 +51,6 @@ module _ (ps : Procedures) (q : Formula) (e : Environment) (st : Store) (g : Tre
     so : Sorted ps (insert_before a b d)
     so = sorted-command ps (insert_before a b d) fits
 
-    -- the terms of appendChild fit
-    abbrev fits-last : Type 0
-    fits-last = is_sorted ps (append_child a b) ≡ true
-
     abbrev here : Environment
     here = with_store (lookup st) e
 
@@ -295,7 +291,7 @@ module _ (ps : Procedures) (q : Formula) (e : Environment) (st : Store) (g : Tre
             parent-is : value_of st a ≡ node_number n.number
             parent-is =
                 val-is (value_of st a) (node_number n.number)
-                (sym (plain-value node_sort a st e its (λ z u. refl) so.0) ∙ sym n.number_is)
+                (sym (plain-value node_sort a st its (λ z u. refl) so.0) ∙ sym n.number_is)
 
             with_all : Landing k
             with_all =
@@ -339,40 +335,40 @@ module _ (ps : Procedures) (q : Formula) (e : Environment) (st : Store) (g : Tre
         its' = under r (trees c) s (trees f) (trees p) l (trees u) (trees w)
 
     -- before null it is appendChild
-    last-lands : fits-last → value_of st d ≡ null → (r : Trees) → Shaped (shape grove) r
+    last-lands : value_of st d ≡ null → (r : Trees) → Shaped (shape grove) r
         → Meets (appended a b) (choosing (trees r) here) (shape grove) g → MeetsWith q e st r
         → (k : Pick) → Landing k
-    last-lands fl is r wr m mq k =
+    last-lands is r wr m mq k =
         subst (λ v. Lands J (inserting_at v (node_at (value_of st a) g) (node_at (value_of st b) g)
         st g)) (sym is)
-        (append-lands ps q e st g fine a b fl (move-out e st (appended a b) q g r wr m mq) k)
+        (append-lands ps q e st g fine a b (so.0, so.1) (move-out e st (appended a b) q g r wr m mq) k)
 
-    pub insert-lands : fits-last → MeetsWith (weakest (insert_before a b d) q) e st g → (k : Pick)
+    pub insert-lands : MeetsWith (weakest (insert_before a b d) q) e st g → (k : Pick)
         → Landing k
-    insert-lands fl m k =
+    insert-lands m k =
         moved-in e st (Landing k) (stable-here k)
         (disjunction (conjunction (equality d (literal null)) (appended a b)) (inserted a b d)) q g
         m (λ r wr mp mq. stable-here k (λ n. mp (λ o. ⊎_elim
-        (λ x. n (last-lands fl (val-is (value_of st d) null
-        (sym (plain-value node_sort d st e (choosing (trees r) here) (λ z u. refl) so.2) ∙ x.0)) r
+        (λ x. n (last-lands (val-is (value_of st d) null
+        (sym (plain-value node_sort d st (choosing (trees r) here) (λ z u. refl) so.2) ∙ x.0)) r
         wr x.1 mq k))
         (λ x. x (λ c. c.2 (λ s. s.2 (λ f. f.2 (λ p. p.2 (λ l. l.2 (λ u. u.2 (λ w.
         n (with_things k r mq c.0 s.0 f.0 p.0 l.0 u.0 w.0 c.1 f.1 p.1 u.1 w.1 w.2)))))))))
         o)))
 
     -- BACK
-    last-meets : fits-last → value_of st d ≡ null
+    last-meets : value_of st d ≡ null
         → ((k : Pick) → Lands J (appending (node_at (value_of st a) g) (node_at (value_of st b) g)
         st g))
         → MeetsWith (weakest (insert_before a b d) q) e st g
-    last-meets fl is h =
+    last-meets is h =
         moved-in e st (MeetsWith (weakest (insert_before a b d) q) e st g)
         (stable (weakest (insert_before a b d) q) here (shape grove) g) (appended a b) q g
-        (append-meets ps q e st g fine a b fl h)
+        (append-meets ps q e st g fine a b (so.0, so.1) h)
         (λ r wr mp mq. move-out e st
         (disjunction (conjunction (equality d (literal null)) (appended a b)) (inserted a b d)) q g
         r wr (λ n. n (inl (
-          plain-value node_sort d st e (choosing (trees r) here) (λ z u. refl) so.2
+          plain-value node_sort d st (choosing (trees r) here) (λ z u. refl) so.2
               ∙ ap val is,
           mp,
         ))) mq)
@@ -555,7 +551,7 @@ module _ (ps : Procedures) (q : Formula) (e : Environment) (st : Store) (g : Tre
 
             number : val (node_number i) ≡ meaning_of chosen a
             number =
-                ap val (sym a-is) ∙ sym (plain-value node_sort a st e chosen (λ z u. refl) so.0)
+                ap val (sym a-is) ∙ sym (plain-value node_sort a st chosen (λ z u. refl) so.0)
 
             before-meets : Meets before chosen (shape grove) less
             before-meets =
@@ -693,20 +689,20 @@ module _ (ps : Procedures) (q : Formula) (e : Environment) (st : Store) (g : Tre
     none-there (node s i k l r) (hole y) h = h
     none-there (node s i k l r) (node s' j k' l' r') h = h
 
-    by_value : fits-last → (v : Value) → value_of st d ≡ v
+    by_value : (v : Value) → value_of st d ≡ v
         → ((k : Pick) → Lands J (inserting_at v (node_at (value_of st a) g)
         (node_at (value_of st b) g) st g))
         → MeetsWith (weakest (insert_before a b d) q) e st g
-    by_value fl null is h = last-meets fl is h
-    by_value fl (node_number t) is h =
+    by_value null is h = last-meets is h
+    by_value (node_number t) is h =
         by_nodes t is (node_at (value_of st a) g) (node_at (value_of st b) g)
         (nodes_where (numbered t) g) refl refl refl (h any_pick)
-    by_value fl nolist is h = absurd (none-there _ _ (h any_pick))
-    by_value fl (list_number t) is h = absurd (none-there _ _ (h any_pick))
-    by_value fl (int z) is h = absurd (none-there _ _ (h any_pick))
-    by_value fl (str z) is h = absurd (none-there _ _ (h any_pick))
-    by_value fl (boolean z) is h = absurd (none-there _ _ (h any_pick))
+    by_value nolist is h = absurd (none-there _ _ (h any_pick))
+    by_value (list_number t) is h = absurd (none-there _ _ (h any_pick))
+    by_value (int z) is h = absurd (none-there _ _ (h any_pick))
+    by_value (str z) is h = absurd (none-there _ _ (h any_pick))
+    by_value (boolean z) is h = absurd (none-there _ _ (h any_pick))
 
-    pub insert-meets : fits-last → ((k : Pick) → Landing k)
+    pub insert-meets : ((k : Pick) → Landing k)
         → MeetsWith (weakest (insert_before a b d) q) e st g
-    insert-meets fl h = by_value fl (value_of st d) refl h
+    insert-meets h = by_value (value_of st d) refl h

@@ -1,13 +1,13 @@
 -- The row of item.
 use Rattle.std.proofs.Common.{◌≡◌, ◌⊎◌, ℕ, zero, suc, ◌≤◌, pos, negsuc, int_le, IsTrue, List, true, inl, inr, refl, sym, ap, ◌∙◌, subst, ⊎_elim, arith, leb-true, le-leb}
 use mathlib.Core.HLevel.{dec→stable}
-use Rattle.model_shapes.specs.Shapes.{Shaped}
+use Rattle.model_shapes.specs.Shapes.{holes, Shaped}
 use Rattle.model_shapes.specs.Sorts.{ValueSort, value, shape, tree, forest, grove, node_sort, list_sort, str_sort, int_sort}
 use Rattle.model_shapes.specs.Tests.{value_eq}
 use Rattle.model_shapes.specs.Things.{val}
 use Rattle.model_shapes.specs.Trees.{Trees, none, node, hole, width, WellFormed}
 use Rattle.model_shapes.specs.Values.{Value, FitsValue, null, nolist, node_number, list_number, int, str, boolean}
-use Rattle.model_shapes.proofs.Basics.{beside_assoc}
+use Rattle.model_shapes.proofs.Basics.{beside_assoc, width-beside}
 use Rattle.model_shapes.proofs.Shapes.{right-WellFormed}
 use Rattle.model_terms.specs.Variables.{prog, bound}
 use Rattle.model_terms.specs.Terms.{Term, literal}
@@ -36,27 +36,29 @@ use Rattle.weakest_laws.proofs.Rows.{any_pick, on-the-same, reading-lands, meets
 use Rattle.weakest_laws.proofs.Families.{ChildMet, child-met, child-meets}
 use Rattle.weakest_laws.proofs.ReadRows.{env, Landing, stable-at}
 
--- at a place behind the last child
-past-end : (n : ℕ) (a : Trees) → width a ≤ n → number_at n a ≡ null
-past-end n none h = refl
-past-end n (hole r) h = refl
-past-end zero (node s i k l r) h = absurd (omega arith)
-past-end (suc n) (node s i k l r) h = past-end n r (omega arith)
-
 -- outside there is none
-item-null : (v : Value) (k : Trees)
+item-null : (v : Value) (k : Trees) → holes k ≡ 0
     → IsTrue (int_le (int_in v) (negsuc 0)) ⊎ IsTrue (int_le (pos (width k)) (int_in v))
     → item_of v k ≡ null
-item-null (int (pos n)) k (inl h) = absurd cc
-item-null (int (pos n)) k (inr h) = past-end n k (leb-true (width k) n h)
-item-null (int (negsuc n)) k h = refl
-item-null null k h = refl
-item-null nolist k h = refl
-item-null (node_number n) k h = refl
-item-null (list_number n) k h = refl
-item-null (str s) k h = refl
-item-null (boolean b) k h = refl
+item-null (int (pos n)) k none-open (inl h) = absurd cc
+item-null (int (pos n)) k none-open (inr h) = ⊎_elim
+    (λ c. absurd (omega (
+      arith,
+      leb-true (width k) n h,
+      ap width c.is,
+      width-beside c.before (node c.name c.number c.kids c.list c.after),
+      c.place,
+    )))
+    (λ x. x.1) (child-at n k none-open)
+item-null (int (negsuc n)) k none-open h = refl
+item-null null k none-open h = refl
+item-null nolist k none-open h = refl
+item-null (node_number n) k none-open h = refl
+item-null (list_number n) k none-open h = refl
+item-null (str s) k none-open h = refl
+item-null (boolean b) k none-open h = refl
 
+-- an integer is the value that it is
 number-value : (v : Value) → number_of (val v) ≡ int_in v
 number-value null = refl
 number-value nolist = refl
@@ -118,7 +120,7 @@ module _ (ps : Procedures) (bodies : BodiesSorted ps) (q : Formula) (e : Environ
         where
           place-is : value_of st f ≡ int (pos (width y.left))
           place-is = val-is (value_of st f) (int (pos (width y.left)))
-              (sym (plain-value int_sort f st e e' agree so.2) ∙ sym y.left_meets)
+              (sym (plain-value int_sort f st e' agree so.2) ∙ sym y.left_meets)
 
           item-is : item_of (value_of st f) o.kids ≡ node_number y.number
           item-is =
@@ -153,13 +155,14 @@ module _ (ps : Procedures) (bodies : BodiesSorted ps) (q : Formula) (e : Environ
         where
           place : number_of (meaning_of e' f) ≡ int_in (value_of st f)
           place =
-              ap number_of (plain-value int_sort f st e e' agree so.2)
+              ap number_of (plain-value int_sort f st e' agree so.2)
               ∙ number-value (value_of st f)
 
           none-there : item_of (value_of st f) o.kids ≡ null
           none-there =
               dec→stable (value_eq (item_of (value_of st f) o.kids) null) (λ n. m (λ z.
-              n (item-null (value_of st f) o.kids (⊎_elim
+              n (item-null (value_of st f) o.kids (child-list o.name o.number o.kids o.list
+              o.shaped).holes_fit (⊎_elim
               (λ a. inl (subst (λ z. IsTrue (int_le z (negsuc 0))) place a))
               (λ a. inr (subst (λ z. IsTrue (int_le z (int_in (value_of st f))))
               (sym (ap number_of o.kids_meet))
@@ -192,7 +195,7 @@ module _ (ps : Procedures) (bodies : BodiesSorted ps) (q : Formula) (e : Environ
         list-is : (e' : Environment) → ((z : List ℕ) (u : ValueSort)
             → e' (prog z u) ≡ val (lookup st z u)) → val (list_number l) ≡ meaning_of e' t
         list-is e' agree =
-            ap val (sym names) ∙ sym (plain-value list_sort t st e e' agree so.1)
+            ap val (sym names) ∙ sym (plain-value list_sort t st e' agree so.1)
 
         at-child : (n : ℕ) → value_of st f ≡ int (pos n) → Child n kids
             → (w : Value) → number_at n kids ≡ w
@@ -227,7 +230,7 @@ module _ (ps : Procedures) (bodies : BodiesSorted ps) (q : Formula) (e : Environ
                 (subst (Shaped (shape forest)) y.is (child-list s i kids l shaped)) (length_is f)
                 (str_var 1) (at 4 (value (sort_of x))) (list_var 0) e'
                 (ap (λ z. val (int (pos z))) y.place ∙ ap val (sym place)
-                ∙ sym (plain-value int_sort f st e e' (λ z u. refl) so.2)) refl
+                ∙ sym (plain-value int_sort f st e' (λ z u. refl) so.2)) refl
                 (ap val (sym y.read ∙ is)) refl)
 
         at-none : (w : Value) → w ≡ null
@@ -253,7 +256,7 @@ module _ (ps : Procedures) (bodies : BodiesSorted ps) (q : Formula) (e : Environ
 
             place : number_of (meaning_of e' f) ≡ int_in (value_of st f)
             place =
-                ap number_of (plain-value int_sort f st e e' (λ z u. refl) so.2)
+                ap number_of (plain-value int_sort f st e' (λ z u. refl) so.2)
                 ∙ number-value (value_of st f)
 
             its-length : Meets (anywhere (node_formula (str_var 2) (node_var 1)

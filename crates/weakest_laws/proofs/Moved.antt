@@ -76,7 +76,7 @@ module _ (e : Environment) (st : Store) (f : Term) (so : Computes node_sort f) (
           list = y.list;
           is = y.is;
           names = val-is (value_of st f) (node_number y.number)
-              (sym (plain-value node_sort f st e (choosing l.0 (choosing t.0 e')) agree so)
+              (sym (plain-value node_sort f st (choosing l.0 (choosing t.0 e')) agree so)
               ∙ sym y.number_is);
         })))))
 
@@ -92,7 +92,7 @@ module _ (e : Environment) (st : Store) (f : Term) (so : Computes node_sort f) (
         (
           refl,
           ap val (sym names)
-              ∙ sym (plain-value node_sort f st e (choosing (val (list_number l))
+              ∙ sym (plain-value node_sort f st (choosing (val (list_number l))
               (choosing (val (str s)) e')) agree so),
           refl,
           tt,

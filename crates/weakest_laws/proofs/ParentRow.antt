@@ -98,7 +98,7 @@ module _ (ps : Procedures) (bodies : BodiesSorted ps) (q : Formula) (e : Environ
           found : node_at (value_of st t) family ≡ node y.name y.number y.below y.list none
           found =
               ap (λ v. node_at v family) (val-is (value_of st t) (node_number y.number)
-              (sym (plain-value node_sort t st e e' agree so.1) ∙ sym y.number_is))
+              (sym (plain-value node_sort t st e' agree so.1) ∙ sym y.number_is))
               ∙ child-found o.outside o.outside_shaped.holes_fit.one o.name o.number y.left y.right
               o.list y.name y.number y.below y.list y.left_shaped.holes_fit
               y.right_shaped.holes_fit family-formed
@@ -154,7 +154,7 @@ module _ (ps : Procedures) (bodies : BodiesSorted ps) (q : Formula) (e : Environ
           found : node_at (value_of st t) there_g ≡ node y.name y.number y.kids y.list none
           found =
               ap (λ v. node_at v there_g) (val-is (value_of st t) (node_number y.number)
-              (sym (plain-value node_sort t st e e' agree so.1) ∙ sym y.number_is))
+              (sym (plain-value node_sort t st e' agree so.1) ∙ sym y.number_is))
               ∙ found-in (hole b) y.name y.number y.kids y.list one.one there-formed
 
           none-of : first_number (nodes_where (parental y.number) there_g) ≡ null

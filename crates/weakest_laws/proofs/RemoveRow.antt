@@ -38,20 +38,6 @@ use Rattle.weakest_laws.proofs.MovedNodes.{parent-there, out-there, is-child, le
 use Rattle.weakest_laws.proofs.Moved.{moved-in, move-out, Numbered, some-tree-met, some-tree-meets}
 use Rattle.weakest_laws.proofs.AppendRow.{same-name, same-number, same-list}
 
--- where the tree is a child of the node, it is moved to the roots
-removing-lands : (J : Store → Trees → Type 0) (i j : ℕ) (s : List ℕ) (k : Trees) (l : ℕ)
-    (t : List ℕ) (q : Trees) (m : ℕ) (st : Store) (g : Trees)
-    → nodes_where (numbered i) g ≡ node s i k l none
-    → nodes_where (numbered j) g ≡ node t j q m none → has_root j k ≡ true
-    → J st (beside (without j g) (node t j q m none))
-    → Lands J (removing (nodes_where (numbered i) g) (nodes_where (numbered j) g) st g)
-removing-lands J i j s k l t q m st g e e' c h =
-    subst (λ z. Lands J (removing z (nodes_where (numbered j) g) st g)) (sym e)
-    (subst (λ z. Lands J (removing (node s i k l none) z st g)) (sym e')
-    (subst (λ b. Lands J (cond b (becomes [] st (beside (without j g) (node t j q m none)))
-    (faults not_child)))
-    (sym c) (refl, h)))
-
 module _ (ps : Procedures) (q : Formula) (e : Environment) (st : Store) (g : Trees)
     (fine : Fine st g) (a b : Term) (fits : is_sorted ps (remove_child a b) ≡ true)
   where
@@ -160,25 +146,39 @@ module _ (ps : Procedures) (q : Formula) (e : Environment) (st : Store) (g : Tre
             parent-is : value_of st a ≡ node_number o.number
             parent-is =
                 val-is (value_of st a) (node_number o.number)
-                (sym (plain-value node_sort a st e its (λ z u. refl) so.0) ∙ sym o.number_is)
+                (sym (plain-value node_sort a st its (λ z u. refl) so.0) ∙ sym o.number_is)
+
+            parent-found : nodes_where (numbered o.number) start
+                ≡ parent_tree o.name o.number f moved p o.list
+            parent-found =
+                parent-there o.outside one o.name o.number f p o.list v.name v.number v.kids v.list
+                wf.holes_fit wp.holes_fit start-formed
+
+            moved-found : nodes_where (numbered v.number) start ≡ moved
+            moved-found =
+                out-there o.outside one o.name o.number f p o.list v.name v.number v.kids v.list
+                wf.holes_fit wp.holes_fit start-formed
+
+            among : has_root v.number (beside (beside f moved) p) ≡ true
+            among =
+                is-child o.outside one o.name o.number f p o.list v.name v.number v.kids v.list
+                wf.holes_fit wp.holes_fit start-formed
+
+            -- no test of the machine fails
+            is-move : removing (node_at (value_of st a) start) (node_at (value_of st b) start) st
+                start ≡ becomes [] st (beside (without v.number start) moved)
+            is-move =
+                (λ y. removing (node_at (parent-is y) start) (node_at (v.names y) start) st start)
+                ∙ (λ y. removing (parent-found y) (moved-found y) st start)
+                ∙ (λ y. cond (among y) (becomes [] st (beside (without v.number start) moved))
+                (faults not_child))
 
             with_all : Landing k
             with_all =
                 on-the-same ps q e k (run (remove_child a b)) st g start fine.whole.well_formed
                 same-start
-                (subst (λ z. Lands J (removing (node_at z start) (node_at (value_of st b) start) st
-                start)) (sym parent-is)
-                (subst (λ z. Lands J (removing (node_at (node_number o.number) start)
-                (node_at z start) st start)) (sym v.names)
-                (removing-lands J o.number v.number o.name (beside (beside f moved) p) o.list v.name
-                v.kids v.list st start
-                (parent-there o.outside one o.name o.number f p o.list v.name v.number v.kids v.list
-                wf.holes_fit wp.holes_fit start-formed)
-                (out-there o.outside one o.name o.number f p o.list v.name v.number v.kids v.list
-                wf.holes_fit wp.holes_fit start-formed)
-                (is-child o.outside one o.name o.number f p o.list v.name v.number v.kids v.list
-                wf.holes_fit wp.holes_fit start-formed)
-                (meets-same q e st r (beside (without v.number start) moved) end-same mq))))
+                (subst (Lands J) (sym is-move)
+                (refl, meets-same q e st r (beside (without v.number start) moved) end-same mq))
 
     with_things : (k : Pick) (r : Trees) → MeetsWith q e st r → (c s f p l u : Thing)
         → Fits (context tree grove) c → Fits (shape forest) f → Fits (shape forest) p
@@ -345,7 +345,7 @@ module _ (ps : Procedures) (q : Formula) (e : Environment) (st : Store) (g : Tre
 
             number : val (node_number i) ≡ meaning_of chosen a
             number =
-                ap val (sym a-is) ∙ sym (plain-value node_sort a st e chosen (λ z u. refl) so.0)
+                ap val (sym a-is) ∙ sym (plain-value node_sort a st chosen (λ z u. refl) so.0)
 
             before-meets : Meets (standing 5 4 a inside_before 1) chosen (shape grove) g
             before-meets =

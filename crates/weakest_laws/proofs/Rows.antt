@@ -170,7 +170,7 @@ module _ (s t : Term) (p : Formula) (l : Term) (e' : Environment) (g : Trees) (w
     pub value-there : Computes node_sort t → value_of st t ≡ node_number o.number
     value-there so =
         val-is (value_of st t) (node_number o.number)
-        (sym (plain-value node_sort t st e e' agree so) ∙ sym o.number_is)
+        (sym (plain-value node_sort t st e' agree so) ∙ sym o.number_is)
 
     pub node-there : Computes node_sort t → node_at (value_of st t) (located_in o)
         ≡ node o.name o.number o.kids o.list none
@@ -188,7 +188,7 @@ module _ (s i : Term) (p : Formula) (t : Term) (e' : Environment) (g : Trees) (w
     list-there so =
         ap (λ v. list_at v (located_in o))
         (val-is (value_of st t) (list_number o.list)
-        (sym (plain-value list_sort t st e e' agree so) ∙ sym o.list_is))
+        (sym (plain-value list_sort t st e' agree so) ∙ sym o.list_is))
         ∙ listed-in o.outside o.name o.number o.kids o.list o.outside_shaped.holes_fit.one
         (same-WellFormed grove g (located_in o) o.same w)
 

@@ -19,31 +19,18 @@ use Rattle.model_commands.proofs.StoreLaws.{meaning-value}
 use Rattle.triple_laws.proofs.Endings.{set-env}
 use Rattle.weakest_laws.specs.Table.{below, taking}
 
--- the program variables alone count for a term of a command
-pub meaning-plain : (s : ValueSort) (t : Term) (e e' : Environment)
-    → ((x : List ℕ) (u : ValueSort) → e (prog x u) ≡ e' (prog x u)) → Computes s t
-    → meaning_of e t ≡ meaning_of e' t
-meaning-plain s (literal v) e e' h c = refl
-meaning-plain s (variable (prog x u)) e e' h c = h x u
-meaning-plain s (variable (logic x u)) e e' h c = absurd c
-meaning-plain s (variable (bound i u)) e e' h c = absurd c
-meaning-plain s (sum a b) e e' h c =
-    λ i. val (int (number_of (meaning-plain int_sort a e e' h c.1 i)
-    +ℤ number_of (meaning-plain int_sort b e e' h c.2 i)))
-meaning-plain s (difference a b) e e' h c =
-    λ i. val (int (number_of (meaning-plain int_sort a e e' h c.1 i)
-    -ℤ number_of (meaning-plain int_sort b e e' h c.2 i)))
-meaning-plain s (appended a b) e e' h c =
-    λ i. val (str (text_meant (meaning-plain str_sort a e e' h c.1 i)
-    ++ text_meant (meaning-plain str_sort b e e' h c.2 i)))
-
--- so a term of a command stands for its value wherever the store's values are those of the program
--- variables
-pub plain-value : (s : ValueSort) (t : Term) (st : Store) (e e' : Environment)
-    → ((x : List ℕ) (u : ValueSort) → e' (prog x u) ≡ val (lookup st x u)) → Computes s t
-    → meaning_of e' t ≡ val (value_of st t)
-plain-value s t st e e' h c =
-    meaning-plain s t e' (with_store (lookup st) e) h c ∙ meaning-value s t st e c
+-- A term of a command stands for its value wherever the store's values are those of the program
+-- variables.
+pub plain-value : (s : ValueSort) (t : Term) (st : Store) (e : Environment)
+    → ((x : List ℕ) (u : ValueSort) → e (prog x u) ≡ val (lookup st x u)) → Computes s t
+    → meaning_of e t ≡ val (value_of st t)
+plain-value s t st e h c =
+    ap (λ z. meaning_of z t) (sym (fun_ext by_variable)) ∙ meaning-value s t st e c
+  where
+    by_variable : (x : Var) → with_store (lookup st) e x ≡ e x
+    by_variable (prog x u) = sym (h x u)
+    by_variable (logic x u) = refl
+    by_variable (bound i u) = refl
 
 -- some thing of the sort, where one is given
 pub some-thing : (s : Sort) {P : Thing → Type 0} (x : Thing) → Fits s x → P x → SomeThing s P

@@ -121,8 +121,8 @@ and_tree p u = concatenation whole p (one_tree (same_as (at u (shape tree))))
 
 -- That $r, the variable of the nearest binder, is the grove after the child $u, numbered F, went to
 -- the end of the children of E: (exists $c $s $q $l $u . ((A and B) and
--- ($r is ($c @t $s#E[($q * <$u>)]%$l)))). A is ($c @t $s#E[$q]%$l) without $u, and B says that $u is
--- some tree with the number F. The five are 4 to 0 there, and $r is 5.
+-- ($r is ($c @t $s#E[($q * <$u>)]%$l)))). A is ($c @t $s#E[$q]%$l) without $u, and B says that $u
+-- is some tree with the number F. The five are 4 to 0 there, and $r is 5.
 abbrev pub appended : Term → Term → Formula
 appended e f =
     existential (context tree grove) (some_str (existential (shape forest) (some_list
