@@ -16,24 +16,21 @@ use Rattle.model_formulas.specs.Formulas.{Formula, whole, node_formula, same_as,
 use Rattle.model_formulas.specs.Satisfaction.{Environment, Meets, choosing, with_store, meaning_of}
 use Rattle.model_commands.specs.Commands.{append_child}
 use Rattle.model_commands.specs.Sorting.{Sorted}
-use Rattle.model_commands.specs.SortTests.{is_sorted}
 use Rattle.model_commands.specs.Theories.{Procedures}
-use Rattle.model_commands.proofs.Sorting.{sorted-command}
 use Rattle.model_groves.specs.Groves.{nodes_where, numbered, node_at, without, adding, positive}
 use Rattle.model_groves.specs.Picks.{Pick}
-use Rattle.model_groves.proofs.Groves.{node-taken-out, node-those-le, holes-taken-out, same-after, adding-beside}
+use Rattle.model_groves.proofs.Groves.{node-taken-out, node-those-le, same-after, adding-beside}
 use Rattle.model_machine.specs.Fitting.{Fine}
 use Rattle.model_machine.specs.Machine.{run, move, becomes, faults, cycle, appending}
 use Rattle.model_machine.proofs.Fine.{FoundNode, found-node, appended-shaped, not-positive}
 use Rattle.entailment_laws.proofs.Pieces.{put_in}
-use Rattle.entailment_laws.proofs.Plain.{val-is}
 use Rattle.triple_laws.proofs.Finding.{found-in}
 use Rattle.triple_laws.proofs.Here.{Found, uses-here}
-use Rattle.triple_laws.proofs.Moving.{found, child-list, wide, split_at, emptied-WellFormed}
+use Rattle.triple_laws.proofs.Moving.{found, child-list, wide, split_at}
 use Rattle.triple_laws.proofs.OneStep.{Lands}
 use Rattle.weakest_laws.specs.Weakest.{MeetsWith}
 use Rattle.weakest_laws.specs.Table.{at, str_var, list_var, standing, and_tree, appended, taken_out, some_tree, weakest}
-use Rattle.weakest_laws.proofs.Taking.{plain-value, some-thing}
+use Rattle.weakest_laws.proofs.Taking.{some-thing, value-is, stands-for}
 use Rattle.weakest_laws.proofs.Cutting.{Cut, cut, outside-Shaped, node-Shaped, positive-list}
 use Rattle.weakest_laws.proofs.TakenOut.{less-Shaped}
 use Rattle.weakest_laws.proofs.Rows.{any_pick, on-the-same, stable-landing, meets-same, Located, located_in, locate}
@@ -169,8 +166,7 @@ module _ (ps : Procedures) (q : Formula) (e : Environment) (st : Store) (g : Tre
 
             parent-is : value_of st a ≡ node_number p.number
             parent-is =
-                val-is (value_of st a) (node_number p.number)
-                (sym (plain-value node_sort a st its (λ z u. refl) so.0) ∙ sym p.number_is)
+                value-is node_sort a st its (λ z u. refl) so.0 p.number_is
 
             -- the parent stands outside the tree
             not-round : node_uses p.number moved ≡ 0
@@ -211,7 +207,7 @@ module _ (ps : Procedures) (q : Formula) (e : Environment) (st : Store) (g : Tre
     with_things k r mq (trees c) s (trees f) l (trees u) fc ff fu m =
         taken-out-met 0 before u its' g fine.whole.well_formed (Landing k) (stable-here k) refl
         m.0.0
-        (λ o. some-tree-met e st b so.1 its' (λ z w. refl) (Landing k) (stable-here k) u m.0.1 (λ v.
+        (λ o. some-tree-met st b so.1 its' (λ z w. refl) (Landing k) (stable-here k) u m.0.1 (λ v.
         locate (Landing k) (stable-here k) (same_as (at 4 (context tree grove))) (str_var 3) a
         (same_as (at 2 (shape forest))) (list_var 1) its' (fill o.around none) o.meets (λ p mc.
         locate (Landing k) (stable-here k) (same_as (at 4 (context tree grove))) (str_var 3) a
@@ -324,7 +320,7 @@ module _ (ps : Procedures) (q : Formula) (e : Environment) (st : Store) (g : Tre
 
             number : val (node_number i) ≡ meaning_of chosen a
             number =
-                ap val (sym a-is) ∙ sym (plain-value node_sort a st chosen (λ z u. refl) so.0)
+                stands-for node_sort a st chosen (λ z u. refl) so.0 a-is
 
             before-meets : Meets before chosen (shape grove) less
             before-meets =
@@ -356,7 +352,7 @@ module _ (ps : Procedures) (q : Formula) (e : Environment) (st : Store) (g : Tre
 
             child-meets : Meets (some_tree b) chosen (shape tree) tree_moved
             child-meets =
-                some-tree-meets e st b so.1 chosen (λ z u. refl) s' j k' l' moved-shaped b-is
+                some-tree-meets st b so.1 chosen (λ z u. refl) s' j k' l' moved-shaped b-is
 
             meets-with : MeetsWith (weakest (append_child a b) q) e st g
             meets-with =

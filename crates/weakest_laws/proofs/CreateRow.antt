@@ -27,14 +27,13 @@ use Rattle.model_groves.specs.Picks.{Pick, is_free}
 use Rattle.model_machine.specs.Fitting.{Fine}
 use Rattle.model_machine.specs.Machine.{run, move, becomes, bad_pick}
 use Rattle.model_machine.proofs.Fine.{created-shaped, is-positive}
-use Rattle.entailment_laws.proofs.Plain.{val-is}
 use Rattle.entailment_laws.proofs.Shared.{hole-Shaped}
 use Rattle.triple_laws.proofs.Here.{uses-here, lists-here}
 use Rattle.triple_laws.proofs.NodesMet.{NodeMet, node-met}
 use Rattle.triple_laws.proofs.OneStep.{Lands}
 use Rattle.weakest_laws.specs.Weakest.{MeetsWith}
 use Rattle.weakest_laws.specs.Table.{node_var, list_var, below, weakest}
-use Rattle.weakest_laws.proofs.Taking.{plain-value, value-of-sort, below-meets, closed-meets}
+use Rattle.weakest_laws.proofs.Taking.{value-is, stands-for, value-of-sort, below-meets, closed-meets}
 use Rattle.weakest_laws.proofs.Cutting.{positive-node, positive-list}
 
 -- a text is the value that it is
@@ -115,7 +114,7 @@ module _ (ps : Procedures) (q : Formula) (e : Environment) (st : Store) (g : Tre
                 (
                   shaped,
                   (
-                    ap val name-is ∙ sym (plain-value str_sort t st chosen (λ z u. refl) so.1),
+                    stands-for str_sort t st chosen (λ z u. refl) so.1 (sym name-is),
                     refl,
                     refl,
                     refl,
@@ -223,8 +222,8 @@ module _ (ps : Procedures) (q : Formula) (e : Environment) (st : Store) (g : Tre
               y.is ∙ (λ i. node (names i) y.number (y.kids_meet i) y.list none)
             where
               names : y.name ≡ name
-              names = ap text_in (val-is (str y.name) (value_of st t)
-                  (y.name_is ∙ plain-value str_sort t st its (λ z u. refl) so.1))
+              names = ap text_in
+                  (sym (value-is str_sort t st its (λ z u. refl) so.1 y.name_is))
 
           same-whole : SameAt grove (fill c g) (beside g (node name y.number none y.list none))
           same-whole =

@@ -1,13 +1,11 @@
 -- The formula of a straight-line command is met exactly where its weakest precondition is.
-use Rattle.std.proofs.Common.{◌≡◌, ◌↔◌, ℕ, List, [], ◌∷◌, ◌++◌, Bool, true, false, cond, ◌&&◌, refl, sym, ◌∙◌, subst}
+use Rattle.std.proofs.Common.{◌≡◌, ◌↔◌, List, [], ◌∷◌, ◌++◌, Bool, true, refl, sym, ◌∙◌, subst}
 use Rattle.std.specs.List.{list_all}
-use Rattle.std.proofs.Math.Decide.{ℕ_discrete}
 use Rattle.std.proofs.lemmas.List.Folds.{list_all-append}
 use Rattle.model_shapes.specs.Shapes.{Shaped}
-use Rattle.model_shapes.specs.Sorts.{value, shape, grove, node_sort}
-use Rattle.model_shapes.specs.Trees.{Trees, none, node, hole, beside, node_uses}
+use Rattle.model_shapes.specs.Sorts.{value, shape, grove}
+use Rattle.model_shapes.specs.Trees.{Trees}
 use Rattle.model_shapes.specs.Things.{val}
-use Rattle.model_shapes.specs.Values.{Value, null, nolist, node_number, list_number, int, str, boolean}
 use Rattle.model_shapes.proofs.Truth.{both_true, false≢true}
 use Rattle.model_terms.specs.Terms.{Term}
 use Rattle.model_terms.specs.Stores.{ProgVar, sort_of, Store, set, value_of, lookup, ProperStore, text_in}
@@ -17,21 +15,20 @@ use Rattle.model_formulas.specs.Satisfaction.{Environment, choosing, with_store}
 use Rattle.model_commands.specs.Commands.{Command, skip, block, assign, create_node, node_name, child_nodes, parent_node, list_item, append_child, remove_child, insert_before, if_else, while_do, local, call, Block, stop, ◌then◌}
 use Rattle.model_commands.specs.CommandParts.{commands_in, commands_of}
 use Rattle.model_commands.specs.Sorting.{Sorted}
-use Rattle.model_commands.specs.SortTests.{is_sorted, fits_alone, evaluates, BodiesSorted}
+use Rattle.model_commands.specs.SortTests.{is_sorted, fits_alone, BodiesSorted}
 use Rattle.model_commands.specs.Theories.{Procedures}
 use Rattle.model_commands.proofs.Sorting.{sorted-command, rest-tested}
-use Rattle.model_groves.specs.Groves.{node_at, list_at, positive, has_root, without, adding, adding_before, is_yes}
-use Rattle.model_groves.specs.Picks.{Pick, is_free}
+use Rattle.model_groves.specs.Groves.{node_at, list_at}
+use Rattle.model_groves.specs.Picks.{Pick}
 use Rattle.model_machine.specs.Fitting.{Fine}
-use Rattle.model_machine.specs.Machine.{FaultKind, no_node, no_list, cycle, not_child, self_ref, Piece, run, Move, becomes, faults, bad_pick, move, pieces_of, reading, appending, removing, creating, inserting, inserting_at}
+use Rattle.model_machine.specs.Machine.{no_node, no_list, Piece, run, Move, becomes, faults, bad_pick, move, pieces_of}
 use Rattle.model_machine.proofs.EachMove.{each-reading, each-creating, each-appending, each-removing, each-inserting}
 use Rattle.model_machine.proofs.Fine.{FineMove, move-fine}
-use Rattle.entailment_laws.proofs.Plain.{val-is}
 use Rattle.triple_laws.proofs.OneStep.{Lands}
 use Rattle.weakest_laws.specs.Weakest.{MeetsWith, MeetsWeakest}
 use Rattle.weakest_laws.specs.Straight.{goes_straight, is_straight}
 use Rattle.weakest_laws.specs.Table.{at, weakest, weakest_of}
-use Rattle.weakest_laws.proofs.Taking.{plain-value, taken, take}
+use Rattle.weakest_laws.proofs.Taking.{value-is, stands-for, taken, take}
 use Rattle.weakest_laws.proofs.Steps.{Well, rests, rested, steps, stepped, AtOnce, landed, lands}
 use Rattle.weakest_laws.proofs.Rows.{any_pick, stable-landing}
 use Rattle.weakest_laws.proofs.ReadRows.{name-lands, name-meets, children-lands, children-meets}
@@ -95,8 +92,8 @@ module _ (ps : Procedures) (bodies : BodiesSorted ps) (e : Environment) where
           (equality (at 0 (value (sort_of x))) t) q (shape grove) g m (λ w f is mq. (
             refl,
             subst (λ z. MeetsWith q e (set x z st) g)
-                (val-is w (value_of st t) (is ∙ plain-value (sort_of x) t st
-                (choosing (val w) (with_store (lookup st) e)) (λ z u. refl) so)) mq,
+                (sym (value-is (sort_of x) t st (choosing (val w) (with_store (lookup st) e))
+                (λ z u. refl) so is)) mq,
           ))
 
       assign-meets : ((k : Pick) → Lands (MeetsWith q e) (move ps k (run (assign x t)) st g))
@@ -104,8 +101,8 @@ module _ (ps : Procedures) (bodies : BodiesSorted ps) (e : Environment) where
       assign-meets h =
           take e st x (equality (at 0 (value (sort_of x))) t) q
           (shape grove) g (value_of st t) (value-fits (sort_of x) t st so fine.proper)
-          (sym (plain-value (sort_of x) t st
-          (choosing (val (value_of st t)) (with_store (lookup st) e)) (λ z u. refl) so))
+          (stands-for (sort_of x) t st
+          (choosing (val (value_of st t)) (with_store (lookup st) e)) (λ z u. refl) so refl)
           (h any_pick).1
 
   -- two lists of commands that pass a test

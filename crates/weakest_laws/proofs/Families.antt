@@ -1,5 +1,5 @@
 -- A child among the children of a node, in formulas and in groves.
-use Rattle.std.proofs.Common.{◌≡◌, ℕ, ◌+◌, List, Bool, true, false, cond, refl, sym, ap, ◌∙◌, subst, ⊎_elim, arith}
+use Rattle.std.proofs.Common.{◌≡◌, ℕ, List, Bool, true, false, cond, refl, sym, ap, ◌∙◌, subst, ⊎_elim, arith}
 use Rattle.std.proofs.Math.Decide.{ℕ_discrete}
 use mathlib.Core.HLevel.{Stable}
 use Rattle.model_shapes.specs.Shapes.{holes, SameAt, Shaped}
@@ -157,19 +157,25 @@ orphan n (node s' i' k' l' r') h s i k l r same e =
       is = node-head s' s i' i k' k l' l (nodes_where (numbered n) r') r r' r' e refl;
     }
     by_test false e false c h in_kids in_rest =
-        let in-both : width (nodes_where (parental n) k') + width (nodes_where (parental n) r') ≡ 0 =
-        omega (
+        let none-in-kids : nodes_where (parental n) k' ≡ none =
+        no_roots (nodes_where (parental n) k') (omega (
           arith,
           width-beside (nodes_where (parental n) k') (nodes_where (parental n) r'),
           ap width h,
-        ) in
+        )) in
+        let none-in-rest : nodes_where (parental n) r' ≡ none =
+        no_roots (nodes_where (parental n) r') (omega (
+          arith,
+          width-beside (nodes_where (parental n) k') (nodes_where (parental n) r'),
+          ap width h,
+        )) in
         ⊎_elim
-        (λ x. let o : Orphan r' s i k l = in_rest (no_roots (nodes_where (parental n) r') (omega (arith, in-both))) r x.1 in record {
+        (λ x. let o : Orphan r' s i k l = in_rest none-in-rest r x.1 in record {
           before = node s' i' k' l' o.before;
           after = o.after;
           is = ap (node s' i' k' l') o.is;
         })
-        (λ x. let o : Orphan k' s i k l = in_kids (no_roots (nodes_where (parental n) k') (omega (arith, in-both))) x.0 x.1 in
+        (λ x. let o : Orphan k' s i k l = in_kids none-in-kids x.0 x.1 in
         false≢true (sym c ∙ ap (has_root n) o.is ∙ ap (λ z. has_root z (beside o.before
         (node s i k l o.after))) same ∙ has_root-in o.before s i k l o.after))
         (first-of (nodes_where (numbered n) k') (nodes_where (numbered n) r') s i k l r e)

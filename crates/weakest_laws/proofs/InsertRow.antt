@@ -10,13 +10,13 @@ use Rattle.model_shapes.proofs.Basics.{node_uses-fill, holes-beside, beside_asso
 use Rattle.model_shapes.proofs.Filling.{fill-left, inner-WellFormed}
 use Rattle.model_shapes.proofs.Representatives.{representative}
 use Rattle.model_shapes.proofs.Shapes.{SameAt-sym, SameAt-trans, SameAt-eq, same-Shaped, same-node_uses, same-WellFormed, left-Shaped-shape, right-Shaped-shape}
-use Rattle.model_terms.specs.Terms.{Term, literal}
+use Rattle.model_terms.specs.Terms.{Term}
 use Rattle.model_terms.specs.Stores.{Store, lookup, value_of}
-use Rattle.model_formulas.specs.Formulas.{Formula, whole, node_formula, same_as, one_tree, conjunction, disjunction, equality, concatenation, value_meets}
+use Rattle.model_formulas.specs.Formulas.{Formula, whole, node_formula, same_as, one_tree, conjunction, concatenation, value_meets}
 use Rattle.model_formulas.specs.Satisfaction.{Environment, Meets, choosing, with_store, meaning_of}
 use Rattle.model_formulas.proofs.Stable.{stable}
 use Rattle.std.proofs.Math.Decide.{ℕ_discrete}
-use Rattle.model_commands.specs.Commands.{append_child, insert_before}
+use Rattle.model_commands.specs.Commands.{insert_before}
 use Rattle.model_commands.specs.Sorting.{Sorted}
 use Rattle.model_commands.specs.SortTests.{is_sorted}
 use Rattle.model_commands.specs.Theories.{Procedures}
@@ -30,14 +30,13 @@ use Rattle.model_machine.specs.Fitting.{Fine}
 use Rattle.model_machine.specs.Machine.{run, move, becomes, faults, cycle, self_ref, not_child, appending, inserting, inserting_at}
 use Rattle.model_machine.proofs.Fine.{FoundNode, found-node, inserted-shaped, not-positive}
 use Rattle.entailment_laws.proofs.Pieces.{put_in}
-use Rattle.entailment_laws.proofs.Plain.{val-is}
 use Rattle.triple_laws.proofs.Finding.{parent_tree, found-in, has_root-in}
 use Rattle.triple_laws.proofs.Here.{Found, uses-here}
 use Rattle.triple_laws.proofs.Moving.{found, child-list, wide, split_at}
 use Rattle.triple_laws.proofs.OneStep.{Lands}
 use Rattle.weakest_laws.specs.Weakest.{MeetsWith}
-use Rattle.weakest_laws.specs.Table.{at, str_var, list_var, standing, and_tree, appended, inserted, taken_out, some_tree, weakest}
-use Rattle.weakest_laws.proofs.Taking.{plain-value, some-thing}
+use Rattle.weakest_laws.specs.Table.{at, str_var, list_var, standing, and_tree, appended, inserted_at, taken_out, some_tree, weakest}
+use Rattle.weakest_laws.proofs.Taking.{some-thing, value-is, stands-for}
 use Rattle.weakest_laws.proofs.Cutting.{Cut, cut, outside-Shaped, node-Shaped, positive-list, Root, root-of}
 use Rattle.weakest_laws.proofs.TakenOut.{is-no, root-stays, less-Shaped, cut-less, found-less}
 use Rattle.weakest_laws.proofs.Rows.{any_pick, on-the-same, stable-landing, meets-same, Located, located_in, locate}
@@ -290,8 +289,7 @@ module _ (ps : Procedures) (q : Formula) (e : Environment) (st : Store) (g : Tre
 
             parent-is : value_of st a ≡ node_number n.number
             parent-is =
-                val-is (value_of st a) (node_number n.number)
-                (sym (plain-value node_sort a st its (λ z u. refl) so.0) ∙ sym n.number_is)
+                value-is node_sort a st its (λ z u. refl) so.0 n.number_is
 
             with_all : Landing k
             with_all =
@@ -315,8 +313,8 @@ module _ (ps : Procedures) (q : Formula) (e : Environment) (st : Store) (g : Tre
     with_things k r mq (trees c) s (trees f) (trees p) l (trees u) (trees w) fc ff fp fu fw m =
         taken-out-met 1 before u its' g fine.whole.well_formed (Landing k) (stable-here k) refl
         m.0.0.0
-        (λ o. some-tree-met e st b so.1 its' (λ z w. refl) (Landing k) (stable-here k) u m.0.0.1
-        (λ v. some-tree-met e st d so.2 its' (λ z w. refl) (Landing k) (stable-here k) w m.0.1
+        (λ o. some-tree-met st b so.1 its' (λ z w. refl) (Landing k) (stable-here k) u m.0.0.1
+        (λ v. some-tree-met st d so.2 its' (λ z w. refl) (Landing k) (stable-here k) w m.0.1
         (λ z.
         locate (Landing k) (stable-here k) (same_as (at 6 (context tree grove))) (str_var 5) a
         inside_before (list_var 2) its' (fill o.around none) o.meets (λ n mc.
@@ -341,17 +339,17 @@ module _ (ps : Procedures) (q : Formula) (e : Environment) (st : Store) (g : Tre
     last-lands is r wr m mq k =
         subst (λ v. Lands J (inserting_at v (node_at (value_of st a) g) (node_at (value_of st b) g)
         st g)) (sym is)
-        (append-lands ps q e st g fine a b (so.0, so.1) (move-out e st (appended a b) q g r wr m mq) k)
+        (append-lands ps q e st g fine a b (so.0, so.1)
+        (move-out e st (appended a b) q g r wr m mq) k)
 
     pub insert-lands : MeetsWith (weakest (insert_before a b d) q) e st g → (k : Pick)
         → Landing k
     insert-lands m k =
         moved-in e st (Landing k) (stable-here k)
-        (disjunction (conjunction (equality d (literal null)) (appended a b)) (inserted a b d)) q g
-        m (λ r wr mp mq. stable-here k (λ n. mp (λ o. ⊎_elim
-        (λ x. n (last-lands (val-is (value_of st d) null
-        (sym (plain-value node_sort d st (choosing (trees r) here) (λ z u. refl) so.2) ∙ x.0)) r
-        wr x.1 mq k))
+        (inserted_at a b d) q g m (λ r wr mp mq. stable-here k (λ n. mp (λ o. ⊎_elim
+        (λ x. n (last-lands
+        (value-is node_sort d st (choosing (trees r) here) (λ z u. refl) so.2 (sym x.0)) r wr x.1
+        mq k))
         (λ x. x (λ c. c.2 (λ s. s.2 (λ f. f.2 (λ p. p.2 (λ l. l.2 (λ u. u.2 (λ w.
         n (with_things k r mq c.0 s.0 f.0 p.0 l.0 u.0 w.0 c.1 f.1 p.1 u.1 w.1 w.2)))))))))
         o)))
@@ -365,11 +363,8 @@ module _ (ps : Procedures) (q : Formula) (e : Environment) (st : Store) (g : Tre
         moved-in e st (MeetsWith (weakest (insert_before a b d) q) e st g)
         (stable (weakest (insert_before a b d) q) here (shape grove) g) (appended a b) q g
         (append-meets ps q e st g fine a b (so.0, so.1) h)
-        (λ r wr mp mq. move-out e st
-        (disjunction (conjunction (equality d (literal null)) (appended a b)) (inserted a b d)) q g
-        r wr (λ n. n (inl (
-          plain-value node_sort d st (choosing (trees r) here) (λ z u. refl) so.2
-              ∙ ap val is,
+        (λ r wr mp mq. move-out e st (inserted_at a b d) q g r wr (λ n. n (inl (
+          sym (stands-for node_sort d st (choosing (trees r) here) (λ z u. refl) so.2 is),
           mp,
         ))) mq)
 
@@ -551,7 +546,7 @@ module _ (ps : Procedures) (q : Formula) (e : Environment) (st : Store) (g : Tre
 
             number : val (node_number i) ≡ meaning_of chosen a
             number =
-                ap val (sym a-is) ∙ sym (plain-value node_sort a st chosen (λ z u. refl) so.0)
+                stands-for node_sort a st chosen (λ z u. refl) so.0 a-is
 
             before-meets : Meets before chosen (shape grove) less
             before-meets =
@@ -616,18 +611,16 @@ module _ (ps : Procedures) (q : Formula) (e : Environment) (st : Store) (g : Tre
 
             child-meets : Meets (some_tree b) chosen (shape tree) tree_moved
             child-meets =
-                some-tree-meets e st b so.1 chosen (λ z u. refl) s' j k' l' moved-shaped b-is
+                some-tree-meets st b so.1 chosen (λ z u. refl) s' j k' l' moved-shaped b-is
 
             next-meets : Meets (some_tree d) chosen (shape tree) beyond
             next-meets =
-                some-tree-meets e st d so.2 chosen (λ z u. refl) y.name t y.kids y.list
+                some-tree-meets st d so.2 chosen (λ z u. refl) y.name t y.kids y.list
                 beyond-shaped d-is
 
             meets-with : MeetsWith (weakest (insert_before a b d) q) e st g
             meets-with =
-                move-out e st
-                (disjunction (conjunction (equality d (literal null)) (appended a b))
-                (inserted a b d)) q g end end-shaped
+                move-out e st (inserted_at a b d) q g end end-shaped
                 (λ no. no (inr
                 (some-thing (context tree grove) (trees c) fc
                 (some-thing (value str_sort) (val (str s)) tt

@@ -1,11 +1,11 @@
 -- The row of item.
-use Rattle.std.proofs.Common.{◌≡◌, ◌⊎◌, ℕ, zero, suc, ◌≤◌, pos, negsuc, int_le, IsTrue, List, true, inl, inr, refl, sym, ap, ◌∙◌, subst, ⊎_elim, arith, leb-true, le-leb}
+use Rattle.std.proofs.Common.{◌≡◌, ◌⊎◌, ℕ, ◌≤◌, pos, negsuc, int_le, IsTrue, List, true, inl, inr, refl, sym, ap, ◌∙◌, subst, ⊎_elim, arith, leb-true, le-leb}
 use mathlib.Core.HLevel.{dec→stable}
 use Rattle.model_shapes.specs.Shapes.{holes, Shaped}
 use Rattle.model_shapes.specs.Sorts.{ValueSort, value, shape, tree, forest, grove, node_sort, list_sort, str_sort, int_sort}
 use Rattle.model_shapes.specs.Tests.{value_eq}
 use Rattle.model_shapes.specs.Things.{val}
-use Rattle.model_shapes.specs.Trees.{Trees, none, node, hole, width, WellFormed}
+use Rattle.model_shapes.specs.Trees.{Trees, none, node, width, WellFormed}
 use Rattle.model_shapes.specs.Values.{Value, FitsValue, null, nolist, node_number, list_number, int, str, boolean}
 use Rattle.model_shapes.proofs.Basics.{beside_assoc, width-beside}
 use Rattle.model_shapes.proofs.Shapes.{right-WellFormed}
@@ -30,7 +30,7 @@ use Rattle.triple_laws.proofs.Finding.{number-in}
 use Rattle.triple_laws.proofs.Moving.{child-list}
 use Rattle.weakest_laws.specs.Weakest.{MeetsWith}
 use Rattle.weakest_laws.specs.Table.{at, str_var, list_var, node_var, int_var, among, anywhere, some_str, some_list, some_node, some_int, has_item, weakest}
-use Rattle.weakest_laws.proofs.Taking.{plain-value, some-thing, taken, take}
+use Rattle.weakest_laws.proofs.Taking.{plain-value, some-thing, taken, take, value-is, stands-for}
 use Rattle.weakest_laws.proofs.Cutting.{Cut, cut, node-Shaped, positive-node, positive-list, found-list, Child, child-at}
 use Rattle.weakest_laws.proofs.Rows.{any_pick, on-the-same, reading-lands, meets-same, Read, read-off, Located, located_in, locate, list-there, there}
 use Rattle.weakest_laws.proofs.Families.{ChildMet, child-met, child-meets}
@@ -113,14 +113,13 @@ module _ (ps : Procedures) (bodies : BodiesSorted ps) (q : Formula) (e : Environ
           on-the-same ps q e k (run (list_item x t f)) st g (located_in o) whole-formed o.same
           (reading-lands ps q e (list_at (value_of st t) (located_in o)) no_list
           (λ s i k l. item_of (value_of st f) k) x st (located_in o) o.name o.number o.kids o.list w
-          (list-there (str_var 3) (node_var 2) (among (length_is f) child) t e' g whole-formed o e
+          (list-there (str_var 3) (node_var 2) (among (length_is f) child) t e' g whole-formed o
           st agree so.1)
           (item-is ∙ val-is (node_number y.number) w (y.number_is ∙ is-w))
           (meets-same q e (set x w st) g (located_in o) o.same mq))
         where
           place-is : value_of st f ≡ int (pos (width y.left))
-          place-is = val-is (value_of st f) (int (pos (width y.left)))
-              (sym (plain-value int_sort f st e' agree so.2) ∙ sym y.left_meets)
+          place-is = value-is int_sort f st e' agree so.2 y.left_meets
 
           item-is : item_of (value_of st f) o.kids ≡ node_number y.number
           item-is =
@@ -148,7 +147,7 @@ module _ (ps : Procedures) (bodies : BodiesSorted ps) (q : Formula) (e : Environ
           on-the-same ps q e k (run (list_item x t f)) st g (located_in o) whole-formed o.same
           (reading-lands ps q e (list_at (value_of st t) (located_in o)) no_list
           (λ s i k l. item_of (value_of st f) k) x st (located_in o) o.name o.number o.kids o.list w
-          (list-there (str_var 2) (node_var 1) (length_is (int_var 0)) t e' g whole-formed o e st
+          (list-there (str_var 2) (node_var 1) (length_is (int_var 0)) t e' g whole-formed o st
           agree so.1)
           (none-there ∙ sym (val-is w null is-null))
           (meets-same q e (set x w st) g (located_in o) o.same mq))
@@ -195,7 +194,7 @@ module _ (ps : Procedures) (bodies : BodiesSorted ps) (q : Formula) (e : Environ
         list-is : (e' : Environment) → ((z : List ℕ) (u : ValueSort)
             → e' (prog z u) ≡ val (lookup st z u)) → val (list_number l) ≡ meaning_of e' t
         list-is e' agree =
-            ap val (sym names) ∙ sym (plain-value list_sort t st e' agree so.1)
+            stands-for list_sort t st e' agree so.1 names
 
         at-child : (n : ℕ) → value_of st f ≡ int (pos n) → Child n kids
             → (w : Value) → number_at n kids ≡ w
@@ -229,8 +228,8 @@ module _ (ps : Procedures) (bodies : BodiesSorted ps) (q : Formula) (e : Environ
                 (child-meets y.before y.name y.number y.kids y.list y.after
                 (subst (Shaped (shape forest)) y.is (child-list s i kids l shaped)) (length_is f)
                 (str_var 1) (at 4 (value (sort_of x))) (list_var 0) e'
-                (ap (λ z. val (int (pos z))) y.place ∙ ap val (sym place)
-                ∙ sym (plain-value int_sort f st e' (λ z u. refl) so.2)) refl
+                (ap (λ z. val (int (pos z))) y.place
+                ∙ stands-for int_sort f st e' (λ z u. refl) so.2 place) refl
                 (ap val (sym y.read ∙ is)) refl)
 
         at-none : (w : Value) → w ≡ null

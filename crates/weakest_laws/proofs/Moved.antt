@@ -1,5 +1,5 @@
 -- What the rows of the moves share: the grove after the move, and a tree taken out of a grove.
-use Rattle.std.proofs.Common.{◌≡◌, ℕ, zero, suc, List, inl, inr, refl, sym, ap, ◌∙◌, subst, ⊎_elim, arith}
+use Rattle.std.proofs.Common.{◌≡◌, ℕ, zero, suc, List, inl, inr, refl, sym, subst, ⊎_elim, arith}
 use mathlib.Core.HLevel.{Stable}
 use Rattle.model_shapes.specs.RootHoles.{root_holes}
 use Rattle.model_shapes.specs.Shapes.{holes, SameAt, Shaped}
@@ -16,12 +16,11 @@ use Rattle.model_terms.specs.Stores.{Store, lookup, value_of}
 use Rattle.model_formulas.specs.Formulas.{Formula, truth, empty, one_tree, one_root, hole_adjoint, same_as, value_meets}
 use Rattle.model_formulas.specs.Satisfaction.{Environment, Meets, IfTrees, choosing, with_store}
 use Rattle.entailment_laws.proofs.Pieces.{put_in}
-use Rattle.entailment_laws.proofs.Plain.{val-is}
 use Rattle.triple_laws.proofs.Moving.{emptied-WellFormed, nothing-Shaped, wide}
 use Rattle.triple_laws.proofs.NodesMet.{NodeMet, node-met}
 use Rattle.weakest_laws.specs.Weakest.{MeetsWith}
 use Rattle.weakest_laws.specs.Table.{at, str_var, list_var, below, moving, some_tree, taken_out}
-use Rattle.weakest_laws.proofs.Taking.{below-meets, plain-value}
+use Rattle.weakest_laws.proofs.Taking.{below-meets, value-is, stands-for}
 use Rattle.weakest_laws.proofs.Cutting.{Cut, positive-list, node-Shaped}
 
 module _ (e : Environment) (st : Store) where
@@ -60,7 +59,7 @@ pub record Numbered (st : Store) (f : Term) (u : Trees) : Type 0 where
   pub is : u ≡ node name number kids list none
   pub names : value_of st f ≡ node_number number
 
-module _ (e : Environment) (st : Store) (f : Term) (so : Computes node_sort f) (e' : Environment)
+module _ (st : Store) (f : Term) (so : Computes node_sort f) (e' : Environment)
     (agree : (x : List ℕ) (u : ValueSort) → e' (prog x u) ≡ val (lookup st x u))
   where
     pub some-tree-met : (G : Type 0) → Stable G → (u : Trees)
@@ -75,9 +74,7 @@ module _ (e : Environment) (st : Store) (f : Term) (so : Computes node_sort f) (
           kids = y.kids;
           list = y.list;
           is = y.is;
-          names = val-is (value_of st f) (node_number y.number)
-              (sym (plain-value node_sort f st (choosing l.0 (choosing t.0 e')) agree so)
-              ∙ sym y.number_is);
+          names = value-is node_sort f st (choosing l.0 (choosing t.0 e')) agree so y.number_is;
         })))))
 
     pub some-tree-meets : (s : List ℕ) (j : ℕ) (k : Trees) (l : ℕ)
@@ -91,9 +88,8 @@ module _ (e : Environment) (st : Store) (f : Term) (so : Computes node_sort f) (
         positive-list s j k l none w.well_formed,
         (
           refl,
-          ap val (sym names)
-              ∙ sym (plain-value node_sort f st (choosing (val (list_number l))
-              (choosing (val (str s)) e')) agree so),
+          stands-for node_sort f st (choosing (val (list_number l))
+              (choosing (val (str s)) e')) agree so names,
           refl,
           tt,
         ),

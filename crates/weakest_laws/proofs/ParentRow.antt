@@ -30,11 +30,11 @@ use Rattle.triple_laws.proofs.NodesMet.{NodeMet, node-met}
 use Rattle.triple_laws.proofs.ReadAxioms.{no-parent-of}
 use Rattle.weakest_laws.specs.Weakest.{MeetsWith}
 use Rattle.weakest_laws.specs.Table.{at, str_var, list_var, among, anywhere, some_str, some_list, has_parent, weakest}
-use Rattle.weakest_laws.proofs.Taking.{plain-value, some-thing, taken, take}
+use Rattle.weakest_laws.proofs.Taking.{some-thing, taken, take, value-is, stands-for}
 use Rattle.weakest_laws.proofs.Cutting.{Cut, cut, node-Shaped, positive-list, Root, root-of}
 use Rattle.weakest_laws.proofs.Rows.{any_pick, on-the-same, reading-lands, meets-same, Located, locate, there}
 use Rattle.weakest_laws.proofs.Families.{ChildMet, child-met, child-meets, Orphan, orphan, root-first, others-shaped}
-use Rattle.weakest_laws.proofs.ReadRows.{env, Landing, stable-at, NodeRead, node-read, number-is}
+use Rattle.weakest_laws.proofs.ReadRows.{env, Landing, stable-at, NodeRead, node-read}
 
 module _ (ps : Procedures) (bodies : BodiesSorted ps) (q : Formula) (e : Environment) (st : Store)
     (g : Trees) (fine : Fine st g) (x : ProgVar) (t : Term)
@@ -97,8 +97,7 @@ module _ (ps : Procedures) (bodies : BodiesSorted ps) (q : Formula) (e : Environ
 
           found : node_at (value_of st t) family ≡ node y.name y.number y.below y.list none
           found =
-              ap (λ v. node_at v family) (val-is (value_of st t) (node_number y.number)
-              (sym (plain-value node_sort t st e' agree so.1) ∙ sym y.number_is))
+              ap (λ v. node_at v family) (value-is node_sort t st e' agree so.1 y.number_is)
               ∙ child-found o.outside o.outside_shaped.holes_fit.one o.name o.number y.left y.right
               o.list y.name y.number y.below y.list y.left_shaped.holes_fit
               y.right_shaped.holes_fit family-formed
@@ -153,8 +152,7 @@ module _ (ps : Procedures) (bodies : BodiesSorted ps) (q : Formula) (e : Environ
 
           found : node_at (value_of st t) there_g ≡ node y.name y.number y.kids y.list none
           found =
-              ap (λ v. node_at v there_g) (val-is (value_of st t) (node_number y.number)
-              (sym (plain-value node_sort t st e' agree so.1) ∙ sym y.number_is))
+              ap (λ v. node_at v there_g) (value-is node_sort t st e' agree so.1 y.number_is)
               ∙ found-in (hole b) y.name y.number y.kids y.list one.one there-formed
 
           none-of : first_number (nodes_where (parental y.number) there_g) ≡ null
@@ -221,7 +219,7 @@ module _ (ps : Procedures) (bodies : BodiesSorted ps) (q : Formula) (e : Environ
               (child-meets c.before c.name r.number c.kids c.list c.after
               (subst (Shaped (shape forest)) c.is (child-list s i kids l parent-shaped)) truth
               (str_var 2) t (list_var 0) e' tt refl
-              (number-is ps bodies q e st g fine t so.1 r.number r.names e' (λ z u. refl)) refl)
+              (stands-for node_sort t st e' (λ z u. refl) so.1 r.names) refl)
 
       at-no-parent : nodes_where (parental r.number) g ≡ none → FitsValue (sort_of x) null
           → MeetsWith q e (set x null st) g → MeetsWith (weakest (parent_node x t) q) e st g
@@ -259,7 +257,7 @@ module _ (ps : Procedures) (bodies : BodiesSorted ps) (q : Formula) (e : Environ
                 r.shaped,
                 (
                   refl,
-                  number-is ps bodies q e st g fine t so.1 r.number r.names e' (λ z u. refl),
+                  stands-for node_sort t st e' (λ z u. refl) so.1 r.names,
                   refl,
                   tt,
                 ),

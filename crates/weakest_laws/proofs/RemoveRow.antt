@@ -25,13 +25,12 @@ use Rattle.model_machine.specs.Fitting.{Fine}
 use Rattle.model_machine.specs.Machine.{run, move, becomes, faults, not_child, removing}
 use Rattle.model_machine.proofs.Fine.{FoundNode, found-node, removed-shaped}
 use Rattle.entailment_laws.proofs.Pieces.{put_in}
-use Rattle.entailment_laws.proofs.Plain.{val-is}
 use Rattle.triple_laws.proofs.Finding.{parent_tree}
 use Rattle.triple_laws.proofs.Moving.{child-list, wide, split_at}
 use Rattle.triple_laws.proofs.OneStep.{Lands}
 use Rattle.weakest_laws.specs.Weakest.{MeetsWith}
 use Rattle.weakest_laws.specs.Table.{at, str_var, list_var, standing, and_tree, removed, some_tree, weakest}
-use Rattle.weakest_laws.proofs.Taking.{plain-value, some-thing}
+use Rattle.weakest_laws.proofs.Taking.{some-thing, value-is, stands-for}
 use Rattle.weakest_laws.proofs.Cutting.{Cut, cut, outside-Shaped, node-Shaped, positive-list, Root, root-of}
 use Rattle.weakest_laws.proofs.Rows.{any_pick, on-the-same, stable-landing, meets-same, Located, located_in, locate}
 use Rattle.weakest_laws.proofs.MovedNodes.{parent-there, out-there, is-child, less}
@@ -145,8 +144,7 @@ module _ (ps : Procedures) (q : Formula) (e : Environment) (st : Store) (g : Tre
 
             parent-is : value_of st a ≡ node_number o.number
             parent-is =
-                val-is (value_of st a) (node_number o.number)
-                (sym (plain-value node_sort a st its (λ z u. refl) so.0) ∙ sym o.number_is)
+                value-is node_sort a st its (λ z u. refl) so.0 o.number_is
 
             parent-found : nodes_where (numbered o.number) start
                 ≡ parent_tree o.name o.number f moved p o.list
@@ -188,7 +186,7 @@ module _ (ps : Procedures) (q : Formula) (e : Environment) (st : Store) (g : Tre
     with_things k r mq (trees c) s (trees f) (val x) l u fc ff fp fu m = absurd fp
     with_things k r mq (trees c) s (trees f) (trees p) l (val x) fc ff fp fu m = absurd fu
     with_things k r mq (trees c) s (trees f) (trees p) l (trees u) fc ff fp fu m =
-        some-tree-met e st b so.1 its' (λ z w. refl) (Landing k) (stable-here k) u m.0.1 (λ v.
+        some-tree-met st b so.1 its' (λ z w. refl) (Landing k) (stable-here k) u m.0.1 (λ v.
         locate (Landing k) (stable-here k) (same_as (at 5 (context tree grove))) (str_var 4) a
         inside_before (list_var 1) its' g m.0.0 (λ o mc.
         stable-here k (λ n. m.1 (λ x. x.2 (λ y.
@@ -345,7 +343,7 @@ module _ (ps : Procedures) (q : Formula) (e : Environment) (st : Store) (g : Tre
 
             number : val (node_number i) ≡ meaning_of chosen a
             number =
-                ap val (sym a-is) ∙ sym (plain-value node_sort a st chosen (λ z u. refl) so.0)
+                stands-for node_sort a st chosen (λ z u. refl) so.0 a-is
 
             before-meets : Meets (standing 5 4 a inside_before 1) chosen (shape grove) g
             before-meets =
@@ -389,7 +387,7 @@ module _ (ps : Procedures) (q : Formula) (e : Environment) (st : Store) (g : Tre
 
             child-meets : Meets (some_tree b) chosen (shape tree) tree_moved
             child-meets =
-                some-tree-meets e st b so.1 chosen (λ z u. refl) s' j k' l' moved-shaped b-is
+                some-tree-meets st b so.1 chosen (λ z u. refl) s' j k' l' moved-shaped b-is
 
             meets-with : MeetsWith (weakest (remove_child a b) q) e st g
             meets-with =

@@ -24,14 +24,13 @@ use Rattle.model_machine.specs.Machine.{FaultKind, Move, Piece, becomes, faults,
 use Rattle.model_machine.specs.SameMoves.{SameMove}
 use Rattle.model_machine.proofs.Fine.{FineMove}
 use Rattle.model_machine.proofs.SameRuns.{same-move}
-use Rattle.entailment_laws.proofs.Plain.{val-is}
 use Rattle.triple_laws.proofs.Finding.{found-in, listed-in}
 use Rattle.triple_laws.proofs.NodesMet.{NodeMet, node-met}
 use Rattle.triple_laws.proofs.OneStep.{Lands}
 use Rattle.entailment_laws.proofs.Pieces.{put_in}
 use Rattle.weakest_laws.specs.Weakest.{MeetsWith}
 use Rattle.weakest_laws.specs.Table.{anywhere}
-use Rattle.weakest_laws.proofs.Taking.{plain-value}
+use Rattle.weakest_laws.proofs.Taking.{value-is}
 use Rattle.weakest_laws.proofs.Cutting.{Cut, outside-Shaped, node-Shaped}
 
 -- numbers for a new node, of which nothing is asked
@@ -161,7 +160,7 @@ locate G st k s i p l e g m f = st (λ n. m (λ c. c.2 (λ d.
 
 -- a term of the command that names the node, by its number or by its list number
 module _ (s t : Term) (p : Formula) (l : Term) (e' : Environment) (g : Trees) (w : WellFormed g)
-    (o : Located s t p l e' g) (e : Environment) (st : Store)
+    (o : Located s t p l e' g) (st : Store)
     (agree : (x : List ℕ) (u : ValueSort) → e' (prog x u) ≡ val (lookup st x u))
   where
     pub located-formed : WellFormed (located_in o)
@@ -169,8 +168,7 @@ module _ (s t : Term) (p : Formula) (l : Term) (e' : Environment) (g : Trees) (w
 
     pub value-there : Computes node_sort t → value_of st t ≡ node_number o.number
     value-there so =
-        val-is (value_of st t) (node_number o.number)
-        (sym (plain-value node_sort t st e' agree so) ∙ sym o.number_is)
+        value-is node_sort t st e' agree so o.number_is
 
     pub node-there : Computes node_sort t → node_at (value_of st t) (located_in o)
         ≡ node o.name o.number o.kids o.list none
@@ -180,15 +178,14 @@ module _ (s t : Term) (p : Formula) (l : Term) (e' : Environment) (g : Trees) (w
         located-formed
 
 module _ (s i : Term) (p : Formula) (t : Term) (e' : Environment) (g : Trees) (w : WellFormed g)
-    (o : Located s i p t e' g) (e : Environment) (st : Store)
+    (o : Located s i p t e' g) (st : Store)
     (agree : (x : List ℕ) (u : ValueSort) → e' (prog x u) ≡ val (lookup st x u))
   where
     pub list-there : Computes list_sort t → list_at (value_of st t) (located_in o)
         ≡ node o.name o.number o.kids o.list none
     list-there so =
         ap (λ v. list_at v (located_in o))
-        (val-is (value_of st t) (list_number o.list)
-        (sym (plain-value list_sort t st e' agree so) ∙ sym o.list_is))
+        (value-is list_sort t st e' agree so o.list_is)
         ∙ listed-in o.outside o.name o.number o.kids o.list o.outside_shaped.holes_fit.one
         (same-WellFormed grove g (located_in o) o.same w)
 

@@ -1,21 +1,22 @@
 -- What the binders of the table come to: a value for a variable, and what is under one more binder.
-use Rattle.std.proofs.Common.{◌≡◌, ◌++◌, ◌+ℤ◌, ◌-ℤ◌, List, ℕ, refl, sym, ap, ◌∙◌, subst}
+use Rattle.std.proofs.Common.{◌≡◌, List, ℕ, refl, sym, ap, ◌∙◌, subst}
 use mathlib.Core.HLevel.{Stable}
 use mathlib.Core.Path.{fun_ext}
-use Rattle.model_shapes.specs.Sorts.{Sort, value, ValueSort, int_sort, str_sort}
+use Rattle.model_shapes.specs.Sorts.{Sort, value, ValueSort}
 use Rattle.model_shapes.specs.Things.{Thing, val, trees, Fits}
 use Rattle.model_shapes.specs.Trees.{Trees}
-use Rattle.model_shapes.specs.Values.{Value, FitsValue, int, str}
+use Rattle.model_shapes.specs.Values.{Value, FitsValue}
 use Rattle.model_terms.specs.Variables.{Var, prog, logic, bound}
-use Rattle.model_terms.specs.Terms.{Term, literal, variable, sum, difference, appended, raised_var}
+use Rattle.model_terms.specs.Terms.{Term, variable, raised_var}
 use Rattle.model_terms.specs.Computing.{Computes}
 use Rattle.model_terms.specs.Stores.{ProgVar, as_var, sort_of, Store, set, lookup, value_of}
 use Rattle.model_formulas.specs.Formulas.{Formula}
 use Rattle.model_formulas.specs.Substitution.{formula_with, closing}
-use Rattle.model_formulas.specs.Satisfaction.{Environment, Meets, SomeThing, choosing, with_store, meaning_of, number_of, text_meant}
+use Rattle.model_formulas.specs.Satisfaction.{Environment, Meets, SomeThing, choosing, with_store, meaning_of}
 use Rattle.model_formulas.proofs.Substitutes.{with-meets, after}
 use Rattle.model_formulas.proofs.Quantified.{closing-env}
 use Rattle.model_commands.proofs.StoreLaws.{meaning-value}
+use Rattle.entailment_laws.proofs.Plain.{val-is}
 use Rattle.triple_laws.proofs.Endings.{set-env}
 use Rattle.weakest_laws.specs.Table.{below, taking}
 
@@ -31,6 +32,18 @@ plain-value s t st e h c =
     by_variable (prog x u) = sym (h x u)
     by_variable (logic x u) = refl
     by_variable (bound i u) = refl
+
+-- so its value is known from what it stands for, and the other way round
+pub value-is : (s : ValueSort) (t : Term) (st : Store) (e : Environment)
+    → ((x : List ℕ) (u : ValueSort) → e (prog x u) ≡ val (lookup st x u)) → Computes s t
+    → {v : Value} → val v ≡ meaning_of e t → value_of st t ≡ v
+value-is s t st e h c {v} is =
+    val-is (value_of st t) v (sym (plain-value s t st e h c) ∙ sym is)
+
+pub stands-for : (s : ValueSort) (t : Term) (st : Store) (e : Environment)
+    → ((x : List ℕ) (u : ValueSort) → e (prog x u) ≡ val (lookup st x u)) → Computes s t
+    → {v : Value} → value_of st t ≡ v → val v ≡ meaning_of e t
+stands-for s t st e h c is = ap val (sym is) ∙ sym (plain-value s t st e h c)
 
 -- some thing of the sort, where one is given
 pub some-thing : (s : Sort) {P : Thing → Type 0} (x : Thing) → Fits s x → P x → SomeThing s P

@@ -166,6 +166,11 @@ inserted e f g =
     (and_tree (and_tree (same_as (at 4 (shape forest))) 1) 0) (same_as (at 3 (shape forest))))
     2)))))))))
 
+-- the same where G may be null, and then the child goes to the end: ((G = null and A) or B)
+abbrev pub inserted_at : Term → Term → Term → Formula
+inserted_at e f g =
+    disjunction (conjunction (equality g (literal null)) (appended e f)) (inserted e f g)
+
 -- (exists $r . (P and ($r is Q)))
 abbrev pub moving : Formula → Formula → Formula
 moving p q =
@@ -188,9 +193,7 @@ abbrev mutual
   weakest (list_item x e f) q = taking x (has_item x e f) q
   weakest (append_child e f) q = moving (appended e f) q
   weakest (remove_child e f) q = moving (removed e f) q
-  weakest (insert_before e f g) q =
-      moving (disjunction (conjunction (equality g (literal null)) (appended e f))
-      (inserted e f g)) q
+  weakest (insert_before e f g) q = moving (inserted_at e f g) q
   weakest command q = q
 
   pub weakest_of : Block → Formula → Formula
