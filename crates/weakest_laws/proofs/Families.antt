@@ -128,7 +128,14 @@ pub record Orphan (g : Trees) (s : List ℕ) (i : ℕ) (k : Trees) (l : ℕ) : T
   pub after : Trees
   pub is : g ≡ beside before (node s i k l after)
 
--- is a root
+-- neither of two lists has a root where both have none
+none-left : (a b : Trees) → beside a b ≡ none → a ≡ none
+none-left a b e = no_roots a (omega (arith, width-beside a b, ap width e))
+
+none-right : (a b : Trees) → beside a b ≡ none → b ≡ none
+none-right a b e = no_roots b (omega (arith, width-beside a b, ap width e))
+
+-- a node without a parent is a root
 pub orphan : (n : ℕ) (g : Trees) → nodes_where (parental n) g ≡ none → (s : List ℕ) (i : ℕ)
     (k : Trees) (l : ℕ) (r : Trees) → n ≡ i → nodes_where (numbered n) g ≡ node s i k l r
     → Orphan g s i k l
@@ -157,25 +164,16 @@ orphan n (node s' i' k' l' r') h s i k l r same e =
       is = node-head s' s i' i k' k l' l (nodes_where (numbered n) r') r r' r' e refl;
     }
     by_test false e false c h in_kids in_rest =
-        let none-in-kids : nodes_where (parental n) k' ≡ none =
-        no_roots (nodes_where (parental n) k') (omega (
-          arith,
-          width-beside (nodes_where (parental n) k') (nodes_where (parental n) r'),
-          ap width h,
-        )) in
-        let none-in-rest : nodes_where (parental n) r' ≡ none =
-        no_roots (nodes_where (parental n) r') (omega (
-          arith,
-          width-beside (nodes_where (parental n) k') (nodes_where (parental n) r'),
-          ap width h,
-        )) in
         ⊎_elim
-        (λ x. let o : Orphan r' s i k l = in_rest none-in-rest r x.1 in record {
+        (λ x. let o : Orphan r' s i k l =
+        in_rest (none-right (nodes_where (parental n) k') (nodes_where (parental n) r') h) r x.1 in
+        record {
           before = node s' i' k' l' o.before;
           after = o.after;
           is = ap (node s' i' k' l') o.is;
         })
-        (λ x. let o : Orphan k' s i k l = in_kids none-in-kids x.0 x.1 in
+        (λ x. let o : Orphan k' s i k l =
+        in_kids (none-left (nodes_where (parental n) k') (nodes_where (parental n) r') h) x.0 x.1 in
         false≢true (sym c ∙ ap (has_root n) o.is ∙ ap (λ z. has_root z (beside o.before
         (node s i k l o.after))) same ∙ has_root-in o.before s i k l o.after))
         (first-of (nodes_where (numbered n) k') (nodes_where (numbered n) r') s i k l r e)

@@ -1,5 +1,5 @@
 -- The row of item.
-use Rattle.std.proofs.Common.{◌≡◌, ◌⊎◌, ℕ, ◌≤◌, pos, negsuc, int_le, IsTrue, List, true, inl, inr, refl, sym, ap, ◌∙◌, subst, ⊎_elim, arith, leb-true, le-leb}
+use Rattle.std.proofs.Common.{◌≡◌, ◌⊎◌, ℕ, ◌≤◌, ℤ, pos, negsuc, int_le, IsTrue, List, true, inl, inr, refl, sym, ap, ◌∙◌, subst, ⊎_elim, arith, leb-true, le-leb}
 use mathlib.Core.HLevel.{dec→stable}
 use Rattle.model_shapes.specs.Shapes.{holes, Shaped}
 use Rattle.model_shapes.specs.Sorts.{ValueSort, value, shape, tree, forest, grove, node_sort, list_sort, str_sort, int_sort}
@@ -11,7 +11,7 @@ use Rattle.model_shapes.proofs.Basics.{beside_assoc, width-beside}
 use Rattle.model_shapes.proofs.Shapes.{right-WellFormed}
 use Rattle.model_terms.specs.Variables.{prog, bound}
 use Rattle.model_terms.specs.Terms.{Term, literal}
-use Rattle.model_terms.specs.Stores.{ProgVar, sort_of, Store, set, lookup, value_of, int_in}
+use Rattle.model_terms.specs.Stores.{ProgVar, sort_of, Store, set, lookup, value_of}
 use Rattle.model_terms.proofs.StoreLaws.{value-fits}
 use Rattle.model_formulas.specs.Formulas.{Formula, truth, node_formula, conjunction, disjunction, equality, at_most, length_is}
 use Rattle.model_formulas.specs.Satisfaction.{Environment, Meets, choosing, meaning_of, number_of}
@@ -30,18 +30,17 @@ use Rattle.triple_laws.proofs.Finding.{number-in}
 use Rattle.triple_laws.proofs.Moving.{child-list}
 use Rattle.weakest_laws.specs.Weakest.{MeetsWith}
 use Rattle.weakest_laws.specs.Table.{at, str_var, list_var, node_var, int_var, among, anywhere, some_str, some_list, some_node, some_int, has_item, weakest}
-use Rattle.weakest_laws.proofs.Taking.{plain-value, some-thing, taken, take, value-is, stands-for}
+use Rattle.weakest_laws.proofs.Taking.{some-thing, taken, take, value-is, stands-for}
 use Rattle.weakest_laws.proofs.Cutting.{Cut, cut, node-Shaped, positive-node, positive-list, found-list, Child, child-at}
 use Rattle.weakest_laws.proofs.Rows.{any_pick, on-the-same, reading-lands, meets-same, Read, read-off, Located, located_in, locate, list-there, there}
 use Rattle.weakest_laws.proofs.Families.{ChildMet, child-met, child-meets}
 use Rattle.weakest_laws.proofs.ReadRows.{env, Landing, stable-at}
 
--- outside there is none
-item-null : (v : Value) (k : Trees) → holes k ≡ 0
-    → IsTrue (int_le (int_in v) (negsuc 0)) ⊎ IsTrue (int_le (pos (width k)) (int_in v))
-    → item_of v k ≡ null
-item-null (int (pos n)) k none-open (inl h) = absurd cc
-item-null (int (pos n)) k none-open (inr h) = ⊎_elim
+-- an integer that is no place of the children names none of them
+no-item : (z : ℤ) (k : Trees) → holes k ≡ 0
+    → IsTrue (int_le z (negsuc 0)) ⊎ IsTrue (int_le (pos (width k)) z) → item_of (int z) k ≡ null
+no-item (pos n) k none-open (inl h) = absurd cc
+no-item (pos n) k none-open (inr h) = ⊎_elim
     (λ c. absurd (omega (
       arith,
       leb-true (width k) n h,
@@ -50,23 +49,7 @@ item-null (int (pos n)) k none-open (inr h) = ⊎_elim
       c.place,
     )))
     (λ x. x.1) (child-at n k none-open)
-item-null (int (negsuc n)) k none-open h = refl
-item-null null k none-open h = refl
-item-null nolist k none-open h = refl
-item-null (node_number n) k none-open h = refl
-item-null (list_number n) k none-open h = refl
-item-null (str s) k none-open h = refl
-item-null (boolean b) k none-open h = refl
-
--- an integer is the value that it is
-number-value : (v : Value) → number_of (val v) ≡ int_in v
-number-value null = refl
-number-value nolist = refl
-number-value (node_number n) = refl
-number-value (list_number n) = refl
-number-value (int z) = refl
-number-value (str s) = refl
-number-value (boolean b) = refl
+no-item (negsuc n) k none-open h = refl
 
 module _ (ps : Procedures) (bodies : BodiesSorted ps) (q : Formula) (e : Environment) (st : Store)
     (g : Trees) (fine : Fine st g) (x : ProgVar) (t f : Term)
@@ -149,24 +132,29 @@ module _ (ps : Procedures) (bodies : BodiesSorted ps) (q : Formula) (e : Environ
           (λ s i k l. item_of (value_of st f) k) x st (located_in o) o.name o.number o.kids o.list w
           (list-there (str_var 2) (node_var 1) (length_is (int_var 0)) t e' g whole-formed o st
           agree so.1)
-          (none-there ∙ sym (val-is w null is-null))
+          (none-there (value_of st f) refl (value-fits int_sort f st so.2 fine.proper)
+          ∙ sym (val-is w null is-null))
           (meets-same q e (set x w st) g (located_in o) o.same mq))
         where
-          place : number_of (meaning_of e' f) ≡ int_in (value_of st f)
-          place =
-              ap number_of (plain-value int_sort f st e' agree so.2)
-              ∙ number-value (value_of st f)
+          place : (z : ℤ) → value_of st f ≡ int z → number_of (meaning_of e' f) ≡ z
+          place z is = ap number_of (sym (stands-for int_sort f st e' agree so.2 is))
 
-          none-there : item_of (value_of st f) o.kids ≡ null
-          none-there =
-              dec→stable (value_eq (item_of (value_of st f) o.kids) null) (λ n. m (λ z.
-              n (item-null (value_of st f) o.kids (child-list o.name o.number o.kids o.list
-              o.shaped).holes_fit (⊎_elim
-              (λ a. inl (subst (λ z. IsTrue (int_le z (negsuc 0))) place a))
-              (λ a. inr (subst (λ z. IsTrue (int_le z (int_in (value_of st f))))
-              (sym (ap number_of o.kids_meet))
-              (subst (λ z. IsTrue (int_le (number_of (meaning_of e' (int_var 0))) z)) place a)))
-              z))))
+          none-there : (v : Value) → value_of st f ≡ v → FitsValue int_sort v
+              → item_of v o.kids ≡ null
+          none-there (int z) is fits =
+              dec→stable (value_eq (item_of (int z) o.kids) null) (λ n. m (λ c.
+              n (no-item z o.kids
+              (child-list o.name o.number o.kids o.list o.shaped).holes_fit (⊎_elim
+              (λ a. inl (subst (λ y. IsTrue (int_le y (negsuc 0))) (place z is) a))
+              (λ a. inr (subst (λ y. IsTrue (int_le y z)) (sym (ap number_of o.kids_meet))
+              (subst (λ y. IsTrue (int_le (number_of (meaning_of e' (int_var 0))) y)) (place z is)
+              a))) c))))
+          none-there null is fits = absurd fits
+          none-there nolist is fits = absurd fits
+          none-there (node_number n) is fits = absurd fits
+          none-there (list_number n) is fits = absurd fits
+          none-there (str t) is fits = absurd fits
+          none-there (boolean b) is fits = absurd fits
 
       absent : Meets there_is_none (choosing (val w) here) (shape grove) g → Lands-here k
       absent m =
@@ -232,12 +220,11 @@ module _ (ps : Procedures) (bodies : BodiesSorted ps) (q : Formula) (e : Environ
                 ∙ stands-for int_sort f st e' (λ z u. refl) so.2 place) refl
                 (ap val (sym y.read ∙ is)) refl)
 
-        at-none : (w : Value) → w ≡ null
-            → IsTrue (int_le (int_in (value_of st f)) (negsuc 0))
-            ⊎ IsTrue (int_le (pos (width kids)) (int_in (value_of st f)))
-            → FitsValue (sort_of x) w → MeetsWith q e (set x w st) g
+        at-none : (z : ℤ) → value_of st f ≡ int z
+            → IsTrue (int_le z (negsuc 0)) ⊎ IsTrue (int_le (pos (width kids)) z)
+            → (w : Value) → w ≡ null → FitsValue (sort_of x) w → MeetsWith q e (set x w st) g
             → MeetsWith (weakest (list_item x t f) q) e st g
-        at-none w is-null out h mq =
+        at-none z is out w is-null h mq =
             take e st x (has_item x t f) q (shape grove) g w h
             (λ n. n (inr (
               some-thing (value str_sort) (val (str s)) tt
@@ -253,10 +240,8 @@ module _ (ps : Procedures) (bodies : BodiesSorted ps) (q : Formula) (e : Environ
             e' = choosing (val (int (pos (width kids)))) (choosing (val (node_number i))
                 (choosing (val (str s)) (choosing (val w) here)))
 
-            place : number_of (meaning_of e' f) ≡ int_in (value_of st f)
-            place =
-                ap number_of (plain-value int_sort f st e' (λ z u. refl) so.2)
-                ∙ number-value (value_of st f)
+            place : number_of (meaning_of e' f) ≡ z
+            place = ap number_of (sym (stands-for int_sort f st e' (λ y u. refl) so.2 is))
 
             its-length : Meets (anywhere (node_formula (str_var 2) (node_var 1)
                 (length_is (int_var 0)) t)) e' (shape grove) g
@@ -266,8 +251,8 @@ module _ (ps : Procedures) (bodies : BodiesSorted ps) (q : Formula) (e : Environ
 
             no-place : Meets outside_of e' (shape grove) g
             no-place = λ n. n (⊎_elim
-                (λ a. inl (subst (λ z. IsTrue (int_le z (negsuc 0))) (sym place) a))
-                (λ a. inr (subst (λ z. IsTrue (int_le (pos (width kids)) z)) (sym place) a)) out)
+                (λ a. inl (subst (λ y. IsTrue (int_le y (negsuc 0))) (sym place) a))
+                (λ a. inr (subst (λ y. IsTrue (int_le (pos (width kids)) y)) (sym place) a)) out)
 
         by_place : (v : Value) → value_of st f ≡ v → FitsValue int_sort v
             → FitsValue (sort_of x) (item_of v kids)
@@ -280,15 +265,9 @@ module _ (ps : Procedures) (bodies : BodiesSorted ps) (q : Formula) (e : Environ
                 → MeetsWith (weakest (list_item x t f) q) e st g
             by_child (inl y) = at-child n place y (number_at n kids) refl h mq
             by_child (inr y) =
-                at-none (number_at n kids) y.1
-                (inr (subst (λ z. IsTrue (int_le (pos (width kids)) (int_in z))) (sym place)
-                (le-leb (width kids) n y.0)))
-                h mq
+                at-none (pos n) place (inr (le-leb (width kids) n y.0)) (number_at n kids) y.1 h mq
         by_place (int (negsuc n)) place fv h mq =
-            at-none null refl
-            (inl (subst (λ z. IsTrue (int_le (int_in z) (negsuc 0))) (sym place)
-            (le-leb 0 n (omega arith))))
-            h mq
+            at-none (negsuc n) place (inl (le-leb 0 n (omega arith))) null refl h mq
         by_place null place fv h mq = absurd fv
         by_place nolist place fv h mq = absurd fv
         by_place (node_number n) place fv h mq = absurd fv
