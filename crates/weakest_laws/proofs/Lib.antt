@@ -1,6 +1,7 @@
 pub mod Taking
 pub mod Steps
 pub mod Cutting
+pub mod TakenOut
 pub mod Rows
 pub mod ReadRows
 pub mod Families
@@ -11,7 +12,6 @@ pub mod MovedNodes
 pub mod Moved
 pub mod AppendRow
 pub mod RemoveRow
-pub mod TakenOut
 pub mod InsertRow
 pub mod Exact
 pub mod WrittenRows

@@ -69,6 +69,15 @@ taken_out u x =
 abbrev pub taking : ProgVar → Formula → Formula → Formula
 taking x p q = existential (value (sort_of x)) (conjunction p (formula_with (closing (as_var x)) q))
 
+-- Whatever numbers $v and $m the new root has, the grove with it beside the others meets Q':
+-- (forall $v . (forall $m . ((?g .+ [E#$v[0f]%$m]) o-g Q')))
+abbrev pub with_new_root : ProgVar → Term → Formula → Formula
+with_new_root x e q =
+    universal (value node_sort) (universal (value list_sort) (context_adjoint grove
+    (grove_sum_hole (bare_hole grove)
+    (one_root (node_formula e (node_var 1) (empty forest) (list_var 0))))
+    (below (formula_with (closing (as_var x)) q))))
+
 -- What a read says of its value $v, the variable of the nearest binder. Here it is the name of E:
 -- (exists $l . (true @t $v#E[true]%$l))
 abbrev pub has_name : ProgVar → Term → Formula
@@ -182,11 +191,7 @@ abbrev mutual
   pub weakest : Command → Formula → Formula
   weakest (block b) q = weakest_of b q
   weakest (assign x e) q = taking x (equality (at 0 (value (sort_of x))) e) q
-  weakest (create_node x e) q =
-      universal (value node_sort) (universal (value list_sort) (context_adjoint grove
-      (grove_sum_hole (bare_hole grove)
-      (one_root (node_formula e (node_var 1) (empty forest) (list_var 0))))
-      (below (formula_with (closing (as_var x)) q))))
+  weakest (create_node x e) q = with_new_root x e q
   weakest (node_name x e) q = taking x (has_name x e) q
   weakest (child_nodes x e) q = taking x (has_children x e) q
   weakest (parent_node x e) q = taking x (has_parent x e) q
