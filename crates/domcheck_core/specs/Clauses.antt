@@ -1,5 +1,5 @@
--- The clauses of the top call. Each speaks of the request, the told books, the counts and the
--- status.
+-- The clauses of the top call. Each speaks of the request, the told books, the fillers, the counts
+-- and the status.
 use Rattle.std.specs.Prelude.{◌≡◌, ◌⊎◌, ℕ, List, [], ◌∷◌, map, Option, Some, None, String, string_bytes}
 use Rattle.outside_io.specs.Causes.{Told}
 use Rattle.outside_io.specs.Pieces.{Took, TookPrefix}
