@@ -10,7 +10,7 @@ use outside_io::{Folder, Screen};
 use std::env::{Env, FillError};
 use std::process::ExitCode;
 use std::{env, io};
-use step_filler::{Conj, Spot};
+use step_filler::{Conj, Spot, Tidy};
 
 // What the system tells the program, with its arguments counted from the first word after the
 // program's name, so that a name that is no UTF-8 text is never read.
@@ -53,6 +53,7 @@ fn words_of(rt: &HostRuntime) -> Result<Vec<String>, OutOfMemory> {
 fn end_of(rt: &HostRuntime) -> Result<Status, OutOfMemory> {
     let words = words_of(rt)?;
     let mut fillers: Vec<Box<dyn Filler>> = Vec::new(rt.alloc());
+    fillers.push(Box::new(rt.alloc(), Tidy::new())?)?;
     fillers.push(Box::new(rt.alloc(), Spot::new())?)?;
     fillers.push(Box::new(rt.alloc(), Conj::new())?)?;
     let mut folder = Folder::new(rt);

@@ -1,5 +1,5 @@
 -- Runs that are called, on the heap: what they come to by the definitions, and the answer to it.
-use Rattle.std.proofs.Common.{◌≡◌, ◌∙◌, ℕ, List, map, Option, Some, None, ap, Result, Ok, Err, IfOk, subst, sym, arith}
+use Rattle.std.proofs.Common.{◌≡◌, ◌∙◌, ℕ, List, Option, Some, None, ap, Result, Ok, Err, IfOk, subst, sym, arith}
 use Rattle.model_shapes.specs.Sorts.{shape, grove}
 use Rattle.model_shapes.specs.Trees.{Trees}
 use Rattle.model_shapes.specs.Shapes.{Shaped, SameAt}

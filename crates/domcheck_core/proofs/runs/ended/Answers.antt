@@ -1,4 +1,4 @@
-use Rattle.std.proofs.Common.{◌≡◌, ◌∙◌, List, ℕ, Option, Some, map, ap, sym}
+use Rattle.std.proofs.Common.{◌∙◌, List, ℕ, Option, Some, map, ap, sym}
 use Rattle.dom_terms.specs.Terms.{prog_var_of}
 use Rattle.dom_terms.specs.Values.{value_seen}
 use Rattle.model_answers.specs.Output.{ended_with}
