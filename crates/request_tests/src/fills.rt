@@ -72,6 +72,9 @@ step 4 by consequence(2, 1, 3): pre 0g do skip post (0g + 0g) at g;
 end
 ";
 
+// The most bytes of steps that are read.
+const MOST_BYTES: usize = 1_000_000;
+
 const GAP: &str = "step 3 of same, line 8: gap\n";
 
 // The status of `fill` on that file with these fillers, and what is written.
@@ -88,7 +91,11 @@ fn steps_in(alloc: Global, spelled: &str) -> Result<Steps, Fail> {
     text.push_str("ensures 0g body skip proof ")?;
     text.push_str(spelled)?;
     text.push_str(" end")?;
-    let tokens = token_list(alloc, text.as_bytes())?;
+    let bytes = text.as_bytes();
+    if bytes.len() > MOST_BYTES {
+        return Err("too long".into());
+    }
+    let tokens = token_list(alloc, bytes)?;
     let theory = read_theory(alloc, &tokens)?;
     let procedure = theory.procedures.get(0).ok_or("no procedure")?;
     let steps = procedure.proof.copy(alloc)?;
@@ -141,22 +148,27 @@ const WRONG: [&str; 5] = [
     "",
 ];
 
-// In front of Tidy a filler that offers these steps.
-fn in_front(alloc: Global, steps: Steps) -> Result<Vec<Box<dyn Filler>>, Fail> {
+// The status where Tidy alone fills the file, and what is written.
+fn fill_alone(alloc: Global, tape: &mut Tape) -> Result<Status, Fail> {
+    let mut fillers: Vec<Box<dyn Filler>> = Vec::new(alloc);
+    fillers.push(Box::new(alloc, Tidy::new())?)?;
+    fill(alloc, fillers, tape)
+}
+
+// The same with a filler in front of Tidy that offers these steps.
+fn fill_with(alloc: Global, steps: Steps, tape: &mut Tape) -> Result<Status, Fail> {
     let mut fillers: Vec<Box<dyn Filler>> = Vec::new(alloc);
     fillers.push(Box::new(alloc, Fixed { turn: 0, steps })?)?;
     fillers.push(Box::new(alloc, Tidy::new())?)?;
-    Ok(fillers)
+    fill(alloc, fillers, tape)
 }
 
-// Whether these fillers come to what Tidy alone comes to.
-fn fill_as_tidy(alloc: Global, fillers: Vec<Box<dyn Filler>>) -> Result<bool, Fail> {
-    let mut alone: Vec<Box<dyn Filler>> = Vec::new(alloc);
-    alone.push(Box::new(alloc, Tidy::new())?)?;
+// Whether what is offered is passed over: both come to the same.
+fn is_passed_over(alloc: Global, steps: Steps) -> Result<bool, Fail> {
     let mut wanted = Tape::new(alloc, 10_000)?;
     let mut found = Tape::new(alloc, 10_000)?;
-    let done = fill(alloc, alone, &mut wanted)? == Status::Done;
-    let same = fill(alloc, fillers, &mut found)? == Status::Done;
+    let done = fill_alone(alloc, &mut wanted)? == Status::Done;
+    let same = fill_with(alloc, steps, &mut found)? == Status::Done;
     Ok(done && same && found.taken() == wanted.taken())
 }
 
@@ -164,13 +176,13 @@ fn fill_as_tidy(alloc: Global, fillers: Vec<Box<dyn Filler>>) -> Result<bool, Fa
 fn what_is_not_usable_is_passed_over(rt: HostRuntime) -> Result<(), Fail> {
     let alloc = rt.alloc();
     for spelled in WRONG {
-        let fillers = in_front(alloc, steps_in(alloc, spelled)?)?;
-        assert!(rt; fill_as_tidy(alloc, fillers)?, "{spelled}");
+        let steps = steps_in(alloc, spelled)?;
+        assert!(rt; is_passed_over(alloc, steps)?, "{spelled}");
     }
-    let fillers = in_front(alloc, after_nothing(alloc)?)?;
-    assert!(rt; fill_as_tidy(alloc, fillers)?, "a block without commands");
-    let fillers = in_front(alloc, too_many(alloc)?)?;
-    assert!(rt; fill_as_tidy(alloc, fillers)?, "too many steps");
+    let steps = after_nothing(alloc)?;
+    assert!(rt; is_passed_over(alloc, steps)?, "a block without commands");
+    let steps = too_many(alloc)?;
+    assert!(rt; is_passed_over(alloc, steps)?, "too many steps");
     Ok(())
 }
 
@@ -182,7 +194,7 @@ fn what_is_usable_is_taken_from_the_first(rt: HostRuntime) -> Result<(), Fail> {
         "step 3 by plus_unit_back(): 0g entails (0g + 0g) at g;",
     )?;
     let mut tape = Tape::new(alloc, 10_000)?;
-    let status = fill(alloc, in_front(alloc, steps)?, &mut tape)?;
+    let status = fill_with(alloc, steps, &mut tape)?;
     assert_eq!(rt; status, Status::Done);
     assert!(rt; tape.taken().ends_with(b"( 0g + 0g ) at g ;\nend\n"));
     assert!(rt; tape.taken().len() < 400);
