@@ -1,7 +1,9 @@
 // Filling the gaps of a file, over its bytes.
-ghost use Rattle.std.specs.Prelude.{◌≡◌, ℕ, List, None, IfOk};
+ghost use Rattle.std.specs.Prelude.{◌≡◌, ◌≤◌, ℕ, List, None, IfErr, IfOk};
 ghost use Rattle.model_files.specs.Sizes.{TheoryIsSmall};
 ghost use Rattle.model_files.specs.FileFaults.{IsWellFormedTheory};
+ghost use Rattle.model_files.specs.FileLimits.{step_count};
+ghost use Rattle.model_filling.specs.Filled.{IsFilled, WalkAll, all_filled, filled_limit};
 ghost use Rattle.model_filling.specs.Offers.{Voice};
 ghost use Rattle.model_grammar.specs.TheoryWriting.{theory_text};
 ghost use Rattle.model_answers.specs.Texts.{theory_limit};
@@ -16,13 +18,44 @@ use crate::checks::{Ending, failure, gap, let_go, no_proof};
 use crate::file::read_file;
 use crate::replies::{Reply, answered, reported};
 use crate::status::Status;
-use boxed_fillers::{FillFault, fill_theory};
+use boxed_fillers::FillFault;
 use dom_terms::OutOfMemory;
 use fault_report::Report;
 use std::alloc::Global;
 use step_filler::Filler;
 use theory_syntax::Theory;
 use theory_writing::write_theory;
+
+/// The theory with its gaps filled: the same, with the filled proof of each procedure in place of
+/// its own. For each gap the fillers are asked in their order, until one has something usable; what
+/// they offer is checked. The first place that fails comes exactly where there is one, with the
+/// procedure and the step as they are counted in the theory handed in: Fails for a written step
+/// that, renumbered, is no instance of its rule, Gap for a gap for which nobody offers something
+/// usable, and NoProof where the filled proof doesn't end in the procedure's own triple. Limit
+/// comes exactly where no place fails and the filled theory passes that limit, of its steps or else
+/// of the bytes of its text. OutOfMemory comes only where memory is refused. Whatever comes, each
+/// filler was asked some times or not at all, and its offers are as before.
+pub fn fill_theory(
+    alloc: Global,
+    theory: &Theory,
+    fillers: &mut Vec<Box<dyn Filler>>,
+) -> Result<Theory, FillFault>
+    requires small { TheoryIsSmall (theory_of theory.now) }
+    requires formed { IsWellFormedTheory (theory_of theory.now) }
+    requires few { step_count (theory_of theory.now).procedures ≤ 65535 }
+    ensures filled { IfOk result (λ t. IsFilled (theory_of theory.now)
+        (voices_of turn offers fillers.old.items) (theory_of t)) }
+    ensures turns { IfOk result (λ t. WalkAll (theory_of theory.now) 1
+        (theory_of theory.now).procedures (voices_of turn offers fillers.old.items)
+        (all_filled (theory_of t).procedures (voices_of turn offers fillers.new.items))) }
+    ensures within { IfOk result (λ t. filled_limit (theory_of t) ≡ None) }
+    ensures asked { WereAsked (voices_of turn offers fillers.old.items)
+        (voices_of turn offers fillers.new.items) }
+    ensures refused { IfErr result (Refuses (theory_of theory.now)
+        (voices_of turn offers fillers.old.items)) }
+{
+    boxed_fillers::fill_theory(alloc, theory, fillers)
+}
 
 // The answer with the text of a filled theory.
 fn written(alloc: Global, filled: &Theory) -> Result<Reply, OutOfMemory>

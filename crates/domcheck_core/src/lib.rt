@@ -29,9 +29,9 @@ mod status;
 mod texts;
 
 use answers::answer_words;
-pub use boxed_fillers::{FillFault, fill_theory};
+pub use boxed_fillers::FillFault;
 pub use checks::check_bytes;
-pub use fills::fill_bytes;
+pub use fills::{fill_bytes, fill_theory};
 use outside_io::{Library, Sink, write_all_of};
 use replies::Refusal;
 pub use replies::Reply;
