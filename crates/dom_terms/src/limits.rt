@@ -51,4 +51,6 @@ pub enum LimitKind {
     Number,
     /// The calls that have not returned.
     Depth,
+    /// The commands, but for skip and blocks, of one whose weakest precondition is computed.
+    Straight,
 }

@@ -12,7 +12,6 @@ use Rattle.model_text.specs.Lexemes.{Lexeme}
 use Rattle.model_text.specs.Nesting.{token_limit}
 use Rattle.model_grammar.specs.Writing.{text_of}
 use Rattle.model_grammar.specs.TheoryWriting.{step_line, all_lexemes}
-use Rattle.model_filling.specs.OfferLimits.{offer_limits}
 
 -- each integer of the term is in the range of a literal
 abbrev pub integers_fit : Term → Bool
@@ -48,7 +47,7 @@ offer_lexemes version steps = all_lexemes (map (step_line version) steps)
 -- that have literals
 pub record IsSized (version : ℕ) (steps : List (StepOf Named)) : Type 0 where
   pub some : 1 ≤ length steps
-  pub few : length steps ≤ offer_limits.steps
-  pub short : length (text_of (offer_lexemes version steps)) ≤ offer_limits.bytes
+  pub few : length steps ≤ standard_limits.offer_steps
+  pub short : length (text_of (offer_lexemes version steps)) ≤ standard_limits.offer_bytes
   pub shallow : token_limit standard_limits.file_nesting 0 (offer_lexemes version steps) ≡ None
   pub integers : list_all step_integers_fit steps ≡ true

@@ -2,10 +2,11 @@
 -- meaning of formulas and programs has none of them; they bound files, documents and runs.
 use Rattle.std.specs.Prelude.{ℕ, ℤ, pos, negsuc}
 
--- the counted quantities: those of texts and files, and from nodes on those of runs
+-- the counted quantities: those of texts and files, from nodes on those of runs, and at last that
+-- of commands whose weakest precondition is computed
 pub data LimitKind : Type 0 where
   file_limit nesting_limit text_limit variables_limit steps_limit : LimitKind
-  nodes_limit identifier_limit number_limit depth_limit : LimitKind
+  nodes_limit identifier_limit number_limit depth_limit straight_limit : LimitKind
 
 -- the most that each may be
 pub record Limits : Type 0 where
@@ -26,6 +27,11 @@ pub record Limits : Type 0 where
   -- the number of a step, a premise or the version as a file writes it, and the fuel of a run
   pub numeral : ℕ
   pub fuel : ℕ
+  -- commands, but for skip and blocks, of one whose weakest precondition is computed
+  pub straight : ℕ
+  -- steps of an offer of an assistant, and bytes of its text
+  pub offer_steps : ℕ
+  pub offer_bytes : ℕ
 
 -- the limits of the language
 abbrev pub standard_limits : Limits
@@ -42,6 +48,9 @@ standard_limits = record {
   depth = 10000;
   numeral = 4294967295;
   fuel = 1000000;
+  straight = 64;
+  offer_steps = 10000;
+  offer_bytes = 1048576;
 }
 
 -- the greatest and the least integer

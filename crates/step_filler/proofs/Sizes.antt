@@ -14,7 +14,7 @@ use Rattle.model_documents.specs.Printed.{escaped_byte, escaped, quoted}
 use Rattle.model_grammar.specs.Words.{the, ◌⌢◌}
 use Rattle.model_grammar.specs.Writing.{printed, spaced, text_of, var_lexemes, term_lexemes, braced, bracketed, command_lexemes}
 use Rattle.model_grammar.specs.TheoryWriting.{star_sign, at_sign, into_sign, quantified, formula_lexemes, sort_lexemes, data_sort_lexemes, reason_lexemes, judgement_lexemes, step_line}
-use Rattle.model_filling.specs.OfferLimits.{offer_limits}
+use Rattle.model_limits.specs.Limits.{standard_limits}
 use Rattle.model_filling.specs.Sizes.{offer_lexemes, IsSized}
 use Rattle.assistant_laws.specs.Plans.{Plan, steps_of}
 use Rattle.assistant_laws.specs.Proposals.{Proves}
@@ -267,8 +267,8 @@ steps-bytes version (step ∷ steps) = omega (
 )
 
 -- WHAT IS GIVEN
-not-too-many : (steps : List (StepOf Named)) → length steps ≤ offer_limits.steps
-    → sum_by weight_of steps ≤ offer_limits.bytes → are_too_many steps ≡ false
+not-too-many : (steps : List (StepOf Named)) → length steps ≤ standard_limits.offer_steps
+    → sum_by weight_of steps ≤ standard_limits.offer_bytes → are_too_many steps ≡ false
 not-too-many steps few short = grind (arith, nat_tests, few, short)
 
 pub room-for : (version : ℕ) (steps : List (StepOf Named)) → IsSized version steps
@@ -281,8 +281,8 @@ room-for version steps sized = not-too-many steps sized.few (omega (
 ))
 
 -- where the steps have room, all are given
-grown-whole : (xs ys : List (StepOf Named)) → length (xs ++ ys) ≤ offer_limits.steps
-    → sum_by weight_of (xs ++ ys) ≤ offer_limits.bytes → grown xs ys ≡ xs ++ ys
+grown-whole : (xs ys : List (StepOf Named)) → length (xs ++ ys) ≤ standard_limits.offer_steps
+    → sum_by weight_of (xs ++ ys) ≤ standard_limits.offer_bytes → grown xs ys ≡ xs ++ ys
 grown-whole xs [] few short = sym (append-nil xs)
 grown-whole xs (y ∷ ys) few short =
     ap (λ (b : Bool). cond b xs (grown (xs ++ y ∷ []) ys)) (not-too-many xs
@@ -324,18 +324,18 @@ given-sized-is-all version steps sized =
 
 -- how many there are at most
 within : (steps : List (StepOf Named)) → are_too_many steps ≡ false
-    → length steps ≤ offer_limits.steps
+    → length steps ≤ standard_limits.offer_steps
 within steps room = grind (arith, nat_tests, room)
 
-grown-few : (xs ys : List (StepOf Named)) → length xs ≤ suc offer_limits.steps
-    → length (grown xs ys) ≤ suc offer_limits.steps
+grown-few : (xs ys : List (StepOf Named)) → length xs ≤ suc standard_limits.offer_steps
+    → length (grown xs ys) ≤ suc standard_limits.offer_steps
 grown-few xs [] few = few
 grown-few xs (y ∷ ys) few = cases (are_too_many xs) refl (grown-few (xs ++ y ∷ []) ys)
   where
     cases : (b : Bool) → are_too_many xs ≡ b
-        → (length (xs ++ y ∷ []) ≤ suc offer_limits.steps
-        → length (grown (xs ++ y ∷ []) ys) ≤ suc offer_limits.steps)
-        → length (cond b xs (grown (xs ++ y ∷ []) ys)) ≤ suc offer_limits.steps
+        → (length (xs ++ y ∷ []) ≤ suc standard_limits.offer_steps
+        → length (grown (xs ++ y ∷ []) ys) ≤ suc standard_limits.offer_steps)
+        → length (cond b xs (grown (xs ++ y ∷ []) ys)) ≤ suc standard_limits.offer_steps
     cases true full more = few
     cases false room more = more (omega (arith, length-append xs (y ∷ []), within xs room))
 

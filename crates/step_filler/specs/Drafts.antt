@@ -4,7 +4,7 @@ use Rattle.std.specs.Prelude.{◌≡◌, ℕ, ◌+◌, ◌≤◌, ◌<◌, false
 use Rattle.model_shapes.specs.Values.{Name}
 use Rattle.model_formulas.specs.Formulas.{Named}
 use Rattle.model_commands.specs.Theories.{JudgementOf, by_rule, StepOf}
-use Rattle.model_filling.specs.OfferLimits.{offer_limits}
+use Rattle.model_limits.specs.Limits.{standard_limits}
 use Rattle.assistant_laws.specs.Plans.{Plan, last_number, steps_of}
 use Rattle.theory_syntax.specs.Judgements.{step_of}
 use Rattle.step_filler.specs.declared.drafts.Draft.{Draft}
@@ -28,12 +28,12 @@ Leaves room taken left = MatchOption left (room < taken) (λ rest. rest + taken 
 -- numbers of 32 bits suffice, and the room is what the steps leave
 abbrev pub IsReady : Draft → Type 0
 IsReady draft = (draft.first ≤ 4000000000)
-    × Leaves offer_limits.bytes (sum_by weight_of (drafted draft)) draft.room
+    × Leaves standard_limits.offer_bytes (sum_by weight_of (drafted draft)) draft.room
 
 -- the next step has the number, and so much room
 abbrev pub IsPlace : Draft → ℕ → ℕ → Type 0
 IsPlace draft number room = (are_too_many (drafted draft) ≡ false) × (number ≡ next draft)
-    × (room + sum_by weight_of (drafted draft) ≡ offer_limits.bytes)
+    × (room + sum_by weight_of (drafted draft) ≡ standard_limits.offer_bytes)
 
 -- from the one to the other these steps were added, and further ones come after the other as they
 -- would after the one and these

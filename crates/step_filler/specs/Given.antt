@@ -5,14 +5,14 @@ use Rattle.std.specs.Prelude.{ℕ, Bool, cond, ◌||◌, nat_lt, List, [], ◌�
 use Rattle.std.specs.Option.{option_map}
 use Rattle.model_formulas.specs.Formulas.{Named}
 use Rattle.model_commands.specs.Theories.{StepOf}
-use Rattle.model_filling.specs.OfferLimits.{offer_limits}
+use Rattle.model_limits.specs.Limits.{standard_limits}
 use Rattle.assistant_laws.specs.Plans.{Plan, steps_of}
 use Rattle.step_filler.specs.Weights.{weight_of}
 
 -- the steps pass a size of an offer
 abbrev pub are_too_many : List (StepOf Named) → Bool
-are_too_many steps = nat_lt offer_limits.steps (length steps)
-    || nat_lt offer_limits.bytes (sum_by weight_of steps)
+are_too_many steps = nat_lt standard_limits.offer_steps (length steps)
+    || nat_lt standard_limits.offer_bytes (sum_by weight_of steps)
 
 -- steps and further ones after them, until they pass a size
 abbrev pub grown : List (StepOf Named) → List (StepOf Named) → List (StepOf Named)
