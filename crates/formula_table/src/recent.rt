@@ -5,7 +5,8 @@ ghost use Rattle.std.specs.Prelude.{◌<◌};
 const SLOTS: usize = 512;
 
 /// For sums over rows the places where such rows were found last, and the place found last of all.
-/// What stands there is compared before it is taken, so that nothing is asked of a sum or of a place.
+/// What stands there is compared before it is taken, so that nothing is asked of a sum or of a
+/// place.
 #[derive(Drop)]
 pub(crate) struct Recent {
     places: [u32; SLOTS],

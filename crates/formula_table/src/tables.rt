@@ -193,8 +193,8 @@ impl Table {
         sets::add_name(&mut self.names, name)
     }
 
-    /// The number of the term over the name, which is added where it isn't there. It is sought first
-    /// where one with such a name was found last, and after the one found last.
+    /// The number of the term over the name, which is added where it isn't there. It is sought
+    /// first where one with such a name was found last, and after the one found last.
     #[inline(always)]
     pub(crate) fn add_named(&mut self, name: &str, kind: Named) -> Result<u32, OutOfMemory>
         ensures grows { TermsGrow self.old self.new }

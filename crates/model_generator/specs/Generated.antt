@@ -1,5 +1,5 @@
--- Needn't be believed: a law says that the text of `make N` is what is printed for it. The generated
--- theory as a value: N procedures, each of which makes one node, with their proofs.
+-- Needn't be believed: a law says that the text of `make N` is what is printed for it. The
+-- generated theory as a value: N procedures, each of which makes one node, with their proofs.
 use Rattle.std.specs.Prelude.{ℕ, zero, suc, ◌+◌, List, [], ◌∷◌, ◌++◌, codes}
 use Rattle.std.specs.Fmt.{decimal}
 use Rattle.model_shapes.specs.Sorts.{forest, grove, shape, value, node_sort, list_sort}

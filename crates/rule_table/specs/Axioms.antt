@@ -95,7 +95,8 @@ module _ (letters : Letters) where
   -- a hole of the sort h, and the parent in what is left where the hole is empty
   abbrev before_move : DataSort → Formula → Formula → Formula
   before_move h U p =
-      (application h (empty h ⊸ application tree K (node_with p)) U and (E equals I)) and (F equals J)
+      (application h (empty h ⊸ application tree K (node_with p)) U and (E equals I))
+      and (F equals J)
 
   -- (K @t S#I[(P * <T#J[Q]%M>)]%L)
   abbrev moved_last : Formula
