@@ -31,7 +31,7 @@ use Rattle.entailment_laws.proofs.Shared.{hole-Shaped}
 use Rattle.triple_laws.proofs.Here.{uses-here, lists-here}
 use Rattle.triple_laws.proofs.NodesMet.{NodeMet, node-met}
 use Rattle.triple_laws.proofs.OneStep.{Lands}
-use Rattle.weakest_laws.specs.Weakest.{MeetsWith}
+use Rattle.model_weakest.specs.Weakest.{MeetsWith}
 use Rattle.weakest_laws.specs.Table.{node_var, list_var, below, weakest}
 use Rattle.weakest_laws.proofs.Taking.{value-is, stands-for, value-of-sort, below-meets, closed-meets}
 use Rattle.weakest_laws.proofs.Cutting.{positive-node, positive-list}

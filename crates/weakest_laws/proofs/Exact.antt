@@ -25,8 +25,8 @@ use Rattle.model_machine.specs.Machine.{no_node, no_list, Piece, run, Move, beco
 use Rattle.model_machine.proofs.EachMove.{each-reading, each-creating, each-appending, each-removing, each-inserting}
 use Rattle.model_machine.proofs.Fine.{FineMove, move-fine}
 use Rattle.triple_laws.proofs.OneStep.{Lands}
-use Rattle.weakest_laws.specs.Weakest.{MeetsWith, MeetsWeakest}
-use Rattle.weakest_laws.specs.Straight.{goes_straight, is_straight}
+use Rattle.model_weakest.specs.Weakest.{MeetsWith, MeetsWeakest}
+use Rattle.model_weakest.specs.Straight.{goes_straight, is_straight}
 use Rattle.weakest_laws.specs.Table.{at, weakest, weakest_of}
 use Rattle.weakest_laws.proofs.Taking.{value-is, stands-for, taken, take}
 use Rattle.weakest_laws.proofs.Steps.{Well, rests, rested, steps, stepped, AtOnce, landed, lands}

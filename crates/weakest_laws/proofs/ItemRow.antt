@@ -28,7 +28,7 @@ use Rattle.model_machine.proofs.Fine.{move-fine}
 use Rattle.entailment_laws.proofs.Plain.{val-is}
 use Rattle.triple_laws.proofs.Finding.{number-in}
 use Rattle.triple_laws.proofs.Moving.{child-list}
-use Rattle.weakest_laws.specs.Weakest.{MeetsWith}
+use Rattle.model_weakest.specs.Weakest.{MeetsWith}
 use Rattle.weakest_laws.specs.Table.{at, str_var, list_var, node_var, int_var, among, anywhere, some_str, some_list, some_node, some_int, has_item, weakest}
 use Rattle.weakest_laws.proofs.Taking.{some-thing, taken, take, value-is, stands-for}
 use Rattle.weakest_laws.proofs.Cutting.{Cut, cut, node-Shaped, positive-node, positive-list, found-list, Child, child-at}

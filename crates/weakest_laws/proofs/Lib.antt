@@ -1,3 +1,4 @@
+pub mod Apart
 pub mod Taking
 pub mod Steps
 pub mod Cutting
@@ -16,3 +17,10 @@ pub mod InsertRow
 pub mod Exact
 pub mod WrittenRows
 pub mod WrittenTable
+pub mod Avoiding
+pub mod Putting
+pub mod RowsAvoid
+pub mod NewNames
+pub mod WrittenCommands
+pub mod NumberedNames
+pub mod WrittenExact

@@ -18,7 +18,7 @@ use Rattle.model_formulas.specs.Satisfaction.{Environment, Meets, IfTrees, choos
 use Rattle.entailment_laws.proofs.Pieces.{put_in}
 use Rattle.triple_laws.proofs.Moving.{emptied-WellFormed, nothing-Shaped, wide}
 use Rattle.triple_laws.proofs.NodesMet.{NodeMet, node-met}
-use Rattle.weakest_laws.specs.Weakest.{MeetsWith}
+use Rattle.model_weakest.specs.Weakest.{MeetsWith}
 use Rattle.weakest_laws.specs.Table.{at, str_var, list_var, below, moving, some_tree, taken_out}
 use Rattle.weakest_laws.proofs.Taking.{below-meets, value-is, stands-for}
 use Rattle.weakest_laws.proofs.Cutting.{Cut, positive-list, node-Shaped}

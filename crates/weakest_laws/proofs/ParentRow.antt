@@ -28,7 +28,7 @@ use Rattle.triple_laws.proofs.Finding.{parent_tree, found-in, child-found, paren
 use Rattle.triple_laws.proofs.Moving.{child-list, wide, split_at}
 use Rattle.triple_laws.proofs.NodesMet.{NodeMet, node-met}
 use Rattle.triple_laws.proofs.ReadAxioms.{no-parent-of}
-use Rattle.weakest_laws.specs.Weakest.{MeetsWith}
+use Rattle.model_weakest.specs.Weakest.{MeetsWith}
 use Rattle.weakest_laws.specs.Table.{at, str_var, list_var, among, anywhere, some_str, some_list, has_parent, weakest}
 use Rattle.weakest_laws.proofs.Taking.{some-thing, taken, take, value-is, stands-for}
 use Rattle.weakest_laws.proofs.Cutting.{Cut, cut, node-Shaped, positive-list, Root, root-of}

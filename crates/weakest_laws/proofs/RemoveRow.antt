@@ -28,7 +28,7 @@ use Rattle.entailment_laws.proofs.Pieces.{put_in}
 use Rattle.triple_laws.proofs.Finding.{parent_tree}
 use Rattle.triple_laws.proofs.Moving.{child-list, wide, split_at}
 use Rattle.triple_laws.proofs.OneStep.{Lands}
-use Rattle.weakest_laws.specs.Weakest.{MeetsWith}
+use Rattle.model_weakest.specs.Weakest.{MeetsWith}
 use Rattle.weakest_laws.specs.Table.{at, str_var, list_var, standing, and_tree, removed, some_tree, weakest}
 use Rattle.weakest_laws.proofs.Taking.{some-thing, value-is, stands-for}
 use Rattle.weakest_laws.proofs.Cutting.{Cut, cut, outside-Shaped, node-Shaped, positive-list, Root, root-of}

@@ -28,7 +28,7 @@ use Rattle.triple_laws.proofs.Finding.{found-in, listed-in}
 use Rattle.triple_laws.proofs.NodesMet.{NodeMet, node-met}
 use Rattle.triple_laws.proofs.OneStep.{Lands}
 use Rattle.entailment_laws.proofs.Pieces.{put_in}
-use Rattle.weakest_laws.specs.Weakest.{MeetsWith}
+use Rattle.model_weakest.specs.Weakest.{MeetsWith}
 use Rattle.weakest_laws.specs.Table.{anywhere}
 use Rattle.weakest_laws.proofs.Taking.{value-is}
 use Rattle.weakest_laws.proofs.Cutting.{Cut, outside-Shaped, node-Shaped}

@@ -14,7 +14,8 @@ use Rattle.model_shapes.specs.Values.{null, int}
 use Rattle.std.specs.Prelude.{negsuc}
 use Rattle.model_commands.specs.Commands.{assign, create_node, node_name, child_nodes, parent_node, list_item, append_child, remove_child, insert_before}
 use Rattle.weakest_laws.specs.Table.{weakest, below, appended, inserted}
-use Rattle.weakest_laws.specs.Written.{IsNew, Differ, node_of, str_of, list_of, int_of, tree_of, forest_of, grove_of, context_of, value_for, written_taking, written_name, written_children, written_parent, written_item, written_create, written_appended, written_removed, written_inserted, written_moving}
+use Rattle.weakest_laws.proofs.Apart.{IsNew, Differ}
+use Rattle.model_weakest.specs.Rows.{node_of, str_of, list_of, int_of, tree_of, forest_of, grove_of, context_of, value_for, written_taking, written_name, written_children, written_parent, written_item, written_create, written_appended, written_removed, written_inserted, written_moving}
 use Rattle.weakest_laws.proofs.WrittenRows.{Apart, AllApart, placed, plain-stays, under-one, NoneFree, put-in, put-below}
 
 same-names : (n m : Name) (s u : Sort) → logic m u ≡ logic n s → n ≡ m

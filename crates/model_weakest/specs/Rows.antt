@@ -1,23 +1,12 @@
--- Needn't be believed: the rows of the table as they are written, with a name for each variable
--- that a row brings, in the order in which it brings them. Laws say that they are those of the
--- table, whatever the names, if they differ and none of them stands free in the formula asked for.
-use Rattle.std.specs.Prelude.{◌≡◌, negsuc, List, [], ◌∷◌}
+-- The rows of the table of weakest preconditions, with a name for each variable that a row brings,
+-- in the order in which it brings them. PODS 2008 has such formulas for its commands.
+use Rattle.std.specs.Prelude.{negsuc}
 use Rattle.model_shapes.specs.Sorts.{Sort, value, shape, context, node_sort, list_sort, int_sort, str_sort, tree, forest, grove}
 use Rattle.model_shapes.specs.Values.{Name, null, int}
 use Rattle.model_terms.specs.Variables.{Var, logic}
 use Rattle.model_terms.specs.Terms.{Term, literal, variable}
 use Rattle.model_terms.specs.Stores.{ProgVar, sort_of}
 use Rattle.model_formulas.specs.Formulas.{Named, whole, truth, conjunction, disjunction, existential, universal, equality, at_most, empty, bare_hole, node_formula, one_tree, one_root, concatenation, grove_sum, grove_sum_hole, application, hole_adjoint, context_adjoint, same_as, length_is, value_meets}
-
--- the name is none of these
-abbrev pub IsNew : Name → List Name → Type 0
-IsNew name [] = Unit
-IsNew name (other ∷ others) = (name ≡ other → ⊥) × IsNew name others
-
--- no two of these are equal
-abbrev pub Differ : List Name → Type 0
-Differ [] = Unit
-Differ (name ∷ names) = IsNew name names × Differ names
 
 -- a variable of the sort
 abbrev pub of_sort : Sort → Name → Var

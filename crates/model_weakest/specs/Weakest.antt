@@ -1,6 +1,5 @@
--- Needn't be believed: the program's promise doesn't speak of it. What it is to meet the weakest
--- precondition of a command, as PODS 2008 reads it: not a formula, but what the runs of the machine
--- say.
+-- What it is to meet the weakest precondition of a command, as PODS 2008 reads it: not a formula, but
+-- what the runs of the machine say.
 use Rattle.std.specs.Prelude.{List}
 use Rattle.model_shapes.specs.Sorts.{shape, grove}
 use Rattle.model_shapes.specs.Trees.{Trees}

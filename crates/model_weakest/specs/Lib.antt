@@ -1,0 +1,4 @@
+pub mod Weakest
+pub mod Straight
+pub mod Rows
+pub mod Written
