@@ -1,0 +1,4 @@
+pub mod Faults
+pub mod NewNames
+pub mod PutTerm
+pub mod Rows
