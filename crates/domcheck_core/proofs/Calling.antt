@@ -102,3 +102,12 @@ reads name xs k p g e words values h =
           (p.2 ∙ ap (λ (z : Procedure). Some (procedure_of z)) here)
           ∙ ap (λ (z : Option (List Value)). option_map (λ vs. (procedure_of g, vs)) z) (sym h),
     )
+
+-- the procedure at the place is the first of the name
+pub asked : (name : List ℕ) (xs : List Procedure) (k : ℕ) → IsPlaceOf name xs k → (g : Procedure)
+    → Some g ≡ slice_get xs k
+    → procedure_named name (map procedure_of xs) ≡ Some (procedure_of g)
+asked name xs k p g e =
+    let same : Some p.0 ≡ Some g = sym p.1 ∙ sym e in
+    let here : p.0 ≡ g = cc in
+    p.2 ∙ ap (λ (z : Procedure). Some (procedure_of z)) here

@@ -15,7 +15,11 @@ few_tokens bytes =
     let few = few_from bytes (characters bytes) (suc (length (characters bytes))) 0 in
     omega (arith, few, characters-le bytes, length-le-encodes (characters bytes))
 
+-- a text has at most one lexeme more than bytes
+pub lexemes-below : (bytes : List ℕ) → length (lexemes_of bytes) ≤ length bytes + 1
+lexemes-below bytes = omega (arith, few_tokens bytes, length-map (tokens_of bytes) lexeme_of)
+
 -- few bytes have few lexemes
 pub few_lexemes : (bytes : List ℕ) → length bytes ≤ standard_limits.file_bytes
     → length (lexemes_of bytes) < 4294967295
-few_lexemes bytes h = omega (arith, few_tokens bytes, length-map (tokens_of bytes) lexeme_of)
+few_lexemes bytes h = omega (arith, lexemes-below bytes)

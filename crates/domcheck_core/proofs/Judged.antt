@@ -1,6 +1,11 @@
 -- What follows from an answer: the clauses of the calls.
-use Rattle.std.proofs.Common.{◌≡◌, ◌∙◌, inl, ℕ, ◌<◌, true, List, Option, Some, None, option_map, refl, sym, ap, subst, length, Result, Ok, Err, IfOk}
-use Rattle.model_commands.specs.Theories.{Theory}
+use Rattle.std.proofs.Common.{◌≡◌, ◌∙◌, inl, ℕ, ◌+◌, ◌≤◌, ◌<◌, ◌^◌, true, List, Option, Some, None, option_map, refl, sym, ap, subst, length, Result, Ok, Err, IfOk, arith}
+use Rattle.model_shapes.specs.Values.{Name}
+use Rattle.model_formulas.specs.Formulas.{Named}
+use Rattle.model_commands.specs.Theories.{ProcedureOf, Theory, procedures_of}
+use Rattle.model_files.proofs.WellFormedTheories.{well-formed-bodies}
+use Rattle.model_weakest.specs.Written.{new_sorts, new_variables, written}
+use Rattle.weakest_laws.proofs.WrittenExact.{written-exact}
 use Rattle.dom_terms.specs.declared.limits.LimitKind as own
 use Rattle.outside_io.specs.Causes.{Told}
 use Rattle.triple_laws.proofs.Theories.{accepted_theories_hold}
@@ -12,17 +17,19 @@ use Rattle.model_grammar.specs.TheoryWriting.{theory_lines}
 use Rattle.logic_text.proofs.Utf8Lemmas.{lines_literals}
 use Rattle.filled_theory_laws.proofs.FileTexts.{filled-file}
 use Rattle.model_limits.specs.Limits.{standard_limits}
-use Rattle.model_answers.specs.Words.{Request, check, fill, run, make, trial}
+use Rattle.model_answers.specs.Words.{Request, check, fill, wp, run, make, trial}
 use Rattle.model_text.specs.Lexemes.{Lexeme}
 use Rattle.model_limits.specs.Limits.{LimitKind, file_limit}
 use Rattle.model_answers.specs.Texts.{IsFile}
-use Rattle.domcheck_core.specs.Answers.{Books, Answer, limit_answer, Unread, over_limit, NoFile, no_file, judged, PlaceAnswer, CheckVerdict, says_yes, says_no, CheckAnswer, FillVerdict, says_filled, fills_too_much, cannot_fill, FillAnswer, DocumentAnswer, IsCalled, NotCalled, RunAnswer, not_run, not_called, is_called, IsAnswer, checked, filled, ran, IsToldBook, IsTold}
+use Rattle.domcheck_core.specs.Answers.{Books, Answer, limit_answer, Unread, over_limit, NoFile, no_file, judged, PlaceAnswer, CheckVerdict, says_yes, says_no, CheckAnswer, FillVerdict, says_filled, fills_too_much, cannot_fill, FillAnswer, PreconditionAnswer, has_none, has_one, WpVerdict, not_there, is_there, WpAnswer, DocumentAnswer, IsCalled, NotCalled, RunAnswer, not_run, not_called, is_called, IsAnswer, checked, filled, preconditioned, ran, IsToldBook, IsTold}
 use Rattle.domcheck_core.specs.Books.{IsReply}
-use Rattle.domcheck_core.specs.Clauses.{OfFile, IsSoundFile, OfGaps, IsFilledFile, TookFilled, ExactlyWhere, BadWordsExactly, Says, IsAnswered, Wrote}
+use Rattle.domcheck_core.specs.Clauses.{OfFile, IsSoundFile, OfGaps, IsFilledFile, TookFilled, OfBody, IsPrecondition, TookPrecondition, NotThere, ExactlyWhere, BadWordsExactly, Says, IsAnswered, Wrote}
 use Rattle.outside_io.specs.Pieces.{Took}
+use Rattle.domcheck_core.specs.Preconditions.{StandsInFile}
 use Rattle.domcheck_core.proofs.Tested.{large_text}
-use Rattle.domcheck_core.proofs.OneAnswer.{not_file, not_both_called, told_of, one_answer}
-use Rattle.domcheck_core.proofs.Statuses.{document_status, AllOf, all_no_file, all_places, all_limits, is_of_called, speaks, reply_speaks}
+use Rattle.domcheck_core.proofs.Weakest.{named-post, sorted-body, few-numbers, straight-body}
+use Rattle.domcheck_core.proofs.OneAnswer.{not_file, not_both_there, not_both_called, told_of, one_answer}
+use Rattle.domcheck_core.proofs.Statuses.{document_status, AllOf, all_no_file, all_places, all_limits, all_bodies, is_of_called, speaks, reply_speaks}
 use Rattle.domcheck_core.specs.declared.status.Status.{Status}
 use Rattle.domcheck_core.specs.declared.status.Status.TheVariants as status
 
@@ -52,6 +59,9 @@ no_yes_left e = cc
 
 no_yes_fails : IsNoYes status.StepFails
 no_yes_fails e = cc
+
+no_yes_bent : IsNoYes status.NotStraight
+no_yes_bent e = cc
 
 no_yes_file : (bytes : List ℕ) (s : Status) (output : List ℕ) → NoFile bytes s output → IsNoYes s
 no_yes_file bytes s output a =
@@ -94,6 +104,41 @@ module _ (voices : List Voice) (bytes : List ℕ) where
   filled_file s output (no_file a) e utf8 = absurd (no_yes_file bytes s output a e)
   filled_file s output (judged t file v) e utf8 = filled_verdict t s output file v e utf8
 
+-- WHAT IS PRINTED for a procedure is its weakest precondition
+module _ (procedure : Name) (bytes : List ℕ) where
+  printed_verdict : (theory : Theory) (s : Status) (output : List ℕ) → IsFile bytes theory
+      → WpVerdict procedure theory s output → s ≡ status.Done
+      → IsPrecondition procedure bytes output
+  printed_verdict theory s output file (not_there e) q = absurd cc
+  printed_verdict theory s output file (is_there f e (has_none d)) q =
+      absurd (subst (AllOf IsNoYes) d (all_bodies IsNoYes no_yes_bent no_yes_past f) q)
+  printed_verdict theory s output file (is_there f e (has_one names d new many)) q =
+      let stands : StandsInFile theory f = record {
+        bytes = bytes;
+        file = file;
+        name = procedure;
+        there = e;
+      } in
+      let few : 1 + length theory.logic + length names ≤ 2 ^ 64 =
+      omega (arith, many, few-numbers theory f stands) in (
+        theory,
+        f,
+        new_variables names (new_sorts f.body),
+        written names f.body f.post,
+        file,
+        e,
+        refl,
+        λ environment store proper roots shaped.
+            written-exact (procedures_of theory) (well-formed-bodies theory file.well_formed) f.body
+            (straight-body f d) (sorted-body theory f stands) theory.logic 1 names new few many
+            f.post (named-post theory f stands) environment store proper roots shaped,
+      )
+
+  pub printed : (s : Status) (output : List ℕ) → WpAnswer procedure bytes s output
+      → s ≡ status.Done → IsPrecondition procedure bytes output
+  printed s output (no_file a) q = absurd (no_yes_file bytes s output a q)
+  printed s output (judged t file v) q = printed_verdict t s output file v q
+
 -- the status and the line of a reply are those of the answer
 pub said : {R E : Type 0} (status_in : R → Status) (line_in : R → List ℕ)
     (Answer : Status → List ℕ → Type 0) (s : Status) (output : List ℕ) (r : Result R E)
@@ -120,6 +165,9 @@ no_words_ill e = cc
 
 no_words_bad : AreNoWords status.BadText
 no_words_bad e = cc
+
+no_words_bent : AreNoWords status.NotStraight
+no_words_bent e = cc
 
 -- A REPLY, where what it needs is told
 module _ (voices : List Voice) (books : Books) where
@@ -149,6 +197,9 @@ module _ (voices : List Voice) (books : Books) where
   answer (Some (fill file)) s output a told =
       filled file told.0 told.1
       (subst (λ (z : List ℕ). FillAnswer voices z s output) (a.2 told.0 told.1) a.1)
+  answer (Some (wp file procedure)) s output a told =
+      preconditioned file procedure told.0 told.1
+      (subst (λ (z : List ℕ). WpAnswer procedure z s output) (a.2 told.0 told.1) a.1)
   answer (Some (run file procedure document fuel arguments)) s output a told =
       ran file procedure document fuel arguments told.0 told.1
       (told_run document told.0 procedure fuel arguments a.1.0 s output a.1.2 told.2
@@ -193,6 +244,7 @@ module _ (voices : List Voice) (books : Books) where
       by_status status.OutOfMemory e h = absurd cc
       by_status status.ReadFault e h = absurd cc
       by_status status.WriteFault e h = absurd cc
+      by_status status.NotStraight e h = h
 
   -- a fact of the told bytes of a file
   pub on_file : (r : Option Request) (s : Status) (output : List ℕ) (P : List ℕ → Type 0)
@@ -202,6 +254,7 @@ module _ (voices : List Voice) (books : Books) where
   on_file (Some (make n)) s output P f a = tt
   on_file (Some (trial n)) s output P f a = tt
   on_file (Some (fill file)) s output P f a = tt
+  on_file (Some (wp file procedure)) s output P f a = tt
   on_file (Some (run file procedure document fuel arguments)) s output P f a = tt
   on_file (Some (check file)) s output P f a = λ bytes told.
       f bytes (subst (λ (z : List ℕ). CheckAnswer z s output) (a.2 bytes told) a.1)
@@ -214,12 +267,51 @@ module _ (voices : List Voice) (books : Books) where
   on_gaps (Some (make n)) s output before after a utf8 took = tt
   on_gaps (Some (trial n)) s output before after a utf8 took = tt
   on_gaps (Some (check file)) s output before after a utf8 took = tt
+  on_gaps (Some (wp file procedure)) s output before after a utf8 took = tt
   on_gaps (Some (run file procedure document fuel arguments)) s output before after a utf8 took = tt
   on_gaps (Some (fill file)) s output before after a utf8 took = λ bytes told e. (
     output,
     filled_file voices bytes s output
         (subst (λ (z : List ℕ). FillAnswer voices z s output) (a.2 bytes told) a.1) e utf8,
     took,
+  )
+
+  -- and of those of a file whose procedure is asked for
+  pub on_body : (r : Option Request) (s : Status) (output : List ℕ) (before after : Option (List ℕ))
+      → IsReply voices r books s output → Took before after output
+      → OfBody r books
+      (λ procedure bytes. s ≡ status.Done → TookPrecondition procedure bytes before after)
+  on_body None s output before after a took = tt
+  on_body (Some (make n)) s output before after a took = tt
+  on_body (Some (trial n)) s output before after a took = tt
+  on_body (Some (check file)) s output before after a took = tt
+  on_body (Some (fill file)) s output before after a took = tt
+  on_body (Some (run file procedure document fuel arguments)) s output before after a took = tt
+  on_body (Some (wp file procedure)) s output before after a took = λ bytes told e. (
+    output,
+    printed procedure bytes s output
+        (subst (λ (z : List ℕ). WpAnswer procedure z s output) (a.2 bytes told) a.1) e,
+    took,
+  )
+
+  -- bad words where a precondition is asked for
+  no_words_printed : (theory : Theory) (f : ProcedureOf Named) (s : Status) (output : List ℕ)
+      → PreconditionAnswer theory f s output → AreNoWords s
+  no_words_printed theory f s output (has_none e) =
+      subst (AllOf AreNoWords) e (all_bodies AreNoWords no_words_bent no_words_past f)
+  no_words_printed theory f s output (has_one names e new many) = λ q. cc
+
+  words_of_wp : (bytes procedure : List ℕ) (s : Status) (output : List ℕ)
+      → WpAnswer procedure bytes s output
+      → ExactlyWhere (NotThere bytes procedure) s status.BadWords
+  words_of_wp bytes name s output (no_file n) = (
+    λ e. absurd (all_no_file AreNoWords no_words_past no_words_ill bytes s output no_words_bad n e),
+    λ c. absurd (not_file bytes s output c.0 c.1 n),
+  )
+  words_of_wp bytes name s output (judged t file (not_there e)) = (λ q. (t, file, e), λ c. inl refl)
+  words_of_wp bytes name s output (judged t file (is_there f e a)) = (
+    λ q. absurd (no_words_printed t f s output a q),
+    λ c. absurd (not_both_there name bytes t c.0 f file c.1 e c.2),
   )
 
   -- bad words of a run
@@ -248,6 +340,9 @@ module _ (voices : List Voice) (books : Books) where
   bad_words_exactly (Some (trial n)) s output a = tt
   bad_words_exactly (Some (check file)) s output a = tt
   bad_words_exactly (Some (fill file)) s output a = tt
+  bad_words_exactly (Some (wp file procedure)) s output a =
+      λ bytes told. words_of_wp bytes procedure s output
+      (subst (λ (z : List ℕ). WpAnswer procedure z s output) (a.2 bytes told) a.1)
   bad_words_exactly (Some (run file procedure document fuel arguments)) s output a =
       λ bytes told. words_of_run bytes procedure fuel arguments (Some a.1.0) s output
       (subst (λ (z : List ℕ). RunAnswer (Some a.1.0) z procedure fuel arguments s output)

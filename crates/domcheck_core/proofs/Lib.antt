@@ -14,3 +14,8 @@ pub mod Verdicts
 pub mod FilledPlaces
 pub mod Fillings
 pub mod Trials
+pub mod Headers
+pub mod BodySizes
+pub mod Straights
+pub mod NewNames
+pub mod Weakest

@@ -1,11 +1,11 @@
 -- A request has at most one answer.
 use Rattle.std.proofs.Common.{◌≡◌, ℕ, zero, suc, ◌<◌, List, Option, Some, None, option_map, refl, sym, ap, ◌∙◌, subst, arith}
-use Rattle.model_shapes.specs.Values.{Value}
+use Rattle.model_shapes.specs.Values.{Name, Value}
 use Rattle.model_terms.specs.Terms.{Term}
 use Rattle.model_limits.specs.Limits.{LimitKind}
 use Rattle.model_limits.specs.FirstOf.{or_else}
 use Rattle.model_formulas.specs.Formulas.{Named}
-use Rattle.model_commands.specs.Theories.{ProcedureOf, StepOf, Theory, Reason, by_rule}
+use Rattle.model_commands.specs.Theories.{ProcedureOf, StepOf, Theory, Reason, by_rule, procedure_named}
 use Rattle.model_files.specs.FileFaults.{FileFault, first_file_fault}
 use Rattle.rule_table.specs.Verdicts as verdicts
 use Rattle.rule_table.specs.Accepted.{Fault, BadPlace}
@@ -19,13 +19,15 @@ use Rattle.model_text.specs.Nesting.{lexemes_of}
 use Rattle.model_text.specs.FaultTokens.{IsFaultToken}
 use Rattle.model_documents.specs.Grammar.{SpellsGrove}
 use Rattle.model_grammar.specs.Theories.{SpellsTheory}
+use Rattle.model_weakest.specs.Written.{new_sorts, new_variables, written}
 use Rattle.model_answers.specs.Words.{Request}
 use Rattle.model_answers.specs.Arguments.{called}
 use Rattle.model_answers.specs.Texts.{limit_passed, theory_limit, IsFile}
-use Rattle.model_answers.specs.Output.{bad_text_line, bad_document_text_line, fail_line, no_proof_line, gap_line}
+use Rattle.model_answers.specs.Output.{bad_text_line, bad_document_text_line, fail_line, no_proof_line, gap_line, precondition_lines}
 use Rattle.proof_text.proofs.Exact.{one_theory}
 use Rattle.logic_text.proofs.Exact.{at_most_one}
-use Rattle.domcheck_core.specs.Answers.{Books, Answer, limit_answer, fault_answer, Unread, over_limit, spells_nothing, theory_refusal, NoFile, unread, refused, FileAnswer, no_file, judged, item_numbered, PlaceAnswer, has_gap, step_fails, has_no_proof, CheckVerdict, says_yes, says_no, CheckAnswer, FillVerdict, says_filled, fills_too_much, cannot_fill, FillAnswer, grove_answer, DocumentAnswer, no_document, is_document, IsCalled, NotCalled, RunAnswer, not_run, not_called, is_called, IsAnswer, bad_words, checked, filled, ran, made, tried, IsToldBook, IsTold}
+use Rattle.domcheck_core.specs.Answers.{Books, Answer, limit_answer, fault_answer, Unread, over_limit, spells_nothing, theory_refusal, NoFile, unread, refused, FileAnswer, no_file, judged, item_numbered, PlaceAnswer, has_gap, step_fails, has_no_proof, CheckVerdict, says_yes, says_no, CheckAnswer, FillVerdict, says_filled, fills_too_much, cannot_fill, FillAnswer, precondition_refusal, PreconditionAnswer, has_none, has_one, WpVerdict, not_there, is_there, WpAnswer, grove_answer, DocumentAnswer, no_document, is_document, IsCalled, NotCalled, RunAnswer, not_run, not_called, is_called, IsAnswer, bad_words, checked, filled, preconditioned, ran, made, tried, IsToldBook, IsTold}
+use Rattle.domcheck_core.proofs.NewNames.{one-list}
 use Rattle.domcheck_core.specs.declared.status.Status.{Status}
 
 -- values in options
@@ -237,6 +239,46 @@ module _ (voices : List Voice) where
       → FillAnswer voices bytes s o → FillAnswer voices bytes t p → Equal s o t p
   one_fill = one_file_answer (FillVerdict voices) one_filling
 
+-- WP
+one_precondition : (theory : Theory) (f : ProcedureOf Named) (s t : Status) (o p : List ℕ)
+    → PreconditionAnswer theory f s o → PreconditionAnswer theory f t p → Equal s o t p
+one_precondition theory f s t o p (has_none e) (has_none d) =
+    some_pair s t o p (precondition_refusal f) e d
+one_precondition theory f s t o p (has_none e) (has_one names d new many) =
+    absurd (some_none (s, o) (sym e ∙ d))
+one_precondition theory f s t o p (has_one names e new many) (has_none d) =
+    absurd (some_none (t, p) (sym d ∙ e))
+one_precondition theory f s t o p (has_one names e new many) (has_one others d newer more) = (
+  refl,
+  ap (λ (z : List Name). precondition_lines (new_variables z (new_sorts f.body))
+      (written z f.body f.post))
+      (one-list theory.logic 1 names others new newer (many ∙ sym more)),
+)
+
+one_there : (procedure : Name) (theory : Theory) (s t : Status) (o p : List ℕ)
+    → WpVerdict procedure theory s o → WpVerdict procedure theory t p → Equal s o t p
+one_there procedure theory s t o p (not_there e) (not_there d) = (refl, refl)
+one_there procedure theory s t o p (not_there e) (is_there g d b) =
+    absurd (some_none g (sym d ∙ e))
+one_there procedure theory s t o p (is_there f e a) (not_there d) =
+    absurd (some_none f (sym e ∙ d))
+one_there procedure theory s t o p (is_there f e a) (is_there g d b) =
+    one_precondition theory g s t o p
+    (subst (λ (z : ProcedureOf Named). PreconditionAnswer theory z s o)
+    (some_same f g (sym e ∙ d)) a) b
+
+pub one_wp : (procedure : Name) (bytes : List ℕ) (s t : Status) (o p : List ℕ)
+    → WpAnswer procedure bytes s o → WpAnswer procedure bytes t p → Equal s o t p
+one_wp procedure = one_file_answer (WpVerdict procedure) (one_there procedure)
+
+-- a file doesn't have a procedure and have it not
+pub not_both_there : (procedure : Name) (bytes : List ℕ) (t u : Theory) (f : ProcedureOf Named)
+    → IsFile bytes t → IsFile bytes u → procedure_named procedure t.procedures ≡ Some f
+    → procedure_named procedure u.procedures ≡ None → ⊥
+not_both_there procedure bytes t u f a b e d =
+    some_none f (sym e ∙ ap (λ (z : Theory). procedure_named procedure z.procedures)
+    (one_file bytes t u a b) ∙ d)
+
 -- RUN
 one_on_document : (theory : Theory) (f : ProcedureOf Named) (values : List Value) (fuel : ℕ)
     (bytes : List ℕ) (s t : Status) (o p : List ℕ) → DocumentAnswer theory f values fuel bytes s o
@@ -312,6 +354,10 @@ one_answer voices books r s o t p (checked file bytes e a) (checked again other 
 one_answer voices books r s o t p (filled file bytes e a) (filled again other f b) =
     let same : bytes ≡ other = some_same bytes other (sym e ∙ f) in
     one_fill voices other s t o p (subst (λ (z : List ℕ). FillAnswer voices z s o) same a) b
+one_answer voices books r s o t p (preconditioned file procedure bytes e a)
+    (preconditioned again name other f b) =
+    let same : bytes ≡ other = some_same bytes other (sym e ∙ f) in
+    one_wp procedure other s t o p (subst (λ (z : List ℕ). WpAnswer procedure z s o) same a) b
 one_answer voices books r s o t p
     (ran file procedure document fuel arguments bytes e a)
     (ran again procedure' document' fuel' arguments' other f b) =
@@ -341,5 +387,6 @@ told_of voices books r s o (made n) = tt
 told_of voices books r s o (tried n) = tt
 told_of voices books r s o (checked file bytes e a) = (bytes, e)
 told_of voices books r s o (filled file bytes e a) = (bytes, e)
+told_of voices books r s o (preconditioned file procedure bytes e a) = (bytes, e)
 told_of voices books r s o (ran file procedure document fuel arguments bytes e a) =
     (bytes, e, told_for_run books bytes procedure document fuel arguments s o a)

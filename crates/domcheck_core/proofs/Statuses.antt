@@ -1,8 +1,10 @@
 -- The statuses that an answer has.
 use Rattle.std.proofs.Common.{◌≡◌, ◌⊎◌, inl, inr, ℕ, Bool, true, false, List, Option, Some, None, refl, subst, lit<, option_map}
 use Rattle.std.specs.Prelude.{nat_le, Contains}
+use Rattle.model_shapes.specs.Sorts.{grove}
+use Rattle.model_shapes.specs.Tests.{same_data_sort}
 use Rattle.model_shapes.specs.Trees.{Trees}
-use Rattle.model_shapes.specs.Values.{Value}
+use Rattle.model_shapes.specs.Values.{Name, Value}
 use Rattle.model_formulas.specs.Formulas.{Named}
 use Rattle.model_terms.specs.Stores.{ProgVar}
 use Rattle.model_terms.specs.TermLimits.{or_else, unless}
@@ -11,17 +13,18 @@ use Rattle.model_machine.specs.Outcomes.{Outcome, ends, spends, passes_limit, ha
 use Rattle.model_documents.specs.Numbers.{Numbered, first_out_of_range, first_repeat}
 use Rattle.model_groves.specs.Sizes.{size}
 use Rattle.model_limits.specs.Limits.{standard_limits}
-use Rattle.model_answers.specs.Words.{Request, check, fill, run, make, trial}
-use Rattle.model_limits.specs.Limits.{LimitKind, nodes_limit}
+use Rattle.model_answers.specs.Words.{Request, check, fill, wp, run, make, trial}
+use Rattle.model_limits.specs.Limits.{LimitKind, nodes_limit, straight_limit}
 use Rattle.dom_terms.specs.declared.limits.LimitKind as own
-use Rattle.model_answers.specs.Output.{range_line, repeat_line}
+use Rattle.model_answers.specs.Output.{range_line, repeat_line, not_straight_sort_line, not_straight_line}
+use Rattle.model_weakest.specs.Straight.{first_not_straight, is_short}
 use Rattle.model_text.specs.Lexemes.{Lexeme}
 use Rattle.model_files.specs.FileFaults.{FileFault, first_file_fault}
 use Rattle.model_answers.specs.Texts.{limit_passed, theory_limit}
 use Rattle.rule_table.specs.Accepted.{Fault}
 use Rattle.model_filling.specs.Offers.{Voice}
 use Rattle.model_filling.specs.Filled.{filled_limit}
-use Rattle.domcheck_core.specs.Answers.{Books, IsAnswer, bad_words, made, tried, Answer, limit_answer, fault_answer, Unread, over_limit, spells_nothing, NoFile, unread, refused, FileAnswer, no_file, judged, PlaceAnswer, has_gap, step_fails, has_no_proof, CheckVerdict, CheckAnswer, FillAnswer, says_yes, says_no, FillVerdict, says_filled, fills_too_much, cannot_fill, outcome_answer, outcome_on, range_refusal, repeat_refusal, size_refusal, refusal, grove_answer, DocumentAnswer, no_document, is_document, RunAnswer, not_run, not_called, is_called}
+use Rattle.domcheck_core.specs.Answers.{Books, IsAnswer, bad_words, made, tried, Answer, limit_answer, fault_answer, Unread, over_limit, spells_nothing, NoFile, unread, refused, FileAnswer, no_file, judged, PlaceAnswer, has_gap, step_fails, has_no_proof, CheckVerdict, CheckAnswer, FillAnswer, says_yes, says_no, FillVerdict, says_filled, fills_too_much, cannot_fill, precondition_refusal, PreconditionAnswer, has_none, has_one, WpVerdict, not_there, is_there, WpAnswer, outcome_answer, outcome_on, range_refusal, repeat_refusal, size_refusal, refusal, grove_answer, DocumentAnswer, no_document, is_document, RunAnswer, not_run, not_called, is_called}
 use Rattle.domcheck_core.specs.Clauses.{file_statuses, statuses, ReadRose}
 use Rattle.domcheck_core.specs.Books.{IsReply}
 use Rattle.domcheck_core.specs.Numbers.{status_number}
@@ -35,7 +38,7 @@ AllOf P None = Unit
 AllOf P (Some answer) = P answer.0
 
 module _ (P : Status → Type 0) where
-  first_of : (a b : Option Answer) → AllOf P a → AllOf P b → AllOf P (or_else a b)
+  pub first_of : (a b : Option Answer) → AllOf P a → AllOf P b → AllOf P (or_else a b)
   first_of None b h k = k
   first_of (Some a) b h k = h
 
@@ -109,6 +112,60 @@ module _ (P : Status → Type 0) where
         → FillAnswer voices bytes s o → P s
     fill_answers voices = all_answers (FillVerdict voices) (fill_verdicts voices)
 
+-- BODIES
+module _ (P : Status → Type 0) where
+  all_unless : (b : Bool) (answer : Answer) → P answer.0 → AllOf P (unless b answer)
+  all_unless true answer h = tt
+  all_unless false answer h = h
+
+  all_named : {A : Type 0} (s : Status) (line : A → List ℕ) (found : Option A) → P s
+      → AllOf P (option_map {U = Answer} (λ a. (s, line a)) found)
+  all_named s line None h = tt
+  all_named s line (Some a) h = h
+
+  -- of each that keeps a procedure from having its weakest precondition printed
+  pub all_bodies : P status.NotStraight → ((kind : own.LimitKind) → P (status.Limit kind))
+      → (f : ProcedureOf Named) → AllOf P (precondition_refusal f)
+  all_bodies bent past f =
+      first_of P
+      (unless (same_data_sort f.sort grove) (status.NotStraight, not_straight_sort_line))
+      (or_else (option_map (λ c. (status.NotStraight, not_straight_line c))
+      (first_not_straight f.body)) (unless (is_short f.body) (limit_answer straight_limit)))
+      (all_unless (same_data_sort f.sort grove)
+      (status.NotStraight, not_straight_sort_line) bent)
+      (first_of P
+      (option_map (λ c. (status.NotStraight, not_straight_line c)) (first_not_straight f.body))
+      (unless (is_short f.body) (limit_answer straight_limit))
+      (all_named status.NotStraight not_straight_line (first_not_straight f.body) bent)
+      (all_unless (is_short f.body) (limit_answer straight_limit) (past _)))
+
+  -- what holds of the status of each answer to a file whose procedure is asked for
+  pub record HoldsOfBodies : Type 0 where
+    pub done : P status.Done
+    pub words : P status.BadWords
+    pub bent : P status.NotStraight
+    pub bad : P status.BadText
+    pub ill : P status.BadFile
+    pub past : (kind : own.LimitKind) → P (status.Limit kind)
+
+  module _ (holds : HoldsOfBodies) (procedure : Name) where
+    preconditions : (theory : Theory) (f : ProcedureOf Named) (s : Status) (o : List ℕ)
+        → PreconditionAnswer theory f s o → P s
+    preconditions theory f s o (has_none e) =
+        subst (AllOf P) e (all_bodies holds.bent holds.past f)
+    preconditions theory f s o (has_one names e new many) = holds.done
+
+    wp_verdicts : (theory : Theory) (s : Status) (o : List ℕ) → WpVerdict procedure theory s o
+        → P s
+    wp_verdicts theory s o (not_there e) = holds.words
+    wp_verdicts theory s o (is_there f e a) = preconditions theory f s o a
+
+    pub wp_answers : (bytes : List ℕ) (s : Status) (o : List ℕ) → WpAnswer procedure bytes s o
+        → P s
+    wp_answers bytes s o (no_file a) =
+        all_no_file P holds.past holds.ill bytes s o holds.bad a
+    wp_answers bytes s o (judged theory is v) = wp_verdicts theory s o v
+
 -- the status is one of a run that is called
 abbrev pub is_of_called : Status → Bool
 is_of_called status.StepFails = false
@@ -118,6 +175,7 @@ is_of_called status.GapLeft = false
 is_of_called status.OutOfMemory = false
 is_of_called status.ReadFault = false
 is_of_called status.WriteFault = false
+is_of_called status.NotStraight = false
 is_of_called s = true
 
 -- the status is one of a reply
@@ -141,6 +199,7 @@ speaks_called status.GapLeft e = refl
 speaks_called status.OutOfMemory e = e
 speaks_called status.ReadFault e = e
 speaks_called status.WriteFault e = e
+speaks_called status.NotStraight e = refl
 
 -- each answer there is has such a status
 abbrev IsOfCalled : Status → Type 0
@@ -160,7 +219,7 @@ unless_of_called true answer h = tt
 unless_of_called false answer h = h
 
 outcome_of_called : (results : List ProgVar) (o : Outcome) → AllOfCalled (outcome_answer results o)
-outcome_of_called results (ends steps values grove) = refl
+outcome_of_called results (ends steps values trees) = refl
 outcome_of_called results (has_fault kind steps command) = refl
 outcome_of_called results (spends steps config) = refl
 outcome_of_called results (passes_limit kind) = refl
@@ -205,6 +264,16 @@ file_speaks = record {
   past = λ kind. refl;
 }
 
+body_speaks : HoldsOfBodies Speaks
+body_speaks = record {
+  done = refl;
+  words = refl;
+  bent = refl;
+  bad = refl;
+  ill = refl;
+  past = λ kind. refl;
+}
+
 speaks_run : (read : Option (List ℕ)) (bytes procedure : List ℕ) (fuel : ℕ)
     (arguments : List (List ℕ)) (s : Status) (o : List ℕ)
     → RunAnswer read bytes procedure fuel arguments s o → speaks s ≡ true
@@ -231,6 +300,8 @@ module _ (voices : List Voice) where
   reply_speaks None books s o a = speaks_words books s o a
   reply_speaks (Some (check file)) books s o a = check_answers Speaks file_speaks a.0 s o a.1
   reply_speaks (Some (fill file)) books s o a = fill_answers Speaks file_speaks voices a.0 s o a.1
+  reply_speaks (Some (wp file procedure)) books s o a =
+      wp_answers Speaks body_speaks procedure a.0 s o a.1
   reply_speaks (Some (run file procedure document fuel arguments)) books s o a =
       speaks_run (Some a.1.0) a.0 procedure fuel arguments s o a.1.1
   reply_speaks (Some (make n)) books s o a = speaks_made n books s o a
@@ -257,6 +328,20 @@ file_possible = record {
   past = λ kind. (4, lit< tt, refl);
 }
 
+module _ (file procedure : List ℕ) where
+  abbrev PossibleOfBody : Status → Type 0
+  PossibleOfBody s = Contains (statuses (Some (wp file procedure))) (status_number s)
+
+  body_possible : HoldsOfBodies PossibleOfBody
+  body_possible = record {
+    done = (0, lit< tt, refl);
+    words = (1, lit< tt, refl);
+    bent = (8, lit< tt, refl);
+    bad = (2, lit< tt, refl);
+    ill = (3, lit< tt, refl);
+    past = λ kind. (4, lit< tt, refl);
+  }
+
 module _ (file procedure document : List ℕ) (fuel : ℕ) (arguments : List (List ℕ)) where
   abbrev Possible : Status → Type 0
   Possible s =
@@ -276,6 +361,7 @@ module _ (file procedure document : List ℕ) (fuel : ℕ) (arguments : List (Li
   possible_called status.OutOfMemory e = absurd cc
   possible_called status.ReadFault e = absurd cc
   possible_called status.WriteFault e = absurd cc
+  possible_called status.NotStraight e = absurd cc
 
   possible_run : (read : Option (List ℕ)) (bytes : List ℕ) (s : Status) (o : List ℕ)
       → RunAnswer read bytes procedure fuel arguments s o → Possible s
@@ -308,6 +394,9 @@ module _ (voices : List Voice) where
       check_answers PossibleOfFile file_possible a.0 s o a.1
   possible (Some (fill file)) books s o a =
       fill_answers PossibleOfFile file_possible voices a.0 s o a.1
+  possible (Some (wp file procedure)) books s o a =
+      wp_answers (PossibleOfBody file procedure) (body_possible file procedure) procedure a.0 s o
+      a.1
   possible (Some (run file procedure document fuel arguments)) books s o a =
       possible_run file procedure document fuel arguments (Some a.1.0) a.0 s o a.1.1
   possible (Some (make n)) books s o a = possible_made n books s o a
@@ -318,6 +407,7 @@ pub no_memory : (r : Option Request) → Contains (statuses r) (status_number st
 no_memory None = (1, lit< tt, refl)
 no_memory (Some (check file)) = (6, lit< tt, refl)
 no_memory (Some (fill file)) = (6, lit< tt, refl)
+no_memory (Some (wp file procedure)) = (5, lit< tt, refl)
 no_memory (Some (run file procedure document fuel arguments)) = (8, lit< tt, refl)
 no_memory (Some (make n)) = (1, lit< tt, refl)
 no_memory (Some (trial n)) = (1, lit< tt, refl)
@@ -326,6 +416,7 @@ pub no_sink : (r : Option Request) → Contains (statuses r) (status_number stat
 no_sink None = (2, lit< tt, refl)
 no_sink (Some (check file)) = (8, lit< tt, refl)
 no_sink (Some (fill file)) = (8, lit< tt, refl)
+no_sink (Some (wp file procedure)) = (7, lit< tt, refl)
 no_sink (Some (run file procedure document fuel arguments)) = (10, lit< tt, refl)
 no_sink (Some (make n)) = (2, lit< tt, refl)
 no_sink (Some (trial n)) = (2, lit< tt, refl)
@@ -335,6 +426,7 @@ pub no_book : (r : Option Request) (books : Books) (rose : List ℕ → Type 0)
 no_book None books rose h = absurd h
 no_book (Some (check file)) books rose h = (7, lit< tt, refl)
 no_book (Some (fill file)) books rose h = (7, lit< tt, refl)
+no_book (Some (wp file procedure)) books rose h = (6, lit< tt, refl)
 no_book (Some (run file procedure document fuel arguments)) books rose h = (9, lit< tt, refl)
 no_book (Some (make n)) books rose h = absurd h
 no_book (Some (trial n)) books rose h = absurd h

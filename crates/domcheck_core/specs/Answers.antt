@@ -1,12 +1,14 @@
 -- The answer to the words: the status and the output, one case for each row.
-use Rattle.std.specs.Prelude.{◌≡◌, ℕ, zero, suc, ◌*◌, nat_le, List, Option, Some, None, option_map, slice_get}
+use Rattle.std.specs.Prelude.{◌≡◌, ℕ, zero, suc, ◌*◌, nat_le, List, length, Option, Some, None, option_map, slice_get}
 use Rattle.model_shapes.specs.Trees.{Trees}
-use Rattle.model_shapes.specs.Values.{Value}
+use Rattle.model_shapes.specs.Sorts.{grove}
+use Rattle.model_shapes.specs.Tests.{same_data_sort}
+use Rattle.model_shapes.specs.Values.{Name, Value}
 use Rattle.model_formulas.specs.Formulas.{Named}
 use Rattle.model_terms.specs.Terms.{Term}
 use Rattle.model_terms.specs.Stores.{ProgVar}
 use Rattle.model_terms.specs.TermLimits.{or_else, unless}
-use Rattle.model_commands.specs.Theories.{ProcedureOf, StepOf, Theory, procedures_of, by_rule}
+use Rattle.model_commands.specs.Theories.{ProcedureOf, StepOf, Theory, procedures_of, procedure_named, by_rule}
 use Rattle.model_files.specs.FileFaults.{FileFault, first_file_fault}
 use Rattle.model_machine.specs.Machine.{start}
 use Rattle.model_machine.specs.Outcomes.{Outcome, ends, spends, passes_limit, has_fault, no_pick, outcome}
@@ -25,10 +27,12 @@ use Rattle.model_documents.specs.Numbers.{first_out_of_range, first_repeat}
 use Rattle.model_grammar.specs.Theories.{SpellsTheory}
 use Rattle.model_grammar.specs.TheoryWriting.{theory_text}
 use Rattle.model_generator.specs.Made.{made_text}
-use Rattle.model_answers.specs.Words.{Request, check, fill, run, make, trial}
+use Rattle.model_weakest.specs.Straight.{first_not_straight, is_short}
+use Rattle.model_weakest.specs.Written.{AreNew, new_sorts, new_variables, written}
+use Rattle.model_answers.specs.Words.{Request, check, fill, wp, run, make, trial}
 use Rattle.model_answers.specs.Arguments.{called}
 use Rattle.model_answers.specs.Texts.{limit_passed, theory_limit, IsFile}
-use Rattle.model_answers.specs.Output.{line, accepted_text, accepted_line, fail_line, no_proof_line, gap_line, bad_words_line, bad_text_line, bad_document_text_line, file_fault_line, range_line, repeat_line, limit_line, fault_line, spent_line, ended_lines}
+use Rattle.model_answers.specs.Output.{line, accepted_text, accepted_line, fail_line, no_proof_line, gap_line, bad_words_line, bad_text_line, bad_document_text_line, file_fault_line, range_line, repeat_line, limit_line, fault_line, spent_line, ended_lines, not_straight_sort_line, not_straight_line, precondition_lines}
 use Rattle.dom_terms.specs.declared.limits.LimitKind.{LimitKind}
 use Rattle.dom_terms.specs.declared.limits.LimitKind.TheVariants as l
 use Rattle.domcheck_core.specs.declared.status.Status.{Status}
@@ -49,6 +53,7 @@ limit_named limits.nodes_limit = l.Nodes
 limit_named limits.identifier_limit = l.Identifier
 limit_named limits.number_limit = l.Number
 limit_named limits.depth_limit = l.Depth
+limit_named limits.straight_limit = l.Straight
 
 abbrev pub limit_answer : limits.LimitKind → Answer
 limit_answer kind = (status.Limit (limit_named kind), limit_line kind)
@@ -144,11 +149,42 @@ pub data FillVerdict (voices : List Voice) (theory : Theory) : Status → List �
 abbrev pub FillAnswer : List Voice → List ℕ → Status → List ℕ → Type 0
 FillAnswer voices bytes = FileAnswer (FillVerdict voices) bytes
 
+-- WP
+-- what keeps a procedure from having its weakest precondition printed: its sort, the first command
+-- of its body that isn't straight-line, or the length of its body
+abbrev pub precondition_refusal : ProcedureOf Named → Option Answer
+precondition_refusal f =
+    or_else (unless (same_data_sort f.sort grove) (status.NotStraight, not_straight_sort_line))
+    (or_else
+    (option_map (λ c. (status.NotStraight, not_straight_line c)) (first_not_straight f.body))
+    (unless (is_short f.body) (limit_answer limits.straight_limit)))
+
+-- the answer on a procedure, by names that the file doesn't declare
+pub data PreconditionAnswer (theory : Theory) (f : ProcedureOf Named) : Status → List ℕ → Type 0 where
+  has_none : {s : Status} {output : List ℕ} → precondition_refusal f ≡ Some (s, output)
+      → PreconditionAnswer theory f s output
+  has_one : (names : List Name) → precondition_refusal f ≡ None → AreNew theory.logic 1 names
+      → length names ≡ length (new_sorts f.body)
+      → PreconditionAnswer theory f status.Done
+      (precondition_lines (new_variables names (new_sorts f.body)) (written names f.body f.post))
+
+-- the answer of `wp` on the theory of a file, for its procedure of the name
+pub data WpVerdict (procedure : Name) (theory : Theory) : Status → List ℕ → Type 0 where
+  not_there : procedure_named procedure theory.procedures ≡ None
+      → WpVerdict procedure theory status.BadWords bad_words_line
+  is_there : (f : ProcedureOf Named) {s : Status} {output : List ℕ}
+      → procedure_named procedure theory.procedures ≡ Some f
+      → PreconditionAnswer theory f s output → WpVerdict procedure theory s output
+
+-- and on bytes
+abbrev pub WpAnswer : Name → List ℕ → Status → List ℕ → Type 0
+WpAnswer procedure bytes = FileAnswer (WpVerdict procedure) bytes
+
 -- RUN
 -- the answer of an outcome; the last never comes, since the next pick is free
 abbrev pub outcome_answer : List ProgVar → Outcome → Option Answer
-outcome_answer results (ends steps values grove) =
-    Some (status.Done, ended_lines steps results values grove)
+outcome_answer results (ends steps values trees) =
+    Some (status.Done, ended_lines steps results values trees)
 outcome_answer results (has_fault kind steps command) =
     Some (status.Faulted, fault_line kind steps command)
 outcome_answer results (spends steps config) = Some (status.FuelSpent, spent_line steps)
@@ -232,6 +268,9 @@ pub data IsAnswer (voices : List Voice) (books : Books)
       → CheckAnswer bytes s output → IsAnswer voices books (Some (check file)) s output
   filled : (file bytes : List ℕ) {s : Status} {output : List ℕ} → books file ≡ Some bytes
       → FillAnswer voices bytes s output → IsAnswer voices books (Some (fill file)) s output
+  preconditioned : (file procedure bytes : List ℕ) {s : Status} {output : List ℕ}
+      → books file ≡ Some bytes → WpAnswer procedure bytes s output
+      → IsAnswer voices books (Some (wp file procedure)) s output
   ran : (file procedure document : List ℕ) (fuel : ℕ) (arguments : List (List ℕ)) (bytes : List ℕ)
       {s : Status} {output : List ℕ} → books file ≡ Some bytes
       → RunAnswer (books document) bytes procedure fuel arguments s output
@@ -249,6 +288,7 @@ abbrev pub IsTold : Option Request → Books → Type 0
 IsTold None books = Unit
 IsTold (Some (check file)) books = IsToldBook books file
 IsTold (Some (fill file)) books = IsToldBook books file
+IsTold (Some (wp file procedure)) books = IsToldBook books file
 IsTold (Some (run file procedure document fuel arguments)) books =
     (bytes : List ℕ) × (books file ≡ Some bytes)
     × (IsCalled bytes procedure arguments → IsToldBook books document)

@@ -2,8 +2,8 @@
 use Rattle.std.specs.Prelude.{◌≡◌, ℕ, List, Option, Some, None}
 use Rattle.outside_io.specs.Causes.{Told}
 use Rattle.model_filling.specs.Offers.{Voice}
-use Rattle.model_answers.specs.Words.{Request, check, fill, run, make, trial}
-use Rattle.domcheck_core.specs.Answers.{Books, CheckAnswer, FillAnswer, RunAnswer, IsAnswer}
+use Rattle.model_answers.specs.Words.{Request, check, fill, wp, run, make, trial}
+use Rattle.domcheck_core.specs.Answers.{Books, CheckAnswer, FillAnswer, WpAnswer, RunAnswer, IsAnswer}
 use Rattle.domcheck_core.specs.declared.status.Status.{Status}
 
 -- some bytes have the property, and where the book is told they are its bytes
@@ -17,6 +17,8 @@ IsReply voices (Some (check file)) books s output =
     ReadFrom (books file) (λ bytes. CheckAnswer bytes s output)
 IsReply voices (Some (fill file)) books s output =
     ReadFrom (books file) (λ bytes. FillAnswer voices bytes s output)
+IsReply voices (Some (wp file procedure)) books s output =
+    ReadFrom (books file) (λ bytes. WpAnswer procedure bytes s output)
 IsReply voices (Some (run file procedure document fuel arguments)) books s output =
     ReadFrom (books file) (λ bytes. ReadFrom (books document)
     (λ read. RunAnswer (Some read) bytes procedure fuel arguments s output))

@@ -1,16 +1,27 @@
 -- The clauses of the top call. Each speaks of the request, the told books, the fillers, the counts
 -- and the status.
-use Rattle.std.specs.Prelude.{◌≡◌, ◌⊎◌, ℕ, List, [], ◌∷◌, map, Option, Some, None, String, string_bytes}
+use Rattle.std.specs.Prelude.{◌≡◌, ◌⊎◌, ◌↔◌, ℕ, List, [], ◌∷◌, map, Option, Some, None, String, string_bytes}
 use Rattle.outside_io.specs.Causes.{Told}
 use Rattle.outside_io.specs.Pieces.{Took, TookPrefix}
-use Rattle.model_commands.specs.Theories.{Theory, procedures_of}
+use Rattle.model_shapes.specs.Sorts.{shape, grove}
+use Rattle.model_shapes.specs.Shapes.{Shaped}
+use Rattle.model_shapes.specs.Trees.{Trees}
+use Rattle.model_shapes.specs.Values.{Name}
+use Rattle.model_terms.specs.Variables.{Var}
+use Rattle.model_terms.specs.Stores.{Store, ProperStore}
+use Rattle.model_formulas.specs.Formulas.{Named}
+use Rattle.model_formulas.specs.Nameless.{nameless}
+use Rattle.model_formulas.specs.Satisfaction.{Environment}
+use Rattle.model_commands.specs.Theories.{ProcedureOf, Theory, procedures_of, procedure_named}
+use Rattle.model_weakest.specs.Weakest.{MeetsWith, MeetsWeakest}
 use Rattle.model_machine.specs.LocalTriples.{MeetsItsSpecification}
 use Rattle.model_grammar.specs.TheoryWriting.{theory_text}
 use Rattle.model_round_trip.specs.ReadBack.{without_lines}
 use Rattle.rule_table.specs.Accepted.{Each, IsAccepted}
 use Rattle.model_filling.specs.Offers.{Voice}
 use Rattle.model_filling.specs.Filled.{IsFilled}
-use Rattle.model_answers.specs.Words.{Request, check, fill, run, make, trial, reading_of}
+use Rattle.model_answers.specs.Words.{Request, check, fill, wp, run, make, trial, reading_of}
+use Rattle.model_answers.specs.Output.{precondition_lines}
 use Rattle.model_answers.specs.Texts.{IsFile}
 use Rattle.domcheck_core.specs.Answers.{Books, IsAnswer, IsTold, IsCalled, NotCalled}
 use Rattle.domcheck_core.specs.declared.status.Status.{Status}
@@ -29,6 +40,11 @@ OfFile r books P = Unit
 abbrev pub OfGaps : Option Request → Books → (List ℕ → Type 0) → Type 0
 OfGaps (Some (fill file)) books P = Told (books file) P
 OfGaps r books P = Unit
+
+-- of those of the file that `wp` asks for, with the name of the procedure
+abbrev pub OfBody : Option Request → Books → (List ℕ → List ℕ → Type 0) → Type 0
+OfBody (Some (wp file procedure)) books P = Told (books file) (P procedure)
+OfBody r books P = Unit
 
 -- The bytes are a file of a theory, and each of its procedures, started in any context round data
 -- that meets its requires, faults in no number of steps and ends with data that meets its ensures.
@@ -51,6 +67,23 @@ abbrev pub TookFilled : List Voice → List ℕ → Option (List ℕ) → Option
 TookFilled voices bytes before after =
     (text : List ℕ) × IsFilledFile voices bytes text × Took before after text
 
+-- The bytes are a file that has the procedure, and the text is that of a formula with declarations
+-- of its new variables; and a grove and a store meet the formula exactly where no run of the
+-- procedure's body on them faults and each end of one meets its ensures.
+abbrev pub IsPrecondition : Name → List ℕ → List ℕ → Type 0
+IsPrecondition procedure bytes text =
+    (theory : Theory) × (f : ProcedureOf Named) × (variables : List Var) × (formula : Named)
+    × IsFile bytes theory × (procedure_named procedure theory.procedures ≡ Some f)
+    × (text ≡ precondition_lines variables formula)
+    × ((e : Environment) (store : Store) → ProperStore store → (roots : Trees)
+    → Shaped (shape grove) roots → (MeetsWith (nameless formula) e store roots
+    ↔ MeetsWeakest (procedures_of theory) f.body (nameless f.post) e store roots))
+
+-- the sink took such a text
+abbrev pub TookPrecondition : Name → List ℕ → Option (List ℕ) → Option (List ℕ) → Type 0
+TookPrecondition procedure bytes before after =
+    (text : List ℕ) × IsPrecondition procedure bytes text × Took before after text
+
 -- the three statuses that may come for any file: want of memory, and a fault of library or sink
 abbrev pub GivesUp : Status → Type 0
 GivesUp s = (s ≡ status.OutOfMemory) ⊎ ((s ≡ status.ReadFault) ⊎ (s ≡ status.WriteFault))
@@ -68,12 +101,19 @@ IsAnswered voices r books s =
 abbrev pub ExactlyWhere : Type 0 → Status → Status → Type 0
 ExactlyWhere Cause s wanted = (s ≡ wanted → Cause) × (Cause → (s ≡ wanted) ⊎ GivesUp s)
 
+-- the file with these bytes has no procedure of the name
+abbrev pub NotThere : List ℕ → Name → Type 0
+NotThere bytes procedure =
+    (theory : Theory) × IsFile bytes theory × (procedure_named procedure theory.procedures ≡ None)
+
 -- A run whose file is told has bad words exactly where they name no procedure of the file or no
--- arguments for it, whatever its document is.
+-- arguments for it, whatever its document is; and `wp` where they name no procedure of the file.
 abbrev pub BadWordsExactly : Option Request → Books → Status → Type 0
 BadWordsExactly (Some (run file procedure document fuel arguments)) books s =
     Told (books file) (λ bytes.
     ExactlyWhere (NotCalled bytes procedure arguments) s status.BadWords)
+BadWordsExactly (Some (wp file procedure)) books s =
+    Told (books file) (λ bytes. ExactlyWhere (NotThere bytes procedure) s status.BadWords)
 BadWordsExactly r books s = Unit
 
 -- the numbers of the statuses that a request may have, whatever is told: of one that reads a file
@@ -86,6 +126,8 @@ abbrev pub statuses : Option Request → List ℕ
 statuses None = 2 ∷ 10 ∷ 12 ∷ []
 statuses (Some (check file)) = file_statuses
 statuses (Some (fill file)) = file_statuses
+statuses (Some (wp file procedure)) =
+    0 ∷ 2 ∷ 3 ∷ 4 ∷ 8 ∷ 10 ∷ 11 ∷ 12 ∷ 13 ∷ []
 statuses (Some (run file procedure document fuel arguments)) =
     0 ∷ 2 ∷ 3 ∷ 4 ∷ 5 ∷ 6 ∷ 7 ∷ 8 ∷ 10 ∷ 11 ∷ 12 ∷ []
 statuses (Some (make n)) = 0 ∷ 10 ∷ 12 ∷ []
@@ -96,6 +138,7 @@ statuses (Some (trial n)) = 0 ∷ 10 ∷ 12 ∷ []
 abbrev pub ReadRose : Option Request → Books → (List ℕ → Type 0) → Type 0
 ReadRose (Some (check file)) books rose = rose file
 ReadRose (Some (fill file)) books rose = rose file
+ReadRose (Some (wp file procedure)) books rose = rose file
 ReadRose (Some (run file procedure document fuel arguments)) books rose =
     rose file ⊎ (rose document × Told (books file) (λ bytes. IsCalled bytes procedure arguments))
 ReadRose r books rose = ⊥

@@ -5,3 +5,4 @@ pub mod Clauses
 pub mod Numbers
 pub mod Refusals
 pub mod Stands
+pub mod Preconditions

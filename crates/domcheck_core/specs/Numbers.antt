@@ -17,3 +17,4 @@ status_number status.GapLeft = 9
 status_number status.OutOfMemory = 10
 status_number status.ReadFault = 11
 status_number status.WriteFault = 12
+status_number status.NotStraight = 13

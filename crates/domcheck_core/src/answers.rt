@@ -8,7 +8,7 @@ ghost use Rattle.domcheck_core.specs.Answers.{IsCalled};
 ghost use Rattle.domcheck_core.specs.Books.{IsReply};
 ghost use Rattle.domcheck_core.specs.Clauses.{asked, ReadRose};
 
-use crate::books::{check_book, fill_book, open_book, run_book};
+use crate::books::{check_book, fill_book, open_book, run_book, wp_book};
 use crate::generated::{print_generated, try_generated};
 use crate::replies::{Refusal, Reply, reported};
 use crate::runs::Opened;
@@ -73,6 +73,7 @@ pub fn answer_words<L: Library>(
     match read_words(alloc, words) {
         Ok(Request::Check { file }) => check_book(alloc, library, &file),
         Ok(Request::Fill { file }) => fill_book(alloc, library, &file, fillers),
+        Ok(Request::Wp { file, procedure }) => wp_book(alloc, library, &file, &procedure),
         Ok(
             Request::Run {
                 file,

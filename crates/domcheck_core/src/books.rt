@@ -3,13 +3,14 @@ ghost use Rattle.std.specs.Prelude.{◌≡◌, ◌≤◌, ◌<◌, ℕ, List, So
 ghost use Rattle.outside_io.specs.Causes.{Rose, Told};
 ghost use Rattle.model_limits.specs.Limits.{file_limit, standard_limits};
 ghost use Rattle.boxed_fillers.specs.Voices.{voices_of};
-ghost use Rattle.domcheck_core.specs.Answers.{CheckAnswer, FillAnswer, limit_answer};
+ghost use Rattle.domcheck_core.specs.Answers.{CheckAnswer, FillAnswer, WpAnswer, limit_answer};
 ghost use Rattle.domcheck_core.specs.Books.{ReadFrom};
 ghost use Rattle.domcheck_core.specs.Calls.{FitsCall, IsOpened, CallAnswer};
 
 use crate::calls::Call;
 use crate::checks::{Ending, check_until};
 use crate::fills::fill_until;
+use crate::preconditions::wp_until;
 use crate::replies::{Refusal, Reply, answered};
 use crate::runs::{Opened, open_file, run_document};
 use crate::texts::past;
@@ -81,6 +82,27 @@ pub fn fill_book<L: Library>(
 {
     match read_book(alloc, library, file.as_str())? {
         Some(bytes) => Ok(fill_until(alloc, &bytes, fillers, Ending::Leave)?),
+        None => Ok(too_large(alloc)?),
+    }
+}
+
+/// The answer of `wp` on the file of this name. The theory's memory is left to the system.
+pub fn wp_book<L: Library>(
+    alloc: Global,
+    library: &mut L,
+    file: &Text,
+    procedure: &Text,
+) -> Result<Reply, Refusal>
+    ensures answer { IfOk result (λ r. ReadFrom (L.book library.old file.now)
+        (λ bytes. WpAnswer procedure.now bytes r.status r.output)) }
+    ensures cause { IsErrOf result Refusal.ReadFault
+        → Rose (L.faults library.old file.now) (L.faults library.new file.now) }
+    ensures kept { (other : List ℕ)
+        → Told (L.book library.old other) (λ b. L.book library.new other ≡ Some b) }
+    ensures later { (other : List ℕ) → L.faults library.old other ≤ L.faults library.new other }
+{
+    match read_book(alloc, library, file.as_str())? {
+        Some(bytes) => Ok(wp_until(alloc, &bytes, procedure, Ending::Leave)?),
         None => Ok(too_large(alloc)?),
     }
 }

@@ -28,8 +28,8 @@ fn position_of(procedures: &[Procedure], name: &str) -> Option<usize>
         .position(|procedure| name == procedure.name.as_str())
 }
 
-// The same, with what stands there.
-fn place_of(procedures: &[Procedure], name: &str) -> Option<usize>
+/// The same, with what stands there.
+pub fn place_of(procedures: &[Procedure], name: &str) -> Option<usize>
     ensures { MatchOption result
         (procedure_named name.now (map procedure_of procedures.now) ≡ None)
         (λ place. IsPlaceOf name.now procedures.now place) }

@@ -1,16 +1,17 @@
-//! Checks annotated program files, fills the gaps of their proofs, and runs their procedures on
-//! documents. `check_bytes`, `fill_bytes` and `run_bytes` give the answer to bytes in hand, and
-//! `domcheck` is the thin layer over them: it reads the words, fetches what they name and writes
-//! the answer. Its contract says what each answer means, when it comes and what is written, for
-//! every library, every sink and whatever fillers. Stands on the readers of words, files and
-//! documents, the checker of theories, the fillers of gaps, the machine and the outside.
+//! Checks annotated program files, fills the gaps of their proofs, prints weakest preconditions of
+//! their procedures, and runs these on documents. `check_bytes`, `fill_bytes`, `wp_bytes` and
+//! `run_bytes` give the answer to bytes in hand, and `domcheck` is the thin layer over them: it
+//! reads the words, fetches what they name and writes the answer. Its contract says what each
+//! answer means, when it comes and what is written, for every library, every sink and whatever
+//! fillers. Stands on the readers of words, files and documents, the checker of theories, the
+//! fillers of gaps, weakest preconditions, the machine and the outside.
 #![tactic(auto)]
 
 ghost use Rattle.std.specs.Prelude.{◌≡◌, ◌≤◌, ◌⊎◌, ℕ, List, Contains, None, Some};
 ghost use Rattle.outside_io.specs.Causes.{Rose, Told};
 ghost use Rattle.boxed_fillers.specs.Voices.{voices_of};
 ghost use Rattle.domcheck_core.specs.Answers.{IsAnswer};
-ghost use Rattle.domcheck_core.specs.Clauses.{asked, OfFile, IsSoundFile, OfGaps, TookFilled, BadWordsExactly, GivesUp, Says, IsAnswered, statuses, ReadRose, Wrote};
+ghost use Rattle.domcheck_core.specs.Clauses.{asked, OfFile, IsSoundFile, OfGaps, TookFilled, OfBody, TookPrecondition, BadWordsExactly, GivesUp, Says, IsAnswered, statuses, ReadRose, Wrote};
 ghost use Rattle.domcheck_core.specs.Numbers.{status_number};
 
 mod answers;
@@ -23,6 +24,7 @@ mod fills;
 mod generated;
 mod groves;
 mod limits;
+mod preconditions;
 mod replies;
 mod runs;
 mod status;
@@ -33,6 +35,7 @@ pub use boxed_fillers::FillFault;
 pub use checks::check_bytes;
 pub use fills::{fill_bytes, fill_theory};
 use outside_io::{Library, Sink, write_all_of};
+pub use preconditions::wp_bytes;
 use replies::Refusal;
 pub use replies::Reply;
 pub use request_words::{Request, WordFault, read_words};
@@ -42,11 +45,11 @@ use std::alloc::Global;
 pub use step_filler::Filler;
 
 /// Does what the words after the program's name ask for, and answers how it ended. The forms today
-/// are `check FILE`, `fill FILE`, `run FILE PROC DOC FUEL ARG*`, `make N` and `trial N`. The output
-/// is built whole and then written. The fillers are asked in their order for the steps of the gaps
-/// of a file that is filled; nobody trusts them. It is made for a program that ends after it: the
-/// memory of the theory of a file that was read is mostly left to the system. `check_bytes`,
-/// `fill_bytes` and `run_bytes` give all back.
+/// are `check FILE`, `fill FILE`, `wp FILE PROC`, `run FILE PROC DOC FUEL ARG*`, `make N` and
+/// `trial N`. The output is built whole and then written. The fillers are asked in their order for
+/// the steps of the gaps of a file that is filled; nobody trusts them. It is made for a program
+/// that ends after it: the memory of the theory of a file that was read is mostly left to the
+/// system. `check_bytes`, `fill_bytes`, `wp_bytes` and `run_bytes` give all back.
 pub fn domcheck<L: Library, S: Sink>(
     alloc: Global,
     words: &[String],
@@ -63,6 +66,11 @@ pub fn domcheck<L: Library, S: Sink>(
         (λ bytes. result ≡ Status.Done
         → TookFilled (voices_of turn offers fillers.items) bytes
         (S.taken sink.old) (S.taken sink.new)) }
+
+    // What is printed for a procedure is its weakest precondition.
+    ensures precondition { OfBody (asked words.now) (L.book library.old) (λ procedure bytes.
+        result ≡ Status.Done
+        → TookPrecondition procedure bytes (S.taken sink.old) (S.taken sink.new)) }
 
     // The answer to each request is the one that is defined, status and output, and no other.
     ensures answered { IsAnswered (voices_of turn offers fillers.items) (asked words.now)

@@ -36,6 +36,9 @@ pub enum Status {
     ReadFault,
     /// The sink failed; a prefix of the output was written.
     WriteFault,
+    /// The procedure whose weakest precondition is asked for doesn't speak of groves, or its body
+    /// isn't straight-line.
+    NotStraight,
 }
 
 impl Status {
@@ -57,6 +60,7 @@ impl Status {
             Status::OutOfMemory => 10,
             Status::ReadFault => 11,
             Status::WriteFault => 12,
+            Status::NotStraight => 13,
         }
     }
 }

@@ -36,6 +36,9 @@ pub data Report : Type 0 where
   limit : LimitKind → Report
   -- a gap: its number, its procedure and its line
   gap_left : ℕ → Text → ℕ → Report
+  -- a procedure of another sort than that of groves, and a command that isn't straight-line
+  not_straight_sort : Report
+  not_straight : Command → Report
 
 -- the report
 abbrev pub report_of : program.Report → Report
@@ -53,3 +56,5 @@ report_of (r.Faulted kind steps command) =
 report_of (r.FuelSpent steps) = fuel_spent steps
 report_of (r.Limit kind) = limit (limit_kind_of kind)
 report_of (r.GapLeft step procedure at) = gap_left step procedure at
+report_of r.NotStraightSort = not_straight_sort
+report_of (r.NotStraight command) = not_straight (command_of command)

@@ -36,6 +36,7 @@ pub fn limit_name(kind: LimitKind) -> &'static str
         LimitKind::Identifier => "identifier",
         LimitKind::Number => "number",
         LimitKind::Depth => "depth",
+        LimitKind::Straight => "straight",
     }
 }
 

@@ -98,6 +98,13 @@ pub enum Report {
         /// The line on which it stands.
         line: u32,
     },
+    /// The procedure whose weakest precondition is asked for doesn't speak of groves.
+    NotStraightSort,
+    /// Its body isn't straight-line.
+    NotStraight {
+        /// The first command that keeps it from being so.
+        command: Command,
+    },
 }
 
 impl Copied for Report {
@@ -139,6 +146,8 @@ impl Copied for Report {
                 procedure,
                 line,
             } => copy_of_gap(alloc, *step, procedure, *line),
+            Self::NotStraightSort => Ok(Self::NotStraightSort),
+            Self::NotStraight { command } => copy_of_command(alloc, command),
         }
     }
 }
@@ -225,4 +234,13 @@ fn copy_of_fault(
         steps,
         command,
     })
+}
+
+// The report of a command that isn't straight-line, with the command copied.
+fn copy_of_command(alloc: Global, command: &Command) -> Result<Report, OutOfMemory>
+    ensures { IfOk result
+        (λ copied. report_of copied ≡ plain.not_straight (command_of command.now)) }
+{
+    let command = command.copy(alloc)?;
+    Ok(Report::NotStraight { command })
 }

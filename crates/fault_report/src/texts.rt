@@ -2,7 +2,7 @@
 ghost use Rattle.std.specs.Prelude.{◌≡◌, IfOk, string_bytes};
 ghost use Rattle.model_answers.specs.Output.{line, range_line, repeat_line, bad_file_line};
 ghost use Rattle.model_answers.specs.Output.{bad_document_text_line, limit_line, fault_line};
-ghost use Rattle.model_answers.specs.Output.{fail_line, gap_line, no_proof_line};
+ghost use Rattle.model_answers.specs.Output.{fail_line, gap_line, no_proof_line, not_straight_line};
 ghost use Rattle.row_patterns.specs.Verdicts.{verdict_in};
 ghost use Rattle.grove_data.specs.UsedNumbers.{numbered_of};
 ghost use Rattle.theory_syntax.specs.Commands.{command_of};
@@ -105,6 +105,17 @@ fn gap_text(alloc: Global, step: u32, procedure: &str, at: u32) -> Result<String
     format!(in alloc; "step {step} of {procedure}, line {at}: gap")
 }
 
+// The text of a command that isn't straight-line.
+fn straight_text(alloc: Global, command: &Command) -> Result<String, OutOfMemory>
+    ensures { IfOk result (λ text. line (string_bytes text)
+        ≡ not_straight_line (command_of command.now)) }
+{
+    let written = write_command(alloc, command)?;
+    let written = written.as_str();
+    let text = format!(in alloc; "not straight-line: {written}")?;
+    Ok(text)
+}
+
 // The text of a proof that ends in something else.
 fn end_text(alloc: Global, procedure: &str) -> Result<String, AllocError>
     ensures { IfOk result (λ text. line (string_bytes text) ≡ no_proof_line procedure.now) }
@@ -147,6 +158,8 @@ fn report_text(alloc: Global, report: &Report) -> Result<String, OutOfMemory>
             procedure,
             line,
         } => { gap_text(alloc, *step, procedure.as_str(), *line)? }
+        Report::NotStraightSort => String::from_str(alloc, "not straight-line: sort")?,
+        Report::NotStraight { command } => straight_text(alloc, command)?,
     };
     Ok(text)
 }

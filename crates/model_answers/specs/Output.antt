@@ -1,13 +1,15 @@
 -- The lines that the program prints, byte by byte. Each ends with one newline.
-use Rattle.std.specs.Prelude.{ℕ, cond, List, [], ◌∷◌, ◌++◌, length, codes}
+use Rattle.std.specs.Prelude.{ℕ, cond, List, [], ◌∷◌, ◌++◌, length, map, codes}
 use Rattle.std.specs.Fmt.{decimal, signed_decimal}
 use Rattle.model_shapes.specs.Trees.{Trees}
 use Rattle.model_shapes.specs.Values.{Value, null, nolist, node_number, list_number, int, str, boolean}
+use Rattle.model_terms.specs.Variables.{Var}
 use Rattle.model_terms.specs.Stores.{ProgVar, named}
+use Rattle.model_formulas.specs.Formulas.{Named}
 use Rattle.model_commands.specs.Commands.{Command}
 use Rattle.model_commands.specs.Theories.{Theory}
 use Rattle.model_machine.specs.Machine.{FaultKind, no_node, no_list, cycle, not_child, self_ref}
-use Rattle.model_limits.specs.Limits.{LimitKind, file_limit, nesting_limit, text_limit, variables_limit, steps_limit, nodes_limit, identifier_limit, number_limit, depth_limit}
+use Rattle.model_limits.specs.Limits.{LimitKind, file_limit, nesting_limit, text_limit, variables_limit, steps_limit, nodes_limit, identifier_limit, number_limit, depth_limit, straight_limit}
 use Rattle.model_text.specs.Tokens.{newline}
 use Rattle.model_documents.specs.Numbers.{Numbered, node_numbered, list_numbered}
 use Rattle.model_documents.specs.Roots.{sorted_roots}
@@ -17,6 +19,7 @@ use Rattle.model_files.specs.FileLimits.{step_count}
 use Rattle.rule_table.specs.Conditions.{SideName, free_side, literal_side, coefficient_side, sum_side, texts_side, pure_side, modified_side, assigned_side}
 use Rattle.rule_table.specs.Verdicts.{Verdict, instance_verdict, shape_verdict, premises_verdict, side_verdict}
 use Rattle.model_grammar.specs.Writing.{text_of, command_lexemes}
+use Rattle.model_grammar.specs.TheoryWriting.{logic_line, formula_lexemes, text_of_lines}
 
 -- a text with the newline that ends it
 abbrev pub line : List ℕ → List ℕ
@@ -122,6 +125,7 @@ limit_name nodes_limit = codes "nodes"
 limit_name identifier_limit = codes "identifier"
 limit_name number_limit = codes "number"
 limit_name depth_limit = codes "depth"
+limit_name straight_limit = codes "straight"
 
 -- `limit KIND`
 abbrev pub limit_line : LimitKind → List ℕ
@@ -173,3 +177,17 @@ ended_with steps results values text =
 abbrev pub ended_lines : ℕ → List ProgVar → List Value → Trees → List ℕ
 ended_lines steps results values grove =
     ended_with steps results values (grove_text (sorted_roots grove))
+
+-- `not straight-line: sort`, of a procedure that doesn't speak of groves, and
+-- `not straight-line: COMMAND`
+abbrev pub not_straight_sort_line : List ℕ
+not_straight_sort_line = line (codes "not straight-line: sort")
+
+abbrev pub not_straight_line : Command → List ℕ
+not_straight_line command =
+    line (codes "not straight-line: " ++ text_of (command_lexemes command))
+
+-- the declarations of variables, and a formula
+abbrev pub precondition_lines : List Var → Named → List ℕ
+precondition_lines variables formula =
+    text_of_lines (map logic_line variables ++ formula_lexemes formula ∷ [])

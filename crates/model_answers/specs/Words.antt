@@ -9,6 +9,8 @@ use Rattle.model_generator.specs.Made.{most_makers}
 pub data Request : Type 0 where
   -- a file: it is checked, or its gaps are filled
   check fill : List ℕ → Request
+  -- a file and a procedure, whose weakest precondition is printed
+  wp : List ℕ → List ℕ → Request
   -- a file, a procedure, a document, the fuel and the arguments
   run : List ℕ → List ℕ → List ℕ → ℕ → List (List ℕ) → Request
   -- the number of procedures of a generated theory: it is printed, or tried
@@ -25,6 +27,11 @@ decimal_of most (first ∷ rest) =
 abbrev pub file_of : (List ℕ → Request) → List (List ℕ) → Option Request
 file_of form (file ∷ []) = Some (form file)
 file_of form words = None
+
+-- the form `wp FILE PROC`
+abbrev pub wp_of : List (List ℕ) → Option Request
+wp_of (file ∷ procedure ∷ []) = Some (wp file procedure)
+wp_of words = None
 
 -- the form `run FILE PROC DOC FUEL ARG*`
 abbrev pub run_of : List (List ℕ) → Option Request
@@ -50,4 +57,5 @@ reading_of (command ∷ words) = cond (bytes_eq command (codes "check")) (file_o
     (cond (bytes_eq command (codes "run")) (run_of words)
     (cond (bytes_eq command (codes "fill")) (file_of fill words)
     (cond (bytes_eq command (codes "make")) (count_of make words)
-    (cond (bytes_eq command (codes "trial")) (count_of trial words) None))))
+    (cond (bytes_eq command (codes "trial")) (count_of trial words)
+    (cond (bytes_eq command (codes "wp")) (wp_of words) None)))))

@@ -1,7 +1,7 @@
 // The top call over a library or a sink that fails, and the calls for bytes in hand.
 use crate::outside::{Drip, Trickle};
 use dom_terms::{Text, Texts};
-use domcheck_core::{Status, check_bytes, domcheck, fill_bytes, run_bytes};
+use domcheck_core::{Status, check_bytes, domcheck, fill_bytes, run_bytes, wp_bytes};
 use outside_io::{Library, Shelf, Sink, Tape};
 use std::alloc::Global;
 use std::test::Fail;
@@ -158,6 +158,9 @@ fn bytes_in_hand_are_answered(rt: HostRuntime) -> Result<(), Fail> {
     let reply = run_bytes(alloc, FILE.as_bytes(), &main, b"0g", 9, &Texts::new(alloc))?;
     assert_eq!(rt; reply.status, Status::Done);
     assert_eq!(rt; reply.output.as_str(), "ended after 1 steps\n0g\n");
+    let reply = wp_bytes(alloc, FILE.as_bytes(), &main)?;
+    assert_eq!(rt; reply.status, Status::Done);
+    assert_eq!(rt; reply.output.as_str(), "0g\n");
     let mut fillers: Vec<Box<dyn Filler>> = Vec::new(alloc);
     let reply = fill_bytes(alloc, FILE.as_bytes(), &mut fillers)?;
     assert_eq!(rt; reply.status, Status::Done);
@@ -167,5 +170,50 @@ fn bytes_in_hand_are_answered(rt: HostRuntime) -> Result<(), Fail> {
             .as_str()
             .ends_with("pre 0g do skip post 0g at g ;\nend\n")
     );
+    Ok(())
+}
+
+const INC: &str = "domlogic 1
+logic int $n;
+proc inc(a: int) returns (b: int) sort g
+requires true ensures (exists $n . b = $n)
+body b := {a + 1}
+proof
+end
+proc odd(a: int) returns (b: int) sort t
+requires true ensures true
+body skip
+proof
+end
+proc two(a: int) returns (b: int) sort g
+requires true ensures true
+body { skip ; while a <= 0 { skip } }
+proof
+end
+";
+
+// (the procedure, the status and what is written)
+#[test]
+fn weakest_preconditions_are_printed(rt: HostRuntime) -> Result<(), Fail> {
+    let alloc = rt.alloc();
+    for (procedure, status, output) in [
+        (
+            "inc",
+            Status::Done,
+            "logic int $w1 ;\n( exists $w1 . ( $w1 = { a + 1 } and ( exists $n . $w1 = $n ) ) )\n",
+        ),
+        ("odd", Status::NotStraight, "not straight-line: sort\n"),
+        (
+            "two",
+            Status::NotStraight,
+            "not straight-line: while a <= 0 { skip }\n",
+        ),
+        ("none", Status::BadWords, "bad words\n"),
+    ] {
+        let procedure = Text::from_str(alloc, procedure)?;
+        let reply = wp_bytes(alloc, INC.as_bytes(), &procedure)?;
+        assert_eq!(rt; reply.status, status);
+        assert_eq!(rt; reply.output.as_str(), output);
+    }
     Ok(())
 }

@@ -14,6 +14,7 @@ request_of (r.Check file) = model.check file
 request_of (r.Run file procedure document fuel arguments) =
     model.run file procedure document fuel arguments
 request_of (r.Fill file) = model.fill file
+request_of (r.Wp file procedure) = model.wp file procedure
 request_of (r.Make count) = model.make count
 request_of (r.Trial count) = model.trial count
 

@@ -3,7 +3,7 @@ ghost use Rattle.std.specs.Prelude.{◌≡◌, ◌≤◌, ℕ, List, [], ◌∷�
 ghost use Rattle.std.specs.Prelude.{IfOk, IfSome, IsErrOf, map, string_bytes};
 ghost use Rattle.std.specs.Option.{option_map};
 ghost use Rattle.model_answers.specs.Words as model;
-ghost use Rattle.model_answers.specs.Words.{file_of, run_of, count_of, reading_of};
+ghost use Rattle.model_answers.specs.Words.{file_of, run_of, count_of, wp_of, reading_of};
 ghost use Rattle.model_generator.specs.Made.{most_makers};
 ghost use Rattle.request_words.specs.Requests.{Reads, Counts};
 ghost use Rattle.request_words.specs.declared.requests.WordFault.TheVariants.{OutOfMemory};
@@ -41,6 +41,13 @@ pub enum Request {
     Fill {
         /// The name of the file.
         file: Text,
+    },
+    /// `wp FILE PROC`
+    Wp {
+        /// The name of the file.
+        file: Text,
+        /// The name of the procedure.
+        procedure: Text,
     },
     /// `make N`
     Make {
@@ -92,6 +99,11 @@ impl Copied for Request {
                 Ok(Self::Fill {
                     file: file.copy(alloc)?,
                 })
+            }
+            Self::Wp { file, procedure } => {
+                let file = file.copy(alloc)?;
+                let procedure = procedure.copy(alloc)?;
+                Ok(Self::Wp { file, procedure })
             }
             Self::Make { count } => Ok(Self::Make { count: *count }),
             Self::Trial { count } => Ok(Self::Trial { count: *count }),
@@ -155,6 +167,19 @@ fn read_fill(alloc: Global, words: &[String]) -> Result<Request, WordFault>
 {
     let file = file_name(alloc, words)?;
     Ok(Request::Fill { file })
+}
+
+// The words behind `wp`.
+fn read_wp(alloc: Global, words: &[String]) -> Result<Request, WordFault>
+    ensures reading { Reads result (wp_of (map string_bytes words.now)) }
+    ensures counts { IfOk result Counts }
+{
+    let [file, procedure] = words else {
+        return Err(WordFault::BadWords);
+    };
+    let file = Text::from_str(alloc, file.as_str())?;
+    let procedure = Text::from_str(alloc, procedure.as_str())?;
+    Ok(Request::Wp { file, procedure })
 }
 
 // The words behind `run`.
@@ -229,6 +254,7 @@ pub fn read_words(alloc: Global, words: &[String]) -> Result<Request, WordFault>
         "fill" => read_fill(alloc, words),
         "make" => read_make(words),
         "trial" => read_trial(words),
+        "wp" => read_wp(alloc, words),
         _ => Err(WordFault::BadWords),
     }
 }

@@ -11,6 +11,7 @@ use Rattle.model_grammar.specs.TheoryWriting.{text_of_lines, number_lexemes, arg
 use Rattle.model_grammar.proofs.Spaced.{spaced_rules}
 use Rattle.model_grammar.proofs.VersionTexts.{procedures_same}
 use Rattle.logic_text.proofs.ListLemmas.{drop_item}
+use Rattle.dom_terms.specs.declared.terms.LogicVar.{LogicVar}
 use Rattle.dom_terms.specs.declared.terms.Term.{Term}
 use Rattle.dom_terms.specs.Terms.{term_of, logic_var_of}
 use Rattle.model_shapes.proofs.Tests.{bytes-is}
@@ -107,6 +108,18 @@ procedures_text (f ∷ procedures) =
     (procedures_lines 1 (map procedure_of procedures))
     ∙ ap (λ (z : List ℕ). text_of_lines (procedure_lines 1 (procedure_of f)) ++ z)
     (procedures_text procedures)
+
+-- the lines of declared variables, and that of a formula
+pub precondition_text : (variables : List LogicVar) (formula : List Lexeme)
+    → (joined_texts (map (λ x. line_text (logic_line (logic_var_of x))) variables)
+    ++ text_of formula) ++ newline ∷ []
+    ≡ text_of_lines (map logic_line (map logic_var_of variables) ++ formula ∷ [])
+precondition_text variables formula =
+    append_assoc (joined_texts (map (λ x. line_text (logic_line (logic_var_of x))) variables))
+    (text_of formula) (newline ∷ [])
+    ∙ ap (λ (z : List ℕ). z ++ text_of_lines (formula ∷ []))
+    (sym (each_line logic_line logic_var_of variables))
+    ∙ sym (lines_append (map logic_line (map logic_var_of variables)) (formula ∷ []))
 
 -- the parts of the first line
 pub header_text : (name : List ℕ) (params results sort : List Lexeme) (text : List ℕ)

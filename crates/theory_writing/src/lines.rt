@@ -204,8 +204,8 @@ impl Lines for LogicVar {
     }
 }
 
-// Puts the lines of each item at the end.
-fn push_each<T: Lines>(alloc: Global, text: &mut Text, items: &[T]) -> Result<(), OutOfMemory>
+/// Puts the lines of each item at the end.
+pub fn push_each<T: Lines>(alloc: Global, text: &mut Text, items: &[T]) -> Result<(), OutOfMemory>
     ensures { OnOk result (text.new ≡ text.old ++ joined_texts (map T.own_text items.now)) }
 {
     for item in items {

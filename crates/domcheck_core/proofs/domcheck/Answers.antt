@@ -1,6 +1,6 @@
 use Rattle.std.proofs.Common.{inl, inr, refl, rules}
 use Rattle.std.proofs.lemmas.Str.{IsUtf8-had}
-use Rattle.domcheck_core.proofs.Judged.{on_file, on_gaps, sound, answer, answered, same_answer, bad_words_exactly, wrote}
+use Rattle.domcheck_core.proofs.Judged.{on_file, on_gaps, on_body, sound, answer, answered, same_answer, bad_words_exactly, wrote}
 use Rattle.domcheck_core.proofs.Statuses.{possible, no_fault, no_memory, no_sink, no_book}
 use Rattle.domcheck_core.specs.Clauses.{asked}
 use Rattle.domcheck_core.proofs.domcheck.Goals as goal
@@ -13,6 +13,10 @@ pub returns-in-Ok-clause-filled : goal.returns-in-Ok-clause-filled
 returns-in-Ok-clause-filled g c =
     on_gaps _ _ _ _ _ _ _ c.in-Ok.ensures.answer (IsUtf8-had _ c.is_utf8.ensures)
     (search rules)
+
+pub returns-in-Ok-clause-precondition : goal.returns-in-Ok-clause-precondition
+returns-in-Ok-clause-precondition g c =
+    on_body _ _ _ _ _ _ _ c.in-Ok.ensures.answer (search rules)
 
 pub returns-in-Ok-clause-answered : goal.returns-in-Ok-clause-answered
 returns-in-Ok-clause-answered g c = answered _ _ _ _ _ c.in-Ok.ensures.answer

@@ -10,6 +10,10 @@ pub returns-in-Ok-Fill-clause-answer : goal.returns-in-Ok-Fill-clause-answer
 returns-in-Ok-Fill-clause-answer g c =
     rw (rw c.in-Ok-Fill.field-0-is at c.in-Ok-Fill.ensures.reading) c.fill_book.ensures.answer
 
+pub returns-in-Ok-Wp-clause-answer : goal.returns-in-Ok-Wp-clause-answer
+returns-in-Ok-Wp-clause-answer g c =
+    rw (rw c.in-Ok-Wp.field-0-is at c.in-Ok-Wp.ensures.reading) c.wp_book.ensures.answer
+
 pub returns-in-Ok-Run-clause-answer : goal.returns-in-Ok-Run-clause-answer
 returns-in-Ok-Run-clause-answer g c =
     rw (rw c.in-Ok-Run.field-0-is at c.in-Ok-Run.ensures.reading)
