@@ -1,7 +1,8 @@
 """Each request and its answer: what domcheck has to print for the words, and its status.
 
 The other modules of this folder are its parts, in the order in which a request meets them: tokens,
-theories, sorts, faults, proofs, filling, documents, machine, texts. `answer` puts them together.
+theories, sorts, faults, proofs, filling, preconditions, documents, machine, texts. `answer` puts
+them together.
 """
 import sys
 
@@ -12,6 +13,7 @@ from domlogic.reading.generated import count_of, generated
 from domlogic.reading.limits import (DOCUMENT_NESTING, FILE_NESTING, LAST_I64, LAST_U32, NODES, STEPS,
                             TEXT_BYTES, VARIABLES, Refused)
 from domlogic.reading.machine import Grove, Machine, outcome
+from domlogic.reading.preconditions import precondition_text
 from domlogic.reading.proofs import check_proof
 from domlogic.reading.reader import NoReading
 from domlogic.reading.sorts import declared_by
@@ -118,6 +120,8 @@ def output_of(words, files):
         return checked(fetched(files, words[1]))
     if len(words) == 2 and words[0] == "fill":
         return filled(theory_of(fetched(files, words[1])))
+    if len(words) == 3 and words[0] == "wp":
+        return precondition_text(theory_of(fetched(files, words[1])), words[2])
     if len(words) == 2 and words[0] in ("make", "trial") and count_of(words[1]):
         text = generated(count_of(words[1]))
         return text if words[0] == "make" else checked(text.encode())
