@@ -17,6 +17,7 @@ limit_kind_of l.Identifier = limits.identifier_limit
 limit_kind_of l.Number = limits.number_limit
 limit_kind_of l.Depth = limits.depth_limit
 limit_kind_of l.Straight = limits.straight_limit
+limit_kind_of l.Watch = limits.watch_limit
 
 -- the limit that is named, if one is
 abbrev pub NamesLimit : Option LimitKind → Option limits.LimitKind → Type 0

@@ -30,6 +30,12 @@ pub const DEPTH: usize = 10_000;
 /// The most fuel of a run.
 pub const FUEL: u32 = 1_000_000;
 
+/// The most commands, but for skip and blocks, of one whose weakest precondition is computed.
+pub const STRAIGHT: usize = 64;
+
+/// The greatest weight of a formula that is watched.
+pub const WATCH: u64 = 100_000_000;
+
 /// A counted quantity that has a limit.
 #[derive(Clone, Copy, Debug, PartialEq, Eq)]
 pub enum LimitKind {
@@ -53,4 +59,6 @@ pub enum LimitKind {
     Depth,
     /// The commands, but for skip and blocks, of one whose weakest precondition is computed.
     Straight,
+    /// The weight of a formula that is watched.
+    Watch,
 }

@@ -49,6 +49,7 @@ named_again l.Identifier = refl
 named_again l.Number = refl
 named_again l.Depth = refl
 named_again l.Straight = refl
+named_again l.Watch = refl
 
 -- the answer to the limit that is named
 pub past_limit : (kind : own.LimitKind) (limit : Option LimitKind) → NamesLimit (Some kind) limit

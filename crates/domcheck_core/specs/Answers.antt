@@ -54,6 +54,7 @@ limit_named limits.identifier_limit = l.Identifier
 limit_named limits.number_limit = l.Number
 limit_named limits.depth_limit = l.Depth
 limit_named limits.straight_limit = l.Straight
+limit_named limits.watch_limit = l.Watch
 
 abbrev pub limit_answer : limits.LimitKind → Answer
 limit_answer kind = (status.Limit (limit_named kind), limit_line kind)

@@ -37,6 +37,7 @@ pub fn limit_name(kind: LimitKind) -> &'static str
         LimitKind::Number => "number",
         LimitKind::Depth => "depth",
         LimitKind::Straight => "straight",
+        LimitKind::Watch => "watch",
     }
 }
 

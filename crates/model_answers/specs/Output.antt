@@ -9,7 +9,7 @@ use Rattle.model_formulas.specs.Formulas.{Named}
 use Rattle.model_commands.specs.Commands.{Command}
 use Rattle.model_commands.specs.Theories.{Theory}
 use Rattle.model_machine.specs.Machine.{FaultKind, no_node, no_list, cycle, not_child, self_ref}
-use Rattle.model_limits.specs.Limits.{LimitKind, file_limit, nesting_limit, text_limit, variables_limit, steps_limit, nodes_limit, identifier_limit, number_limit, depth_limit, straight_limit}
+use Rattle.model_limits.specs.Limits.{LimitKind, file_limit, nesting_limit, text_limit, variables_limit, steps_limit, nodes_limit, identifier_limit, number_limit, depth_limit, straight_limit, watch_limit}
 use Rattle.model_text.specs.Tokens.{newline}
 use Rattle.model_documents.specs.Numbers.{Numbered, node_numbered, list_numbered}
 use Rattle.model_documents.specs.Roots.{sorted_roots}
@@ -126,6 +126,7 @@ limit_name identifier_limit = codes "identifier"
 limit_name number_limit = codes "number"
 limit_name depth_limit = codes "depth"
 limit_name straight_limit = codes "straight"
+limit_name watch_limit = codes "watch"
 
 -- `limit KIND`
 abbrev pub limit_line : LimitKind → List ℕ

@@ -3,10 +3,10 @@
 use Rattle.std.specs.Prelude.{ℕ, ℤ, pos, negsuc}
 
 -- the counted quantities: those of texts and files, from nodes on those of runs, and at last that
--- of commands whose weakest precondition is computed
+-- of commands whose weakest precondition is computed and that of formulas that are watched
 pub data LimitKind : Type 0 where
   file_limit nesting_limit text_limit variables_limit steps_limit : LimitKind
-  nodes_limit identifier_limit number_limit depth_limit straight_limit : LimitKind
+  nodes_limit identifier_limit number_limit depth_limit straight_limit watch_limit : LimitKind
 
 -- the most that each may be
 pub record Limits : Type 0 where
@@ -29,6 +29,8 @@ pub record Limits : Type 0 where
   pub fuel : ℕ
   -- commands, but for skip and blocks, of one whose weakest precondition is computed
   pub straight : ℕ
+  -- the weight of a formula that is watched
+  pub watch : ℕ
   -- steps of an offer of an assistant, and bytes of its text
   pub offer_steps : ℕ
   pub offer_bytes : ℕ
@@ -49,6 +51,7 @@ standard_limits = record {
   numeral = 4294967295;
   fuel = 1000000;
   straight = 64;
+  watch = 100000000;
   offer_steps = 10000;
   offer_bytes = 1048576;
 }

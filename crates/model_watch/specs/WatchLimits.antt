@@ -4,7 +4,7 @@
 use Rattle.std.specs.Prelude.{ℕ, nat_le, List, [], ◌∷◌, ◌++◌, Option}
 use Rattle.std.specs.List.{filter}
 use Rattle.model_limits.specs.FirstOf.{or_else, unless}
-use Rattle.model_limits.specs.Limits.{LimitKind, Limits}
+use Rattle.model_limits.specs.Limits.{LimitKind, watch_limit, Limits}
 use Rattle.model_terms.specs.Terms.{Term}
 use Rattle.model_terms.specs.TermSorts.{is_plain}
 use Rattle.model_terms.specs.Stores.{Store}
@@ -30,9 +30,8 @@ terms_by_parts (grove_sum p q) = terms_by_parts p ++ terms_by_parts q
 terms_by_parts (length_is a) = a ∷ []
 terms_by_parts p = []
 
--- The limit that is passed on a grove of so many nodes, where no weight above `most` is allowed;
--- `heavy` is the kind of that limit.
-abbrev pub watching_limit : Limits → ℕ → LimitKind → Store → ℕ → Named → Option LimitKind
-watching_limit limits most heavy store nodes p =
+-- the limit that is passed on a grove of so many nodes
+abbrev pub watching_limit : Limits → Store → ℕ → Named → Option LimitKind
+watching_limit limits store nodes p =
     or_else (terms_limit limits store (filter is_plain (terms_by_parts p)))
-    (unless (nat_le (weight nodes p) most) heavy)
+    (unless (nat_le (weight nodes p) limits.watch) watch_limit)

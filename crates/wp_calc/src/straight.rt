@@ -6,10 +6,8 @@ ghost use Rattle.model_commands.specs.CommandParts.{commands_in, commands_of};
 ghost use Rattle.model_weakest.specs.Straight.{acts, first_not_straight, goes_straight, is_short, length_of};
 ghost use Rattle.theory_syntax.specs.Commands.{block_of, command_of};
 
+use dom_terms::limits::STRAIGHT;
 use theory_syntax::{Block, Command};
-
-// The most commands, but for skip and blocks, of one whose weakest precondition is computed.
-const STRAIGHT: usize = 64;
 
 /// The first command in the command that is a choice, a loop, a local variable or a call, a command
 /// before those in it: none where the command is straight-line.
