@@ -44,13 +44,16 @@ plain_meaning (variable (logic x s)) e f h g = false≢true h
 plain_meaning (variable (bound i s)) e f h g = false≢true h
 plain_meaning (sum a b) e f h g =
     let w = all-append is_program (variables_of_term a) (variables_of_term b) h in
-    λ j. val (int (number_of (plain_meaning a e f w.0 g j) +ℤ number_of (plain_meaning b e f w.1 g j)))
+    λ j. val (int (number_of (plain_meaning a e f w.0 g j) +ℤ number_of (plain_meaning b e f w.1 g
+    j)))
 plain_meaning (difference a b) e f h g =
     let w = all-append is_program (variables_of_term a) (variables_of_term b) h in
-    λ j. val (int (number_of (plain_meaning a e f w.0 g j) -ℤ number_of (plain_meaning b e f w.1 g j)))
+    λ j. val (int (number_of (plain_meaning a e f w.0 g j) -ℤ number_of (plain_meaning b e f w.1 g
+    j)))
 plain_meaning (appended a b) e f h g =
     let w = all-append is_program (variables_of_term a) (variables_of_term b) h in
-    λ j. val (str (text_meant (plain_meaning a e f w.0 g j) ++ text_meant (plain_meaning b e f w.1 g j)))
+    λ j. val (str (text_meant (plain_meaning a e f w.0 g j) ++ text_meant (plain_meaning b e f w.1
+    g j)))
 
 given_meaning : (xs : List Var) (a : Term) (e f : Environment) → is_given xs a ≡ true
     → Agree xs e f → meaning_of e a ≡ meaning_of f a
@@ -196,7 +199,20 @@ cuts_decide P Q p q r w dp dq = record {
   so = λ e n. let x = cut_some (λ a b. p a && q b) r e in
       let y = parts_shaped forest (λ m. tt) x.0 x.1 (subst (Shaped (shape forest)) x.2 w) in
       let z = both_true (p x.0) (q x.1) x.3 in
-      n (x.0, y.0, λ m. m (x.1, y.1, (x.2, (dp x.0 x.1 x.2 y.0).so z.0, (dq x.0 x.1 x.2 y.1).so z.1)));
+      n (
+        x.0,
+        y.0,
+        λ m. m (
+          x.1,
+          y.1,
+          (
+            x.2,
+            (dp x.0 x.1 x.2 y.0).so z.0,
+            (dq x.0 x.1 x.2 y.1).so
+                z.1,
+          ),
+        ),
+      );
   back = λ m. surely (any_cut (λ a b. p a && q b) r) (λ n. m (λ a. a.2 (λ b. n (
       subst (λ z. any_cut (λ c d. p c && q d) z ≡ true) (sym b.2.0)
       (some_cut (λ c d. p c && q d) a.0 b.0
@@ -213,7 +229,8 @@ roots_decide : (P Q : Trees → Type 0) (p q : Trees → Bool) (r : Trees) → S
 roots_decide P Q p q r w dp dq one same = record {
   so = λ e n. let x = root_some (λ a b. p a && q b) r e in
       let g : SameAt grove r (beside x.1 (beside x.0 x.2)) =
-      subst (λ z. SameAt grove z (beside x.1 (beside x.0 x.2))) (sym x.3) (root_first x.0 x.1 x.2) in
+      subst (λ z. SameAt grove z (beside x.1 (beside x.0 x.2))) (sym x.3) (root_first x.0 x.1 x.2)
+      in
       let y = parts_shaped grove (λ m. tt) x.1 (beside x.0 x.2)
       (same-Shaped (shape grove) r (beside x.1 (beside x.0 x.2)) g w) in
       let z = both_true (p x.1) (q (beside x.0 x.2)) x.5 in
@@ -233,7 +250,8 @@ roots_decide P Q p q r w dp dq one same = record {
   back = λ m. surely (any_root (λ a b. p a && q b) r) (λ n. m (λ a. a.2 (λ b. n (
       let x = root_found r a.0 b.0 (one a.0 b.2.1) b.2.0 in
       let g : SameAt grove r (beside a.0 (beside x.0 x.1)) =
-      subst (λ z. SameAt grove z (beside a.0 (beside x.0 x.1))) (sym x.2) (root_first x.0 a.0 x.1) in
+      subst (λ z. SameAt grove z (beside a.0 (beside x.0 x.1))) (sym x.2) (root_first x.0 a.0 x.1)
+      in
       let y = parts_shaped grove (λ k. tt) a.0 (beside x.0 x.1)
       (same-Shaped (shape grove) r (beside a.0 (beside x.0 x.1)) g w) in
       subst (λ z. any_root (λ c d. p c && q d) z ≡ true) (sym x.2)
