@@ -1,7 +1,8 @@
 """The words of ./domcheck that stand on this package.
 
-usage: python3 domlogic --program PROGRAM (prove FILE | show FILE PROC | explain FILE)
-  PROGRAM   the proved program, which judges whatever is printed
+usage: python3 domlogic --program PROGRAM (prove FILE | show FILE PROC | explain FILE
+           | page [--to PAGE] FILE PROC DOC FUEL ARG*)
+  PROGRAM   the proved program, which judges whatever is printed, and runs what a page shows
 """
 import os
 import sys
@@ -9,12 +10,13 @@ import sys
 sys.dont_write_bytecode = True  # the checkout stays as it is
 sys.path.insert(0, os.path.dirname(os.path.dirname(os.path.abspath(__file__))))
 from domlogic.words.explain import explain
+from domlogic.words.page import page
 from domlogic.words.program import Answer
 from domlogic.words.prove import prove
 from domlogic.words.show import show
 
-# The words, each with its function and the number of words after it.
-WORDS = {"prove": (prove, 1), "show": (show, 2), "explain": (explain, 1)}
+# The words, each with its function and the number of words after it; None is any number.
+WORDS = {"prove": (prove, 1), "show": (show, 2), "explain": (explain, 1), "page": (page, None)}
 BAD_WORDS, NO_MEMORY, NOT_WRITTEN = 2, 10, 12
 
 
@@ -23,7 +25,7 @@ def answer_of(words: list[str]) -> Answer:
     if len(words) < 3 or words[0] != "--program" or words[2] not in WORDS:
         return Answer(BAD_WORDS, "bad words\n")
     answer, count = WORDS[words[2]]
-    if len(words) != 3 + count:
+    if count not in (None, len(words) - 3):
         return Answer(BAD_WORDS, "bad words\n")
     try:
         return answer(words[1], *words[3:])

@@ -158,12 +158,21 @@ def rows_of(title, lines):
     return rows
 
 
+def put_repeated(row):
+    """Puts the lines that are repeated into the output, once for each of the numbers."""
+    for number in row.numbers:
+        for text in row.repeated:
+            set_field(row, "output", text.replace("@", str(number)))
+    row.repeated = []
+
+
 def row_of(title, place, lines, mark=""):
     """Returns the row of these fields; the mark, if there is one, stands in its answer in place of each @."""
     mark = mark or "@"
     row = Row(title, place)
     for text in lines:
         if text.startswith("| "):
+            put_repeated(row)
             set_field(row, "output", text[2:].replace("@", mark))
             continue
         if text.startswith("|| "):
@@ -175,9 +184,7 @@ def row_of(title, place, lines, mark=""):
         if field != "output" or rest:
             is_marked = field in ("output", "filled")
             set_field(row, field.strip(), rest.strip().replace("@", mark) if is_marked else rest.strip())
-    for number in row.numbers:
-        for text in row.repeated:
-            set_field(row, "output", text.replace("@", str(number)))
+    put_repeated(row)
     if row.words is None or row.status is None:
         raise Unreadable(f"the row has no words or no status: {title}")
     return row

@@ -122,6 +122,9 @@ for word in prove explain; do
   ENDS=11 case_of "$word, no file" 11 "$of_package $word a" 'could not read a: there is no such file' "$word" a
 done
 case_of "show" 0 "$of_package show a p" '' show a p
+case_of "page" 0 "$of_package page a p d 9" '' page a p d 9
+ENDS=11 case_of "page, no document" 11 "$of_package page a p d 9" 'could not read a: there' page a p d 9
+ENDS=11 case_of "page in a file" 11 "$of_package page --to b a p d 9" 'could not read a: there' page --to b a p d 9
 ENDS=2 case_of "prove, bad words" 2 "$of_package prove" '' prove
 mkdir "$room/bare" && for tool in bash cat awk sort find readlink dirname grep; do
   ln -s "$(command -v "$tool")" "$room/bare"

@@ -1,8 +1,8 @@
 """The limits, the sorts and the refusals that the other parts share."""
 
 FILE_BYTES, TEXT_BYTES, VARIABLES, STEPS, NODES = 4194304, 4096, 64, 65535, 100000
-FILE_NESTING, DOCUMENT_NESTING, DEPTH, STRAIGHT = 100, 200, 10000, 64
-LAST_U32, LAST_I64 = 2**32 - 1, 2**63 - 1
+FILE_NESTING, DOCUMENT_NESTING, DEPTH, STRAIGHT, WATCH = 100, 200, 10000, 64, 100000000
+LAST_U32, LAST_I64, LAST_U64 = 2**32 - 1, 2**63 - 1, 2**64 - 1
 
 VALUE_SORTS = "node list int str bool".split()
 DATA_SORTS = "t f g".split()

@@ -5,7 +5,7 @@ goes into itself for each level of a grove, and no step looks at all nodes.
 """
 from domlogic.reading.limits import DEFAULTS, DEPTH, LAST_I64, LAST_U32, NODES, TEXT_BYTES, Refused
 from domlogic.reading.sorts import declared_by
-from domlogic.reading.texts import command_text, quoted
+from domlogic.reading.texts import command_text, quoted, value_text
 
 
 class Faulted(Exception):
@@ -148,11 +148,14 @@ class Grove:
             raise Faulted("NotChild")
         self.move(node, None)
 
+    def roots(self):
+        """Returns the numbers of the roots, rising."""
+        return sorted(node for node, parent in self.parent.items() if parent is None)
+
     def text(self):
         """Returns the text of the grove, its roots in the order of their numbers."""
-        roots = sorted(node for node, parent in self.parent.items() if parent is None)
         # What is still to be printed, the next one last: texts, and the numbers of nodes.
-        waiting, found = self.between(roots, "[", "] + [", "]") or ["0g"], []
+        waiting, found = self.between(self.roots(), "[", "] + [", "]") or ["0g"], []
         while waiting:
             one = waiting.pop()
             if isinstance(one, str):
@@ -205,11 +208,11 @@ def holds(condition, store):
 
 
 class Machine:
-    """The pending pieces (the next one last), the store and the grove of a run."""
+    """The pending pieces (the next one last), the store and the grove of a run, and its steps."""
 
     def __init__(self, theory, procedure, arguments, grove):
         self.procedures = {it.name: it for it in theory.procedures}
-        self.pending, self.grove, self.returns = [procedure.body], grove, 0
+        self.pending, self.grove, self.returns, self.steps = [procedure.body], grove, 0, 0
         self.store = self.store_for(procedure, arguments)
 
     @staticmethod
@@ -228,6 +231,7 @@ class Machine:
         followers = getattr(self, "on_" + {":=": "assign", "if": "if_else"}.get(head, head))(*parts)
         self.pending.pop()
         self.pending.extend(reversed(followers or []))
+        self.steps += 1
 
     def on_skip(self):
         pass
@@ -298,15 +302,25 @@ class Machine:
 
 
 def outcome(machine, fuel):
-    """Runs the machine and returns the number of its steps, or refuses."""
-    steps = 0
+    """Runs the machine to its end, or refuses."""
     while machine.pending:
-        if steps == fuel:
-            raise Refused(7, f"fuel spent after {steps} steps")
+        if machine.steps == fuel:
+            raise Refused(7, f"fuel spent after {machine.steps} steps")
         try:
             machine.step()
         except Faulted as kind:
             command = command_text(machine.pending[-1])
-            raise Refused(6, f"fault {kind} after {steps} steps: {command}") from None
-        steps += 1
-    return steps
+            raise Refused(6, f"fault {kind} after {machine.steps} steps: {command}") from None
+
+
+def run_lines(machine, procedure, fuel):
+    """Returns the status and the lines of a run; a limit is refused."""
+    try:
+        outcome(machine, fuel)
+    except Refused as why:
+        if why.status == 8:
+            raise
+        return why.status, [why.line]
+    results = [f"{name} = {value_text(machine.store[name], sort)}"
+               for name, sort in procedure.results]
+    return 0, [f"ended after {machine.steps} steps", *results, machine.grove.text()]

@@ -1,8 +1,8 @@
 """Each request and its answer: what domcheck has to print for the words, and its status.
 
 The other modules of this folder are its parts, in the order in which a request meets them: tokens,
-theories, sorts, faults, proofs, filling, preconditions, documents, machine, texts. `answer` puts
-them together.
+theories, sorts, faults, proofs, filling, preconditions, documents, machine, traces, watching,
+texts. `answer` puts them together.
 """
 import sys
 
@@ -12,14 +12,15 @@ from domlogic.reading.filling import filled
 from domlogic.reading.generated import count_of, generated
 from domlogic.reading.limits import (DOCUMENT_NESTING, FILE_NESTING, LAST_I64, LAST_U32, NODES, STEPS,
                             TEXT_BYTES, VARIABLES, Refused)
-from domlogic.reading.machine import Grove, Machine, outcome
+from domlogic.reading.machine import Grove, Machine, run_lines
 from domlogic.reading.preconditions import precondition_text
 from domlogic.reading.proofs import check_proof
 from domlogic.reading.reader import NoReading
 from domlogic.reading.sorts import declared_by
-from domlogic.reading.texts import value_text
 from domlogic.reading.theories import TheoryReader
 from domlogic.reading.tokens import decimal, tokens_within
+from domlogic.reading.traces import traced
+from domlogic.reading.watching import watched
 
 
 def refuse_fault(faults):
@@ -100,18 +101,31 @@ def checked(content):
     return f"accepted: {len(theory.procedures)} procedures, {steps} steps\n"
 
 
-def ran(files, name, called, document, fuel, words):
-    """Returns the output of `run FILE PROC DOC FUEL ARG*`."""
+def start_of(files, name, called, document, words):
+    """Returns the theory, the procedure, the arguments and the grove of a run."""
     theory = theory_of(fetched(files, name))
     procedure = next((it for it in theory.procedures if it.name == called), None)
     if procedure is None or len(words) != len(procedure.params):
         raise Refused(2, "bad words")
     arguments = [argument_of(word, sort) for word, (_, sort) in zip(words, procedure.params)]
-    machine = Machine(theory, procedure, arguments, grove_of(fetched(files, document)))
-    lines = [f"ended after {outcome(machine, fuel)} steps"]
-    for name, sort in procedure.results:
-        lines.append(f"{name} = {value_text(machine.store[name], sort)}")
-    return "\n".join([*lines, machine.grove.text(), ""])
+    return theory, procedure, arguments, grove_of(fetched(files, document))
+
+
+def ran(theory, procedure, arguments, grove, fuel):
+    """Returns the status and the lines of `run`."""
+    return run_lines(Machine(theory, procedure, arguments, grove), procedure, fuel)
+
+
+OF_RUNS = {"run": ran, "trace": traced, "watch": watched}
+
+
+def run_output(files, form, *words):
+    """Returns the output of `run FILE PROC DOC FUEL ARG*`, or of a form with the same words."""
+    start = start_of(files, *words[:3], words[4:])
+    status, lines = OF_RUNS[form](*start, int(words[3]))
+    if status:
+        raise Refused(status, "\n".join(lines))
+    return "\n".join([*lines, ""])
 
 
 def output_of(words, files):
@@ -125,9 +139,9 @@ def output_of(words, files):
     if len(words) == 2 and words[0] in ("make", "trial") and count_of(words[1]):
         text = generated(count_of(words[1]))
         return text if words[0] == "make" else checked(text.encode())
-    if len(words) < 5 or words[0] != "run" or decimal(words[4], 0, 1000000) is None:
+    if len(words) < 5 or words[0] not in OF_RUNS or decimal(words[4], 0, 1000000) is None:
         raise Refused(2, "bad words")
-    return ran(files, *words[1:4], int(words[4]), words[5:])
+    return run_output(files, *words)
 
 
 def answer(words, files):

@@ -73,13 +73,17 @@ class Picked(Grove):
         self.add(name, node, childlist)
         return node
 
-    def data(self, nodes: list[int] | None = None) -> list[Tree]:
-        """The roots, or the trees of these nodes, as meanings.py has them."""
-        if nodes is None:
-            nodes = [node for node, parent in self.parent.items() if parent is None]
-        return [Tree(("str", self.name[it]), ("#", it),
-                     tuple(self.data(self.children[it].numbers())), ("%", self.childlist[it]))
-                for it in nodes]
+
+def trees_of(grove: Grove, nodes: list[int]) -> tuple[Tree, ...]:
+    """The trees of these nodes, as meanings.py has them."""
+    return tuple(Tree(("str", grove.name[it]), ("#", it),
+                      trees_of(grove, grove.children[it].numbers()), ("%", grove.childlist[it]))
+                 for it in nodes)
+
+
+def data_of(grove: Grove) -> frozenset:
+    """The grove as meanings.py has it."""
+    return frozenset(trees_of(grove, grove.roots()))
 
 
 class Case(NamedTuple):
@@ -129,7 +133,7 @@ def runs(case: Case) -> Iterator[tuple[dict[str, Any], frozenset] | None]:
         try:
             while machine.pending:
                 machine.step()
-            yield machine.store, frozenset(grove.data())
+            yield machine.store, data_of(grove)
         except Faulted:
             yield None
         except BadPick:
@@ -246,7 +250,7 @@ class Maker:
         """Values of the logic variables that may stand free: mostly, $g is the grove at an end, and
         $n a node number of its store."""
         ends = [end for end in runs(case) if end is not None]
-        start = case.store, frozenset(Picked(case.roots, ()).data())
+        start = case.store, data_of(Grove(case.roots))
         is_end = ends and self.random.random() < 0.8
         store, grove = self.random.choice(ends) if is_end else start
         number = self.random.choice((None, store["x"], store["x"], store["y"], store["y"]))
@@ -266,7 +270,7 @@ def answers(case: Case, rows: dict | None = None) -> tuple[bool, bool]:
 
     def holds(formula: tuple, store: dict[str, Any], data: frozenset) -> bool:
         return Meaning(with_store(case.given, store), sorts, domains).holds(formula, "g", data)
-    formula = holds(found.formula, case.store, frozenset(Picked(case.roots, ()).data()))
+    formula = holds(found.formula, case.store, data_of(Grove(case.roots)))
     return formula, all(end is not None and holds(procedure.post, *end) for end in runs(case))
 
 

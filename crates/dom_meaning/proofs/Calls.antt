@@ -14,7 +14,7 @@ use Rattle.model_machine.specs.Machine.{run, return, becomes, entering, calling}
 use Rattle.dom_terms.specs.Terms.{prog_var_of}
 use Rattle.theory_syntax.specs.Commands.{command_of}
 use Rattle.dom_meaning.specs.OwnTerms.{Fed, Enters}
-use Rattle.dom_meaning.specs.Plans.{nameless_of}
+use Rattle.dom_meaning.specs.Effects.{nameless_of}
 
 -- the first one with the name is found by it
 pub found_by_name : (name : Name) (ps : List Procedure)

@@ -1,46 +1,27 @@
 -- What the machine does with the piece that is kept last.
-use Rattle.std.proofs.Common.{◌≡◌, List, [], ◌∷◌, ◌++◌, sym, ap, ◌∙◌, subst}
+use Rattle.std.proofs.Common.{◌≡◌, ◌≢◌, List, [], ◌∷◌, ◌++◌, Ok, Err, sym, ap, ◌∙◌, subst}
+use Rattle.std.specs.Prelude.{Result, IfOk}
 use Rattle.model_shapes.specs.Trees.{Trees}
-use Rattle.model_shapes.specs.Values.{FitsValue}
-use Rattle.model_terms.specs.Stores.{Store, sort_of}
-use Rattle.model_terms.proofs.StoreLaws.{set-same}
+use Rattle.model_terms.specs.Stores.{Store}
 use Rattle.model_commands.specs.Theories.{Procedures}
-use Rattle.model_commands.specs.SortTests.{BodiesSorted}
 use Rattle.model_machine.specs.Machine as model
 use Rattle.model_groves.specs.Picks.{Pick}
-use Rattle.model_machine.specs.Machine.{Piece, run, restore, return, Move, becomes, faults, bad_pick, move, configuration, next, done, at_fault, at_bad_pick, stepped, step}
+use Rattle.model_machine.specs.Machine.{Piece, Move, becomes, faults, bad_pick, move, configuration, next, at_fault, at_bad_pick, stepped, step}
 use Rattle.model_limits.specs.Limits.{standard_limits}
 use Rattle.model_machine.specs.Outcomes.{step_limit, limit_ahead}
 use Rattle.model_machine.specs.Fitting.{FitsPiece, FitPieces, FitsConfig}
-use Rattle.model_machine.proofs.Fine.{FineMove, move-fine}
-use Rattle.dom_terms.specs.Terms.{prog_var_of}
-use Rattle.dom_terms.specs.Values.{value_seen}
+use Rattle.model_machine.proofs.Fine.{step-fits}
+use Rattle.model_commands.specs.SortTests.{BodiesSorted}
 use Rattle.dom_terms.specs.Stores.{store_of}
 use Rattle.grove_data.specs.Trees.{forest_of}
 use Rattle.dom_meaning.specs.declared.configurations.Pending.{Pending}
 use Rattle.dom_meaning.specs.declared.configurations.Config.{Config}
-use Rattle.dom_meaning.specs.declared.plans.Change.{Change}
-use Rattle.dom_meaning.specs.declared.plans.Change.TheVariants as c
+use Rattle.dom_meaning.specs.declared.faults.StepFault.{StepFault}
+use Rattle.dom_meaning.specs.declared.steps.StepOut.{StepOut}
+use Rattle.dom_meaning.specs.declared.steps.StepOut.TheVariants as o
 use Rattle.dom_meaning.specs.Configs.{piece_of, pieces_in, config_of}
-use Rattle.dom_meaning.specs.Plans.{pieces_put, store_after, grove_after, FitsStores}
+use Rattle.dom_meaning.specs.Steps.{answer_of}
 use Rattle.dom_meaning.proofs.PieceLaws.{pieces_in-append}
-
--- a change that the machine makes sets variables to values of their sorts
-safe : (ps : Procedures) (change : Change) (piece : Piece) (store : Store) (grove : Trees)
-    → FineMove ps (becomes (pieces_put change piece) (store_after change store)
-    (grove_after change grove))
-    → FitsStores change
-safe ps (c.Set x v) piece store grove fine =
-    subst (FitsValue (sort_of (prog_var_of x)))
-    (set-same (prog_var_of x) (value_seen v) store) (fine.1.proper.fits (prog_var_of x))
-safe ps (c.Root tree x v) piece store grove fine =
-    subst (FitsValue (sort_of (prog_var_of x)))
-    (set-same (prog_var_of x) (value_seen v) store) (fine.1.proper.fits (prog_var_of x))
-safe ps (c.Pieces pieces) piece store grove fine = tt
-safe ps (c.Before pieces) piece store grove fine = tt
-safe ps c.Unfold piece store grove fine = tt
-safe ps (c.Switch pieces other) piece store grove fine = tt
-safe ps (c.Grove other) piece store grove fine = tt
 
 module _ (ps : Procedures) (config : Config) (piece : Pending) (others : List Pending)
     (last : config.pending ≡ others ++ piece ∷ []) where
@@ -76,26 +57,29 @@ module _ (ps : Procedures) (config : Config) (piece : Pending) (others : List Pe
       → at_bad_pick ≡ step ps (config_of config) pick
   it_picks pick e = step_of pick bad_pick e
 
-  module _ (pick : Pick) (change : Change)
-      (moves : becomes (pieces_put change (piece_of piece))
-      (store_after change (store_of config.store)) (grove_after change (forest_of config.grove))
-      ≡ move ps pick (piece_of piece) (store_of config.store) (forest_of config.grove)) where
-    -- the change may be made
-    pub it_is_safe : BodiesSorted ps → FitsConfig ps (config_of config) → FitsStores change
-    it_is_safe bodies fits =
-        safe ps change (piece_of piece) (store_of config.store) (forest_of config.grove)
-        (subst (FineMove ps) (sym moves)
-        (move-fine ps bodies pick (piece_of piece) (store_of config.store)
-        (forest_of config.grove) (piece_fits fits) fits.fine))
+  -- the configuration with the pieces in its place is the next one
+  pub it_becomes : (pick : Pick) (pieces : List Piece) (store : Store) (grove : Trees)
+      → becomes pieces store grove
+      ≡ move ps pick (piece_of piece) (store_of config.store) (forest_of config.grove)
+      → (after : Config) → pieces_in after.pending ≡ pieces ++ pieces_in others
+      → store_of after.store ≡ store → forest_of after.grove ≡ grove
+      → next (config_of after) ≡ step ps (config_of config) pick
+  it_becomes pick pieces store grove moves after pending same_store same_grove =
+      (λ i. next (configuration (pending i) (same_store i) (same_grove i)))
+      ∙ step_of pick (becomes pieces store grove) moves
 
-    -- the configuration after it is the next one
-    pub it_becomes : (after : Config)
-        → pieces_in after.pending ≡ pieces_put change (piece_of piece) ++ pieces_in others
-        → store_of after.store ≡ store_after change (store_of config.store)
-        → forest_of after.grove ≡ grove_after change (forest_of config.grove)
-        → next (config_of after) ≡ step ps (config_of config) pick
-    it_becomes after pending store grove =
-        (λ i. next (configuration (pending i) (store i) (grove i)))
-        ∙ step_of pick (becomes (pieces_put change (piece_of piece))
-        (store_after change (store_of config.store)) (grove_after change (forest_of config.grove)))
-        moves
+-- a step that answers as the machine does leaves a configuration that fits
+pub stays_fit : (ps : Procedures) → BodiesSorted ps → (before after : Config) (pick : Pick)
+    (result : Result StepOut StepFault) → FitsConfig ps (config_of before)
+    → IfOk result (λ out. answer_of out (config_of after) ≡ step ps (config_of before) pick)
+    → (result ≢ Ok o.Next → after ≡ before) → FitsConfig ps (config_of after)
+stays_fit ps bodies before after pick (Ok o.Next) fits is same =
+    step-fits ps bodies pick (config_of before) (config_of after) fits (sym is)
+stays_fit ps bodies before after pick (Ok o.Done) fits is same =
+    subst (λ z. FitsConfig ps (config_of z)) (sym (same (λ e. cc))) fits
+stays_fit ps bodies before after pick (Ok (o.Fault kind)) fits is same =
+    subst (λ z. FitsConfig ps (config_of z)) (sym (same (λ e. cc))) fits
+stays_fit ps bodies before after pick (Ok o.BadPick) fits is same =
+    subst (λ z. FitsConfig ps (config_of z)) (sym (same (λ e. cc))) fits
+stays_fit ps bodies before after pick (Err fault) fits is same =
+    subst (λ z. FitsConfig ps (config_of z)) (sym (same (λ e. cc))) fits

@@ -1,9 +1,12 @@
 pub mod PieceLaws
+pub mod EffectLaws
+pub mod MoveLaws
+pub mod PlainLaws
+pub mod FirstPieces
 pub mod TermLaws
 pub mod Reading
 pub mod Calls
 pub mod Faulting
-pub mod FirstPieces
 pub mod StoreLaws
 pub mod RunLaws
 pub mod Bodies

@@ -3,6 +3,7 @@ use Rattle.std.proofs.Common.{◌≡◌, List, [], ◌∷◌, Bool, true, ◌&&�
 use Rattle.model_shapes.specs.Sorts.{node_sort, list_sort, int_sort, str_sort}
 use Rattle.model_shapes.specs.Tests.{same_value_sort}
 use Rattle.model_shapes.proofs.Truth.{false≢true, both_true}
+use Rattle.model_shapes.proofs.Tests.{same_value_sort-is}
 use Rattle.model_terms.specs.Terms.{Term}
 use Rattle.model_terms.specs.TermSorts.{evaluates}
 use Rattle.model_terms.specs.Stores.{ProgVar, sort_of}
@@ -59,8 +60,9 @@ module _ (ps : Procedures) where
   terms_fit (block b) h = tt
   terms_fit (assign x e) h = own (assign x e) _ h
   terms_fit (create_node x e) h =
-      second (same_value_sort (sort_of x) node_sort) (evaluates str_sort e)
-      (own (create_node x e) _ h)
+      let parts = both_true (same_value_sort (sort_of x) node_sort) (evaluates str_sort e)
+      (own (create_node x e) _ h) in
+      (same_value_sort-is (sort_of x) node_sort parts.0, parts.1)
   terms_fit (node_name x e) h =
       second (same_value_sort (sort_of x) str_sort) (evaluates node_sort e)
       (own (node_name x e) _ h)

@@ -1,6 +1,9 @@
 pub mod Configs
 pub mod Faults
 pub mod OwnTerms
+pub mod Documents
+pub mod Effects
+pub mod Plain
 pub mod Plans
 pub mod Steps
 pub mod Runs

@@ -1,5 +1,6 @@
--- Needn't be believed: the tests that the terms and the condition of a command pass, one by one.
--- A lemma says that those of each command that a run may take do.
+-- Needn't be believed: the tests that the terms and the condition of a command pass, one by one,
+-- and the variable that a new node is given to. A lemma says that those of each command that a run
+-- may take do.
 use Rattle.std.specs.Prelude.{◌≡◌, true, List, [], ◌∷◌, Option, Some, None}
 use Rattle.model_shapes.specs.Sorts.{node_sort, list_sort, int_sort, str_sort}
 use Rattle.model_terms.specs.Terms.{Term}
@@ -25,7 +26,7 @@ abbrev pub TermsFit : Procedures → Command → Type 0
 TermsFit procedures skip = Unit
 TermsFit procedures (block b) = Unit
 TermsFit procedures (assign x e) = evaluates (sort_of x) e ≡ true
-TermsFit procedures (create_node x e) = evaluates str_sort e ≡ true
+TermsFit procedures (create_node x e) = (sort_of x ≡ node_sort) × (evaluates str_sort e ≡ true)
 TermsFit procedures (node_name x e) = evaluates node_sort e ≡ true
 TermsFit procedures (child_nodes x e) = evaluates node_sort e ≡ true
 TermsFit procedures (parent_node x e) = evaluates node_sort e ≡ true

@@ -2,6 +2,7 @@
 ghost use Rattle.std.specs.Prelude.{◌≡◌};
 ghost use Rattle.dom_meaning.specs.Faults.{step_fault_of};
 ghost use Rattle.dom_meaning.specs.declared.faults.StepFault.TheVariants as s;
+ghost use Rattle.dom_meaning.specs.declared.faults.MoveFault.TheVariants as m;
 
 use dom_terms::{EvalFault, LimitKind, OutOfMemory};
 
@@ -27,6 +28,37 @@ pub enum StepFault {
     Limit(LimitKind),
     /// Memory was refused.
     OutOfMemory,
+}
+
+/// Why a tree isn't moved. The document is then as it was.
+#[derive(Clone, Copy, Debug, PartialEq, Eq)]
+pub enum MoveFault {
+    /// The command faults.
+    Fault(FaultKind),
+    /// Memory was refused.
+    OutOfMemory,
+}
+
+/// What came of a node that was to be made.
+#[derive(Clone, Copy, Debug, PartialEq, Eq)]
+pub enum Creation {
+    /// It was made.
+    Made {
+        /// Its number.
+        node: u32,
+        /// The number of its list of children.
+        list: u32,
+    },
+    /// A number of the pick is 0 or in use.
+    BadPick,
+}
+
+impl From<OutOfMemory> for MoveFault {
+    ghost from_gives = { λ _ fault. fault ≡ m.OutOfMemory };
+
+    fn from(_refused: OutOfMemory) -> MoveFault {
+        MoveFault::OutOfMemory
+    }
 }
 
 impl From<OutOfMemory> for StepFault {

@@ -1,4 +1,5 @@
-// What is planned for assignments, choice, loops, local variables and calls.
+// What comes of assignments, choice, loops, local variables and calls.
+ghost use Rattle.std.specs.Prelude as plain;
 ghost use Rattle.std.specs.Prelude.{◌≡◌, [], ◌∷◌, true, cond as either, map, find, bytes_eq, option_copied, IfOk};
 ghost use Rattle.std.specs.Option.{option_map};
 ghost use Rattle.model_shapes.specs.Trees.{Trees};
@@ -11,181 +12,148 @@ ghost use Rattle.model_commands.specs.Sorting.{Receive};
 ghost use Rattle.model_commands.specs.Theories.{procedures_of, procedure_named};
 ghost use Rattle.model_machine.specs.Machine as machine;
 ghost use Rattle.model_machine.specs.Machine.{Piece, run, becomes, entering, returning, calling};
+ghost use Rattle.model_machine.specs.Outcomes.{returns_in, step_limit};
 ghost use Rattle.model_limits.specs.Limits.{standard_limits};
 ghost use Rattle.model_terms.specs.TermLimits.{term_limit, terms_limit};
-ghost use Rattle.model_machine.specs.Outcomes.{returns_in, step_limit};
 ghost use Rattle.dom_terms.specs.Evaluation.{Reports};
 ghost use Rattle.dom_terms.specs.Sorts.{value_sort_of};
 ghost use Rattle.dom_terms.specs.Terms.{prog_var_of, term_of};
 ghost use Rattle.dom_terms.specs.Conditions.{cond_of};
-ghost use Rattle.dom_terms.specs.Values.{value_seen};
 ghost use Rattle.dom_terms.specs.Stores.{store_of};
-ghost use Rattle.theory_syntax.specs.Commands.{block_of, command_of};
+ghost use Rattle.theory_syntax.specs.Commands.{block_of};
 ghost use Rattle.theory_syntax.specs.Theories.{theory_of};
-ghost use Rattle.dom_meaning.specs.Configs.{pieces_in};
 ghost use Rattle.dom_meaning.specs.Faults.{TellsLimit};
 ghost use Rattle.dom_meaning.specs.OwnTerms.{Fed, Enters};
-ghost use Rattle.dom_meaning.specs.Plans.{move_of, nameless_of};
+ghost use Rattle.dom_meaning.specs.Effects.{move_of, nameless_of, TellsNone};
 
-use crate::configurations::{Pending, Pieces};
+use crate::effects::Effect;
 use crate::faults::StepFault;
-use crate::plans::{Change, Plan};
 use dom_terms::limits::DEPTH;
 use dom_terms::{
-    Cond, Copied, EvalFault, LimitKind, List, OutOfMemory, ProgVar, Store, Term, Terms, Text,
-    Value, Vars, default_of, eval, holds, same_text, value_or_default,
+    Cond, Copied, EvalFault, LimitKind, OutOfMemory, ProgVar, Store, Term, Terms, Text, Vars, eval,
+    holds, same_text, value_or_default,
 };
 use std::alloc::Global;
-use theory_syntax::{Block, Command, Procedure, Theory};
+use theory_syntax::{Block, Procedure, Theory};
 
-/// The variable is set to the value of the term.
-pub(crate) fn assigned(
+/// The variable is to be set to the value of the term.
+pub(crate) fn assigned<'a>(
     alloc: Global,
-    variable: &ProgVar,
+    variable: &'a ProgVar,
     value: &Term,
     store: &Store,
-) -> Result<Plan, StepFault>
+) -> Result<Effect<'a>, StepFault>
     requires { evaluates (value_sort_of variable.now.sort) (term_of value.now) ≡ true }
-    ensures plan { IfOk result (λ plan. (piece : Piece) (grove : Trees)
-        → move_of plan piece (store_of store.now) grove
+    ensures moves { IfOk result (λ effect. (piece : Piece) (grove : Trees)
+        → move_of effect piece (store_of store.now) grove
         ≡ becomes [] (stores.set (prog_var_of variable.now)
         (value_of (store_of store.now) (term_of value.now)) (store_of store.now)) grove) }
+    ensures change { IfOk result TellsNone }
     ensures limit { TellsLimit result
         (term_limit standard_limits (store_of store.now) (term_of value.now)) }
 {
-    let value = eval(alloc, value, store)?;
-    Ok(Plan::Becomes(Change::Set(variable.copy(alloc)?, value)))
+    Ok(Effect::Set(variable, eval(alloc, value, store)?))
 }
 
-/// The variable is given its old value.
-pub(crate) fn restored(
+/// The block, after which the variable is given its value back. The variable has its default in
+/// the block.
+pub(crate) fn opened<'a>(
     alloc: Global,
-    variable: &ProgVar,
-    value: &Value,
-) -> Result<Plan, OutOfMemory>
-    ensures { IfOk result (λ plan. (piece : Piece) (store : stores.Store) (grove : Trees)
-        → move_of plan piece store grove ≡ becomes []
-        (stores.set (prog_var_of variable.now) (value_seen value.now) store) grove) }
-{
-    Ok(Plan::Becomes(Change::Set(variable.copy(alloc)?, value.copy(alloc)?)))
-}
-
-/// The block, and behind it the value that the variable is given back. The variable has its default
-/// in the block.
-pub(crate) fn opened(
-    alloc: Global,
-    variable: &ProgVar,
-    block: &Block,
+    variable: &'a ProgVar,
+    block: &'a Block,
     store: &Store,
-) -> Result<Plan, OutOfMemory>
-    ensures { IfOk result (λ plan. (piece : Piece) (grove : Trees)
-        → move_of plan piece (store_of store.now) grove
+) -> Result<Effect<'a>, OutOfMemory>
+    ensures moves { IfOk result (λ effect. (piece : Piece) (grove : Trees)
+        → move_of effect piece (store_of store.now) grove
         ≡ becomes (run (commands.block (block_of block.now))
         ∷ machine.restore (prog_var_of variable.now)
         (value_in (store_of store.now) (prog_var_of variable.now)) ∷ [])
         (stores.set (prog_var_of variable.now) (stores.default (value_sort_of variable.now.sort))
         (store_of store.now)) grove) }
+    ensures change { IfOk result TellsNone }
 {
     let old = value_or_default(alloc, variable, store)?;
-    let mut pieces = List::new(alloc);
-    pieces.push(Pending::Restore(variable.copy(alloc)?, old))?;
-    pieces.push(Pending::Run(Command::Block(block.copy(alloc)?)))?;
-    let mut inner = store.copy(alloc)?;
-    inner.set(variable.copy(alloc)?, default_of(alloc, variable.sort))?;
-    Ok(Plan::Becomes(Change::Switch(pieces, inner)))
+    Ok(Effect::Local(variable, old, block))
 }
 
 /// The block that the condition chooses.
-pub(crate) fn chosen(
+pub(crate) fn chosen<'a>(
     alloc: Global,
     cond: &Cond,
-    first: &Block,
-    second: &Block,
+    first: &'a Block,
+    second: &'a Block,
     store: &Store,
-) -> Result<Plan, StepFault>
+) -> Result<Effect<'a>, StepFault>
     requires { condition_sorted (cond_of cond.now) ≡ true }
-    ensures plan { IfOk result (λ plan. (piece : Piece) (grove : Trees)
-        → move_of plan piece (store_of store.now) grove
+    ensures moves { IfOk result (λ effect. (piece : Piece) (grove : Trees)
+        → move_of effect piece (store_of store.now) grove
         ≡ becomes (run (commands.block (either (truth_of (store_of store.now) (cond_of cond.now))
         (block_of first.now) (block_of second.now))) ∷ []) (store_of store.now) grove) }
+    ensures change { IfOk result TellsNone }
     ensures limit { TellsLimit result (terms_limit standard_limits (store_of store.now)
         (terms_of_cond (cond_of cond.now))) }
 {
-    let block = if holds(alloc, cond, store)? {
-        first
-    } else {
-        second
-    };
-    Ok(Plan::Becomes(Change::Pieces(block_piece(alloc, block)?)))
+    if holds(alloc, cond, store)? {
+        return Ok(Effect::Block(first));
+    }
+    Ok(Effect::Block(second))
 }
 
 /// The block before the loop where the condition holds, and nothing else.
-pub(crate) fn repeated(
+pub(crate) fn repeated<'a>(
     alloc: Global,
     cond: &Cond,
-    block: &Block,
+    block: &'a Block,
     store: &Store,
-) -> Result<Plan, StepFault>
+) -> Result<Effect<'a>, StepFault>
     requires { condition_sorted (cond_of cond.now) ≡ true }
-    ensures plan { IfOk result (λ plan. (piece : Piece) (grove : Trees)
-        → move_of plan piece (store_of store.now) grove
+    ensures moves { IfOk result (λ effect. (piece : Piece) (grove : Trees)
+        → move_of effect piece (store_of store.now) grove
         ≡ becomes (either (truth_of (store_of store.now) (cond_of cond.now))
         (run (commands.block (block_of block.now)) ∷ piece ∷ []) []) (store_of store.now) grove) }
+    ensures change { IfOk result TellsNone }
     ensures limit { TellsLimit result (terms_limit standard_limits (store_of store.now)
         (terms_of_cond (cond_of cond.now))) }
 {
-    if !holds(alloc, cond, store)? {
-        return Ok(Plan::Becomes(Change::Pieces(List::new(alloc))));
+    if holds(alloc, cond, store)? {
+        return Ok(Effect::Again(block));
     }
-    Ok(Plan::Becomes(Change::Before(block_piece(alloc, block)?)))
+    Ok(Effect::Nothing)
 }
 
-// The block as the only piece.
-fn block_piece(alloc: Global, block: &Block) -> Result<Pieces, OutOfMemory>
-    ensures { IfOk result (λ pieces.
-        pieces_in pieces ≡ run (commands.block (block_of block.now)) ∷ []) }
-{
-    let mut pieces = List::new(alloc);
-    pieces.push(Pending::Run(Command::Block(block.copy(alloc)?)))?;
-    Ok(pieces)
-}
-
-/// The body of the procedure with the name, and behind it the return. The store is that of the
-/// callee: its parameters with the values of the arguments.
+/// The body of the procedure with the name, and after it the return. The store is that of the
+/// callee: its parameters with the values of the arguments. So many returns are pending.
 #[tactic(auto, using(crate::proofs::Calls::call_rules))]
-pub(crate) fn called(
+pub(crate) fn called<'a>(
     alloc: Global,
-    theory: &Theory,
-    results: &Vars,
+    theory: &'a Theory,
+    results: &'a Vars,
     name: &Text,
     arguments: &Terms,
-    others: &[Pending],
+    returns: usize,
     store: &Store,
-) -> Result<Plan, StepFault>
+) -> Result<Effect<'a>, StepFault>
     requires { Enters (procedure_named name.now (procedures_of (theory_of theory.now)))
         (map term_of arguments.now) }
-    ensures plan { IfOk result (λ plan. (piece : Piece) (grove : Trees)
-        → move_of plan piece (store_of store.now) grove
+    ensures moves { IfOk result (λ effect. (piece : Piece) (grove : Trees)
+        → move_of effect piece (store_of store.now) grove
         ≡ calling (procedure_named name.now (procedures_of (theory_of theory.now)))
         (map prog_var_of results.now) (map term_of arguments.now) (store_of store.now) grove) }
-    ensures limit { (grove : Trees) → TellsLimit result (step_limit standard_limits
+    ensures change { IfOk result TellsNone }
+    ensures limit { (rest : plain.List Piece) (grove : Trees) → returns_in rest ≡ returns
+        → TellsLimit result (step_limit standard_limits
         (run (commands.call (map prog_var_of results.now) name.now (map term_of arguments.now)))
-        (pieces_in others.now) (store_of store.now) grove) }
+        rest (store_of store.now) grove) }
 {
     let Some(procedure) = procedure_with(theory, name) else {
         unreachable!();
     };
-    let callee = entered(
-        alloc,
-        procedure.params.as_slice(),
-        arguments.as_slice(),
-        store,
-    )?;
-    if returns_among(others) >= DEPTH {
+    let params = procedure.params.as_slice();
+    let callee = entered(alloc, params, arguments.as_slice(), store)?;
+    if returns >= DEPTH {
         return Err(StepFault::Limit(LimitKind::Depth));
     }
-    let pieces = body_and_return(alloc, procedure, results, store)?;
-    Ok(Plan::Becomes(Change::Switch(pieces, callee)))
+    Ok(Effect::Call(procedure, results, callee))
 }
 
 // The first procedure with the name.
@@ -233,57 +201,8 @@ fn entered(
     Ok(callee)
 }
 
-// How many returns are pending.
-#[tactic(auto, using(crate::proofs::PieceLaws::returns_counted))]
-fn returns_among(pending: &[Pending]) -> usize
-    ensures { result ≡ returns_in (pieces_in pending.now) }
-{
-    pending
-        .iter()
-        .filter(|piece| matches!(piece, Pending::Return(_, _, _)))
-        .count()
-}
-
-// The body of the procedure, and behind it the return to the store.
-fn body_and_return(
-    alloc: Global,
-    procedure: &Procedure,
-    results: &Vars,
-    store: &Store,
-) -> Result<Pieces, OutOfMemory>
-    ensures { IfOk result (λ pieces. pieces_in pieces ≡ run (command_of procedure.now.body)
-        ∷ machine.return (store_of store.now) (map prog_var_of procedure.now.results)
-        (map prog_var_of results.now) ∷ []) }
-{
-    let caller = store.copy(alloc)?;
-    let given = procedure.results.copy(alloc)?;
-    let mut pieces = List::new(alloc);
-    pieces.push(Pending::Return(caller, given, results.copy(alloc)?))?;
-    pieces.push(Pending::Run(procedure.body.copy(alloc)?))?;
-    Ok(pieces)
-}
-
 /// The caller's store, with the values of the callee's results in the variables that take them.
-pub(crate) fn given_back(
-    alloc: Global,
-    results: &Vars,
-    variables: &Vars,
-    callee: &Store,
-    caller: &Store,
-) -> Result<Plan, OutOfMemory>
-    requires { Receive (map prog_var_of results.now) (map prog_var_of variables.now) }
-    ensures { IfOk result (λ plan. (piece : Piece) (grove : Trees)
-        → move_of plan piece (store_of callee.now) grove
-        ≡ becomes [] (returning (map prog_var_of results.now) (map prog_var_of variables.now)
-        (store_of callee.now) (store_of caller.now)) grove) }
-{
-    let (results, variables) = (results.as_slice(), variables.as_slice());
-    let store = with_results(alloc, results, variables, callee, caller)?;
-    Ok(Plan::Becomes(Change::Switch(List::new(alloc), store)))
-}
-
-// The caller's store with the values of the results in the variables.
-fn with_results(
+pub fn with_results(
     alloc: Global,
     results: &[ProgVar],
     variables: &[ProgVar],

@@ -1,86 +1,57 @@
-// Nodes that are added, and trees that are moved.
-ghost use Rattle.std.specs.Prelude as plain;
-ghost use Rattle.std.specs.Prelude.{◌≡◌, [], ◌∷◌, true, IfOk};
+// Nodes that are made, and trees that are moved.
+ghost use Rattle.std.specs.Prelude.{◌≡◌, [], ◌∷◌, true, option_copied, IfOk, IfSome};
 ghost use Rattle.model_shapes.specs.Sorts as sorts;
 ghost use Rattle.model_shapes.specs.Trees.{WellFormed};
 ghost use Rattle.model_shapes.specs.Values.{FitsValue, str};
-ghost use Rattle.model_terms.specs.Stores as stores;
 ghost use Rattle.model_terms.specs.Stores.{value_of, text_in};
 ghost use Rattle.model_terms.specs.TermSorts.{evaluates};
-ghost use Rattle.model_commands.specs.Commands as commands;
 ghost use Rattle.model_groves.specs.Groves.{node_at};
-ghost use Rattle.model_machine.specs.Machine.{Piece, run, creating, appending, removing};
-ghost use Rattle.model_machine.specs.Machine.{inserting, inserting_at};
+ghost use Rattle.model_machine.specs.Machine.{Piece, creating, removing, inserting_at};
 ghost use Rattle.model_limits.specs.Limits.{standard_limits};
-ghost use Rattle.model_machine.specs.Outcomes.{step_limit};
-ghost use Rattle.model_terms.specs.TermLimits.{terms_limit};
+ghost use Rattle.model_terms.specs.TermLimits.{or_else, term_limit, terms_limit};
+ghost use Rattle.dom_terms.specs.Evaluation.{Reports};
+ghost use Rattle.dom_terms.specs.Sorts.{value_sort_of};
 ghost use Rattle.dom_terms.specs.Terms.{prog_var_of, term_of};
 ghost use Rattle.dom_terms.specs.Values.{value_seen};
 ghost use Rattle.dom_terms.specs.Stores.{store_of};
-ghost use Rattle.grove_data.specs.Trees.{tree_of, forest_of};
-ghost use Rattle.dom_meaning.specs.Configs.{pick_of};
+ghost use Rattle.grove_data.specs.Finding.{number_or_null};
+ghost use Rattle.dom_meaning.specs.Documents.{Kept, making_limit};
+ghost use Rattle.dom_meaning.specs.Effects.{Comes, if_quiet, Tells, making, moving, removing_from};
+ghost use Rattle.dom_meaning.specs.Effects.{next_value, next_terms};
 ghost use Rattle.dom_meaning.specs.Faults.{TellsLimit};
-ghost use Rattle.dom_meaning.specs.Plans.{move_of, moving_to};
 
-use crate::faults::{FaultKind, StepFault};
-use crate::picks::is_free;
-use crate::plans::{Change, Plan};
-use crate::reads::node_named;
-use dom_terms::limits::NODES;
-use dom_terms::{Copied, LimitKind, List, OutOfMemory, ProgVar, Store, Term, Text, Value, eval};
-use grove_data::{
-    Grove, Tree, has_at_most, has_root, is_within, moved_before, moved_below, moved_to_roots,
-};
+use crate::documents::Document;
+use crate::effects::Effect;
+use crate::faults::{Creation, FaultKind, MoveFault, StepFault};
+use dom_terms::{EvalFault, ProgVar, Store, Term, Text, Value, eval};
 use std::alloc::Global;
 
-// The most nodes that a grove may have.
-const MOST_NODES: usize = NODES;
-
-/// Where a tree is moved to.
-#[derive(Clone, Copy)]
-pub(crate) enum Place {
-    /// The end of the children of a node.
-    Children,
-    /// The roots.
-    Roots,
-}
-
-/// A root is added, with the text as its name and the numbers of the pick.
-pub(crate) fn created(
+/// A root is added, with the text as its name, and the variable set to its number.
+#[tactic(auto, using(crate::proofs::MoveLaws::creating_rules))]
+pub(crate) fn created<'a, D: Document>(
     alloc: Global,
     variable: &ProgVar,
     name: &Term,
-    store: &Store,
-    grove: &Grove,
-    pick: (u32, u32),
-) -> Result<Plan, StepFault>
+    store: &mut Store,
+    document: &mut D,
+) -> Result<Effect<'a>, StepFault>
+    requires variable { value_sort_of variable.now.sort ≡ sorts.node_sort }
     requires name { evaluates sorts.str_sort (term_of name.now) ≡ true }
-    ensures plan { IfOk result (λ plan. (piece : Piece)
-        → move_of plan piece (store_of store.now) (forest_of grove.now)
-        ≡ creating (pick_of pick) (prog_var_of variable.now)
-        (text_in (value_of (store_of store.now) (term_of name.now))) (store_of store.now)
-        (forest_of grove.now)) }
-    ensures limit { (rest : plain.List Piece) → TellsLimit result (step_limit standard_limits
-        (run (commands.create_node (prog_var_of variable.now) (term_of name.now))) rest
-        (store_of store.now) (forest_of grove.now)) }
+    ensures comes { (piece : Piece) → IfOk result (Comes (D.StandsFor document.new) (creating
+        (D.pick document.old) (prog_var_of variable.now)
+        (text_in (value_of (store_of store.old) (term_of name.now))) (store_of store.old)
+        (D.grove document.old)) piece (store_of store.new)) }
+    ensures kept { Kept if_quiet D.Keeps result (store.new ≡ store.old) document.old document.new }
+    ensures change { IfOk result (Tells (making (D.pick document.old))) }
+    ensures limit { TellsLimit result
+        (or_else (term_limit standard_limits (store_of store.old) (term_of name.now))
+        (making_limit (D.grove document.old) (D.numbers_limit document.old))) }
 {
     let name = text(eval(alloc, name, store)?);
-    if !has_at_most(grove, MOST_NODES - 1) {
-        return Err(StepFault::Limit(LimitKind::Nodes));
+    match document.create_node(alloc, variable, name, store)? {
+        Creation::Made { node, list } => Ok(Effect::Created { node, list }),
+        Creation::BadPick => Ok(Effect::BadPick),
     }
-    if !is_free(pick, grove) {
-        return Ok(Plan::BadPick);
-    }
-    let (id, list) = pick;
-    let kids = List::new(alloc);
-    let root = Tree {
-        name,
-        id,
-        kids,
-        list,
-    };
-    let variable = variable.copy(alloc)?;
-    Ok(Plan::Becomes(Change::Root(root, variable, Value::Node(id))))
 }
 
 // The text that a value is.
@@ -94,159 +65,121 @@ fn text(value: Value) -> Text
     }
 }
 
-/// The tree of the second node moves to the end of the children of the first, or from these to the
-/// roots. It faults where a value names no node; else where the first stands in the tree of the
-/// second, or where the second is no child of the first.
-pub(crate) fn moved(
+/// The tree of the second node moves to just before the third, a child of the first, or to the end
+/// of the children of the first where the third is null or there is no third.
+#[tactic(auto, using(crate::proofs::MoveLaws::inserting_rules))]
+pub(crate) fn inserted<'a, D: Document>(
     alloc: Global,
-    place: Place,
+    parent: &Term,
+    child: &Term,
+    next: Option<&Term>,
+    store: &Store,
+    document: &mut D,
+) -> Result<Effect<'a>, StepFault>
+    requires parent { evaluates sorts.node_sort (term_of parent.now) ≡ true }
+    requires child { evaluates sorts.node_sort (term_of child.now) ≡ true }
+    requires next { IfSome next (λ next. evaluates sorts.node_sort (term_of next.now) ≡ true) }
+    requires well_formed { WellFormed (D.grove document.old) }
+    ensures comes { (piece : Piece) → IfOk result (Comes (D.StandsFor document.new) (inserting_at
+        (next_value (store_of store.now) (option_copied next.entry))
+        (node_at (value_of (store_of store.now) (term_of parent.now)) (D.grove document.old))
+        (node_at (value_of (store_of store.now) (term_of child.now)) (D.grove document.old))
+        (store_of store.now) (D.grove document.old)) piece (store_of store.now)) }
+    ensures kept { Kept if_quiet D.Keeps result Unit document.old document.new }
+    ensures change { IfOk result (Tells (moving (value_of (store_of store.now) (term_of parent.now))
+        (value_of (store_of store.now) (term_of child.now))
+        (next_value (store_of store.now) (option_copied next.entry)) (D.grove document.old))) }
+    ensures limit { TellsLimit result (terms_limit standard_limits (store_of store.now)
+        (term_of parent.now ∷ term_of child.now ∷ next_terms (option_copied next.entry))) }
+{
+    let parent = eval(alloc, parent, store)?;
+    let child = eval(alloc, child, store)?;
+    let next = number_of(alloc, next, store)?;
+    let Value::Node(parent) = parent else {
+        return Ok(Effect::Fault(FaultKind::NoNode));
+    };
+    let Value::Node(child) = child else {
+        return Ok(Effect::Fault(FaultKind::NoNode));
+    };
+    let from = match document.parent_node(child) {
+        Ok(from) => from,
+        Err(kind) => return Ok(Effect::Fault(kind)),
+    };
+    match document.insert_child(alloc, parent, child, next) {
+        Ok(()) => Ok(Effect::Moved {
+            node: child,
+            from,
+            to: parent,
+            before: next,
+        }),
+        Err(MoveFault::Fault(kind)) => Ok(Effect::Fault(kind)),
+        Err(MoveFault::OutOfMemory) => Err(StepFault::OutOfMemory),
+    }
+}
+
+// The number of the node that the value of a term names: none where it is null or there is no term.
+fn number_of(alloc: Global, term: Option<&Term>, store: &Store) -> Result<Option<u32>, EvalFault>
+    requires { IfSome term (λ term. evaluates sorts.node_sort (term_of term.now) ≡ true) }
+    ensures number { IfOk result (λ number.
+        number_or_null number ≡ next_value (store_of store.now) (option_copied term.entry)) }
+    ensures limit { Reports result
+        (terms_limit standard_limits (store_of store.now) (next_terms (option_copied term.entry))) }
+{
+    match term {
+        Some(term) => Ok(number(eval(alloc, term, store)?)),
+        None => Ok(None),
+    }
+}
+
+// The number of the node that a value names: none where it is null.
+fn number(value: Value) -> Option<u32>
+    requires { FitsValue sorts.node_sort (value_seen value) }
+    ensures { number_or_null result ≡ value_seen value }
+{
+    match value {
+        Value::NullNode => None,
+        Value::Node(number) => Some(number),
+        _ => unreachable!(),
+    }
+}
+
+/// The tree of the second node, a child of the first, moves to the roots.
+#[tactic(auto, using(crate::proofs::MoveLaws::removing_rules))]
+pub(crate) fn removed<'a, D: Document>(
+    alloc: Global,
     parent: &Term,
     child: &Term,
     store: &Store,
-    grove: &Grove,
-) -> Result<Plan, StepFault>
+    document: &mut D,
+) -> Result<Effect<'a>, StepFault>
     requires parent { evaluates sorts.node_sort (term_of parent.now) ≡ true }
     requires child { evaluates sorts.node_sort (term_of child.now) ≡ true }
-    requires well_formed { WellFormed (forest_of grove.now) }
-    ensures plan { IfOk result (λ plan. (piece : Piece)
-        → move_of plan piece (store_of store.now) (forest_of grove.now) ≡ moving_to place
-        (node_at (value_of (store_of store.now) (term_of parent.now)) (forest_of grove.now))
-        (node_at (value_of (store_of store.now) (term_of child.now)) (forest_of grove.now))
-        (store_of store.now) (forest_of grove.now)) }
+    requires well_formed { WellFormed (D.grove document.old) }
+    ensures comes { (piece : Piece) → IfOk result (Comes (D.StandsFor document.new) (removing
+        (node_at (value_of (store_of store.now) (term_of parent.now)) (D.grove document.old))
+        (node_at (value_of (store_of store.now) (term_of child.now)) (D.grove document.old))
+        (store_of store.now) (D.grove document.old)) piece (store_of store.now)) }
+    ensures kept { Kept if_quiet D.Keeps result Unit document.old document.new }
+    ensures change { IfOk result (Tells (removing_from
+        (value_of (store_of store.now) (term_of parent.now))
+        (value_of (store_of store.now) (term_of child.now)))) }
     ensures limit { TellsLimit result (terms_limit standard_limits (store_of store.now)
         (term_of parent.now ∷ term_of child.now ∷ [])) }
 {
     let parent = eval(alloc, parent, store)?;
     let child = eval(alloc, child, store)?;
-    match (node_named(&parent, grove), node_named(&child, grove)) {
-        (Some(parent), Some(child)) => Ok(moved_to(alloc, place, parent, child, grove)?),
-        _ => Ok(Plan::Faults(FaultKind::NoNode)),
+    let Value::Node(parent) = parent else {
+        return Ok(Effect::Fault(FaultKind::NoNode));
+    };
+    let Value::Node(child) = child else {
+        return Ok(Effect::Fault(FaultKind::NoNode));
+    };
+    match document.remove_child(alloc, parent, child) {
+        Ok(()) => Ok(Effect::Removed {
+            node: child,
+            from: parent,
+        }),
+        Err(MoveFault::Fault(kind)) => Ok(Effect::Fault(kind)),
+        Err(MoveFault::OutOfMemory) => Err(StepFault::OutOfMemory),
     }
-}
-
-// The child goes to the place.
-fn moved_to(
-    alloc: Global,
-    place: Place,
-    parent: &Tree,
-    child: &Tree,
-    grove: &Grove,
-) -> Result<Plan, OutOfMemory>
-    ensures { IfOk result (λ plan. (piece : Piece) (store : stores.Store)
-        → move_of plan piece store (forest_of grove.now)
-        ≡ moving_to place (tree_of parent.now) (tree_of child.now) store (forest_of grove.now)) }
-{
-    match place {
-        Place::Children => appended(alloc, parent, child, grove),
-        Place::Roots => removed(alloc, parent, child, grove),
-    }
-}
-
-// The child goes below the parent, unless the parent stands in its tree.
-fn appended(alloc: Global, parent: &Tree, child: &Tree, grove: &Grove) -> Result<Plan, OutOfMemory>
-    ensures { IfOk result (λ plan. (piece : Piece) (store : stores.Store)
-        → move_of plan piece store (forest_of grove.now)
-        ≡ appending (tree_of parent.now) (tree_of child.now) store (forest_of grove.now)) }
-{
-    if is_within(child, parent.id) {
-        return Ok(Plan::Faults(FaultKind::Cycle));
-    }
-    let moved = moved_below(alloc, grove, child, parent.id)?;
-    Ok(Plan::Becomes(Change::Grove(moved)))
-}
-
-// The child goes to the roots, where it is one of the parent's.
-fn removed(alloc: Global, parent: &Tree, child: &Tree, grove: &Grove) -> Result<Plan, OutOfMemory>
-    ensures { IfOk result (λ plan. (piece : Piece) (store : stores.Store)
-        → move_of plan piece store (forest_of grove.now)
-        ≡ removing (tree_of parent.now) (tree_of child.now) store (forest_of grove.now)) }
-{
-    if !has_root(&parent.kids, child.id) {
-        return Ok(Plan::Faults(FaultKind::NotChild));
-    }
-    let moved = moved_to_roots(alloc, grove, child)?;
-    Ok(Plan::Becomes(Change::Grove(moved)))
-}
-
-/// The tree of the second node moves to just before the third, a child of the first, or to the end
-/// of the children of the first where the third is null. It faults where a value that isn't null
-/// names no node; else where the second is the third; else where the first stands in the tree of
-/// the second; and else where the third is no child of the first.
-pub(crate) fn inserted(
-    alloc: Global,
-    parent: &Term,
-    child: &Term,
-    next: &Term,
-    store: &Store,
-    grove: &Grove,
-) -> Result<Plan, StepFault>
-    requires parent { evaluates sorts.node_sort (term_of parent.now) ≡ true }
-    requires child { evaluates sorts.node_sort (term_of child.now) ≡ true }
-    requires next { evaluates sorts.node_sort (term_of next.now) ≡ true }
-    requires well_formed { WellFormed (forest_of grove.now) }
-    ensures plan { IfOk result (λ plan. (piece : Piece)
-        → move_of plan piece (store_of store.now) (forest_of grove.now)
-        ≡ inserting_at (value_of (store_of store.now) (term_of next.now))
-        (node_at (value_of (store_of store.now) (term_of parent.now)) (forest_of grove.now))
-        (node_at (value_of (store_of store.now) (term_of child.now)) (forest_of grove.now))
-        (store_of store.now) (forest_of grove.now)) }
-    ensures limit { TellsLimit result (terms_limit standard_limits (store_of store.now)
-        (term_of parent.now ∷ term_of child.now ∷ term_of next.now ∷ [])) }
-{
-    let parent = eval(alloc, parent, store)?;
-    let child = eval(alloc, child, store)?;
-    let next = eval(alloc, next, store)?;
-    match (node_named(&parent, grove), node_named(&child, grove)) {
-        (Some(parent), Some(child)) => Ok(inserted_at(alloc, parent, child, &next, grove)?),
-        _ => Ok(Plan::Faults(FaultKind::NoNode)),
-    }
-}
-
-// The child goes before the node that the value names, or behind all where it is null.
-fn inserted_at(
-    alloc: Global,
-    parent: &Tree,
-    child: &Tree,
-    next: &Value,
-    grove: &Grove,
-) -> Result<Plan, OutOfMemory>
-    requires { WellFormed (forest_of grove.now) }
-    ensures { IfOk result (λ plan. (piece : Piece) (store : stores.Store)
-        → move_of plan piece store (forest_of grove.now) ≡ inserting_at (value_seen next.now)
-        (tree_of parent.now) (tree_of child.now) store (forest_of grove.now)) }
-{
-    if matches!(next, Value::NullNode) {
-        return appended(alloc, parent, child, grove);
-    }
-    match node_named(next, grove) {
-        Some(next) => inserted_before(alloc, parent, child, next, grove),
-        None => Ok(Plan::Faults(FaultKind::NoNode)),
-    }
-}
-
-// The child goes before the next, where that is another node and one of the parent's, unless the
-// parent stands in the child's tree.
-fn inserted_before(
-    alloc: Global,
-    parent: &Tree,
-    child: &Tree,
-    next: &Tree,
-    grove: &Grove,
-) -> Result<Plan, OutOfMemory>
-    ensures { IfOk result (λ plan. (piece : Piece) (store : stores.Store)
-        → move_of plan piece store (forest_of grove.now) ≡ inserting (tree_of parent.now)
-        (tree_of child.now) (tree_of next.now) store (forest_of grove.now)) }
-{
-    if child.id == next.id {
-        return Ok(Plan::Faults(FaultKind::SelfRef));
-    }
-    let is_cycle = is_within(child, parent.id);
-    if is_cycle {
-        return Ok(Plan::Faults(FaultKind::Cycle));
-    }
-    if !has_root(&parent.kids, next.id) {
-        return Ok(Plan::Faults(FaultKind::NotChild));
-    }
-    let moved = moved_before(alloc, grove, child, next.id)?;
-    Ok(Plan::Becomes(Change::Grove(moved)))
 }

@@ -1,21 +1,23 @@
 // Pieces that are pending, the first one last.
 ghost use Rattle.std.specs.Prelude as plain;
-ghost use Rattle.std.specs.Prelude.{◌≡◌, ◌<◌, [], ◌∷◌, ◌++◌, length, map, reverse};
-ghost use Rattle.std.specs.Prelude.{OnOk, OnErr, MatchOption};
-ghost use Rattle.model_machine.specs.Machine.{run};
-ghost use Rattle.theory_syntax.specs.Commands.{command_of};
-ghost use Rattle.theory_syntax.specs.declared.commands.Command.TheVariants.{Block as BlockOf};
-ghost use Rattle.dom_meaning.specs.declared.configurations.Pending.TheVariants.{Run};
+ghost use Rattle.std.specs.Prelude.{◌≡◌, ◌<◌, [], ◌∷◌, ◌++◌, length, map, OnOk, OnErr, IfOk};
+ghost use Rattle.model_commands.specs.Commands as commands;
+ghost use Rattle.model_machine.specs.Machine as machine;
+ghost use Rattle.model_machine.specs.Machine.{run, pieces_of};
+ghost use Rattle.model_machine.specs.Outcomes.{returns_in};
+ghost use Rattle.dom_terms.specs.Terms.{prog_var_of};
+ghost use Rattle.dom_terms.specs.Stores.{store_of};
+ghost use Rattle.theory_syntax.specs.Commands.{command_of, block_of};
 ghost use Rattle.dom_meaning.specs.Configs.{piece_of, pieces_in};
-ghost use Rattle.dom_meaning.specs.Plans.{in_block};
+ghost use Rattle.dom_meaning.specs.Effects.{Counted};
 
 use crate::configurations::{Pending, Pieces};
-use dom_terms::OutOfMemory;
-use std::mem::replace;
-use theory_syntax::{Block, Command};
+use dom_terms::{Copied, List, OutOfMemory, Store, Vars};
+use std::alloc::Global;
+use theory_syntax::{Block, Command, Procedure};
 
 /// Takes the first piece away.
-pub fn drop_first(pending: &mut Pieces)
+pub(crate) fn drop_first(pending: &mut Pieces)
     requires { 0 < length pending.old }
     ensures { (piece : Pending) (others : plain.List Pending)
         → pending.old ≡ others ++ piece ∷ [] → pending.new ≡ others }
@@ -38,85 +40,63 @@ pub(crate) fn replace_first(pending: &mut Pieces, pieces: Pieces) -> Result<(), 
     Ok(())
 }
 
-/// Puts the commands of the first piece, a block, in its place; nothing in that of another piece.
-/// Where memory is refused nothing is changed.
-#[tactic(auto, using(crate::proofs::PieceLaws::unfolds, crate::proofs::PieceLaws::left_out))]
-pub(crate) fn unfold_first(pending: &mut Pieces) -> Result<(), OutOfMemory>
-    requires { 0 < length pending.old }
-    ensures ok { OnOk result ((piece : Pending) (others : plain.List Pending)
-        → pending.old ≡ others ++ piece ∷ []
-        → pieces_in pending.new ≡ in_block (piece_of piece) ++ pieces_in others) }
-    ensures err { OnErr result (pending.new ≡ pending.old) }
+/// The commands of the block.
+#[tactic(auto, using(crate::proofs::PieceLaws::unfolded))]
+pub(crate) fn commands_in(alloc: Global, block: &Block) -> Result<Pieces, OutOfMemory>
+    ensures { IfOk result (λ pieces. pieces_in pieces ≡ pieces_of (block_of block.now)) }
 {
-    match block_of(replace_last(pending, Pending::Run(Command::Skip))) {
-        Some(block) => {
-            unfold_last(pending, block)?;
-        }
-        None => drop_first(pending),
-    }
-    Ok(())
+    let mut commands = block.copy(alloc)?;
+    let mut pieces = List::new(alloc);
+    pieces.append_reversed(&mut commands)?;
+    Ok(pieces)
 }
 
-// The block that a piece is.
-fn block_of(piece: Pending) -> Option<Block>
-    ensures { MatchOption result (in_block (piece_of piece) ≡ [])
-        (λ block. piece ≡ Run (BlockOf block)) }
+/// The block as the only piece.
+pub(crate) fn block_piece(alloc: Global, block: &Block) -> Result<Pieces, OutOfMemory>
+    ensures { IfOk result (λ pieces.
+        pieces_in pieces ≡ run (commands.block (block_of block.now)) ∷ []) }
+{
+    let mut pieces = List::new(alloc);
+    pieces.push(Pending::Run(Command::Block(block.copy(alloc)?)))?;
+    Ok(pieces)
+}
+
+/// The body of the procedure, and after it the return to the store.
+pub(crate) fn body_and_return(
+    alloc: Global,
+    procedure: &Procedure,
+    variables: &Vars,
+    store: &Store,
+) -> Result<Pieces, OutOfMemory>
+    ensures { IfOk result (λ pieces. pieces_in pieces ≡ run (command_of procedure.now.body)
+        ∷ machine.return (store_of store.now) (map prog_var_of procedure.now.results)
+        (map prog_var_of variables.now) ∷ []) }
+{
+    let caller = store.copy(alloc)?;
+    let given = procedure.results.copy(alloc)?;
+    let mut pieces = List::new(alloc);
+    pieces.push(Pending::Return(caller, given, variables.copy(alloc)?))?;
+    pieces.push(Pending::Run(procedure.body.copy(alloc)?))?;
+    Ok(pieces)
+}
+
+/// How many returns are pending after a call. After another piece they aren't counted.
+pub(crate) fn returns_after(piece: &Pending, others: &[Pending]) -> usize
+    ensures { Counted (piece_of piece.now) (pieces_in others.now) result }
 {
     match piece {
-        Pending::Run(command) => block_in(command),
-        Pending::Restore(_, _) | Pending::Return(_, _, _) => None,
+        Pending::Run(Command::Call(_, _, _)) => returns_among(others),
+        _ => 0,
     }
 }
 
-// The block that a command is.
-fn block_in(command: Command) -> Option<Block>
-    ensures { MatchOption result (in_block (run (command_of command)) ≡ [])
-        (λ block. command ≡ BlockOf block) }
+// How many returns are pending.
+#[tactic(auto, using(crate::proofs::PieceLaws::returns_counted))]
+fn returns_among(pending: &[Pending]) -> usize
+    ensures { result ≡ returns_in (pieces_in pending.now) }
 {
-    match command {
-        Command::Block(block) => Some(block),
-        other => {
-            drop(other);
-            None
-        }
-    }
-}
-
-// Puts a piece in the place of the last one, and gives that one.
-fn replace_last(pending: &mut Pieces, piece: Pending) -> Pending
-    requires { 0 < length pending.old }
-    ensures replaced { (last : Pending) (others : plain.List Pending)
-        → pending.old ≡ others ++ last ∷ []
-        → (result ≡ last) × (pending.new ≡ others ++ piece ∷ []) }
-    ensures length { length pending.new ≡ length pending.old }
-{
-    let Some(last) = pending.last_mut() else {
-        unreachable!();
-    };
-    replace(last, piece)
-}
-
-// Puts the commands of the block in the place of the last piece, and the block itself where memory
-// is refused.
-fn unfold_last(pending: &mut Pieces, block: Block) -> Result<(), OutOfMemory>
-    requires { 0 < length pending.old }
-    ensures ok { OnOk result ((piece : Pending) (others : plain.List Pending)
-        → pending.old ≡ others ++ piece ∷ []
-        → pending.new ≡ others ++ map Run (reverse block)) }
-    ensures err { OnErr result ((piece : Pending) (others : plain.List Pending)
-        → pending.old ≡ others ++ piece ∷ []
-        → pending.new ≡ others ++ Run (BlockOf block) ∷ []) }
-{
-    let mut block = block;
-    let place = pending.len() - 1;
-    match pending.append_reversed(&mut block) {
-        Ok(()) => {
-            drop(pending.remove(place));
-            Ok(())
-        }
-        Err(refused) => {
-            drop(replace_last(pending, Pending::Run(Command::Block(block))));
-            Err(refused)
-        }
-    }
+    pending
+        .iter()
+        .filter(|piece| matches!(piece, Pending::Return(_, _, _)))
+        .count()
 }

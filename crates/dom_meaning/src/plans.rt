@@ -1,52 +1,61 @@
-// What is planned for the first piece. Planning only reads the configuration.
-ghost use Rattle.std.specs.Prelude.{◌≡◌, IfOk};
-ghost use Rattle.model_shapes.specs.Trees.{WellFormed};
+// What is planned for the first piece of a configuration, with pieces of its own.
+ghost use Rattle.std.specs.Prelude as plain;
+ghost use Rattle.std.specs.Prelude.{◌≡◌, ◌≢◌, [], ◌∷◌, Ok, IfOk};
+ghost use Rattle.model_shapes.specs.Sorts.{shape};
+ghost use Rattle.model_shapes.specs.Sorts as sorts;
+ghost use Rattle.model_shapes.specs.Shapes.{Shaped};
+ghost use Rattle.model_shapes.specs.Trees.{Trees};
+ghost use Rattle.model_terms.specs.Stores.{ProperStore, set, default};
+ghost use Rattle.model_commands.specs.Commands as commands;
 ghost use Rattle.model_commands.specs.Theories.{procedures_of};
-ghost use Rattle.model_machine.specs.Machine.{run, move};
-ghost use Rattle.model_limits.specs.Limits.{standard_limits};
-ghost use Rattle.model_machine.specs.Outcomes.{step_limit};
+ghost use Rattle.model_files.specs.FileFaults.{IsWellFormedTheory};
+ghost use Rattle.model_machine.specs.Machine.{Piece, run, restore, move};
 ghost use Rattle.model_machine.specs.Fitting.{FitsPiece};
+ghost use Rattle.model_machine.specs.Outcomes.{step_limit};
+ghost use Rattle.model_limits.specs.Limits.{standard_limits};
+ghost use Rattle.dom_terms.specs.Sorts.{value_sort_of};
+ghost use Rattle.dom_terms.specs.Terms.{prog_var_of};
+ghost use Rattle.dom_terms.specs.Values.{value_seen};
 ghost use Rattle.dom_terms.specs.Stores.{store_of};
 ghost use Rattle.grove_data.specs.Trees.{forest_of};
-ghost use Rattle.theory_syntax.specs.Commands.{command_of};
+ghost use Rattle.theory_syntax.specs.Commands.{block_of};
 ghost use Rattle.theory_syntax.specs.Theories.{theory_of};
 ghost use Rattle.dom_meaning.specs.Configs.{piece_of, pieces_in, pick_of};
+ghost use Rattle.dom_meaning.specs.Documents.{Kept};
 ghost use Rattle.dom_meaning.specs.Faults.{TellsLimit};
-ghost use Rattle.dom_meaning.specs.OwnTerms.{TermsFit};
-ghost use Rattle.dom_meaning.specs.Plans.{move_of};
+ghost use Rattle.dom_meaning.specs.Effects.{Comes, move_of, if_quiet, FitsStore, Counted};
+ghost use Rattle.dom_meaning.specs.Plans.{move_planned, pieces_after, store_after, FitsStores, FitsPlan, Takes};
+ghost use Rattle.dom_meaning.specs.declared.plans.Plan.TheVariants.{Taken};
 
+use crate::commands::command_effect;
 use crate::configurations::{Pending, Pieces};
+use crate::effects::Effect;
 use crate::faults::{FaultKind, StepFault};
-use crate::flow::{assigned, called, chosen, given_back, opened, repeated, restored};
-use crate::moves::{Place, created, inserted, moved};
-use crate::reads::{Read, item_read, node_read};
-use dom_terms::{ProgVar, Store, Value};
-use grove_data::{Grove, Tree};
+use crate::flow::with_results;
+use crate::pieces::{block_piece, body_and_return, commands_in, returns_after};
+use crate::plain::Picked;
+use dom_terms::{Copied, List, OutOfMemory, ProgVar, Store, Value, default_of};
 use std::alloc::Global;
-use theory_syntax::{Command, Theory};
+use theory_syntax::{Block, Command, Theory};
 
-/// What a piece changes.
+/// What is still to be changed in the place of a piece.
 #[derive(Drop)]
 pub(crate) enum Change {
     /// These pieces stand in its place, the first one last.
     Pieces(Pieces),
     /// These pieces come before it, the first one last, and it stays.
     Before(Pieces),
-    /// Its commands stand in its place: those of a block, and none where it is no block.
-    Unfold,
     /// A variable is set.
     Set(ProgVar, Value),
-    /// A root is added and a variable set.
-    Root(Tree, ProgVar, Value),
     /// These pieces stand in its place, and the store is another.
     Switch(Pieces, Store),
-    /// The grove is another.
-    Grove(Grove),
 }
 
 /// What is planned for a piece.
 #[derive(Drop)]
 pub(crate) enum Plan {
+    /// It is taken away.
+    Taken,
     /// A change, in place of the piece.
     Becomes(Change),
     /// A fault.
@@ -55,76 +64,120 @@ pub(crate) enum Plan {
     BadPick,
 }
 
-/// What is planned for the piece, with the others pending behind it.
-#[tactic(auto, using(crate::proofs::TermLaws::terms_fit, crate::proofs::TermLaws::received))]
+/// What is planned for the piece, with the others pending after it.
 pub(crate) fn planned(
     alloc: Global,
     theory: &Theory,
     piece: &Pending,
     others: &[Pending],
-    store: &Store,
-    grove: &Grove,
-    pick: (u32, u32),
+    store: &mut Store,
+    document: &mut Picked,
 ) -> Result<Plan, StepFault>
+    requires well_formed { IsWellFormedTheory (theory_of theory.now) }
     requires fits { FitsPiece (procedures_of (theory_of theory.now)) (piece_of piece.now) }
-    requires well_formed { WellFormed (forest_of grove.now) }
-    ensures plan { IfOk result (λ plan.
-        move_of plan (piece_of piece.now) (store_of store.now) (forest_of grove.now)
-        ≡ move (procedures_of (theory_of theory.now)) (pick_of pick) (piece_of piece.now)
-        (store_of store.now) (forest_of grove.now)) }
+    requires proper { ProperStore (store_of store.old) }
+    requires shaped { Shaped (shape sorts.grove) (forest_of document.old.grove) }
+    ensures moves { IfOk result (λ plan. move_planned plan (piece_of piece.now)
+        (store_of store.new) (forest_of document.new.grove)
+        ≡ move (procedures_of (theory_of theory.now)) (pick_of document.old.pick)
+        (piece_of piece.now) (store_of store.old) (forest_of document.old.grove)) }
+    ensures unchanged { result ≢ Ok Taken
+        → (store.new ≡ store.old) × (document.new ≡ document.old) }
     ensures limit { TellsLimit result (step_limit standard_limits (piece_of piece.now)
-        (pieces_in others.now) (store_of store.now) (forest_of grove.now)) }
+        (pieces_in others.now) (store_of store.old) (forest_of document.old.grove)) }
+    ensures store { IfOk result FitsPlan }
+{
+    let returns = returns_after(piece, others);
+    let effect = piece_effect(alloc, theory, piece, returns, store, document)?;
+    Ok(plan_of(alloc, effect, store)?)
+}
+
+// What comes of the piece.
+#[tactic(auto, using(crate::proofs::TermLaws::received))]
+fn piece_effect<'a>(
+    alloc: Global,
+    theory: &'a Theory,
+    piece: &'a Pending,
+    returns: usize,
+    store: &mut Store,
+    document: &mut Picked,
+) -> Result<Effect<'a>, StepFault>
+    requires well_formed { IsWellFormedTheory (theory_of theory.now) }
+    requires fits { FitsPiece (procedures_of (theory_of theory.now)) (piece_of piece.now) }
+    requires proper { ProperStore (store_of store.old) }
+    requires shaped { Shaped (shape sorts.grove) (forest_of document.old.grove) }
+    ensures comes { IfOk result (Comes (λ trees. trees ≡ forest_of document.new.grove)
+        (move (procedures_of (theory_of theory.now)) (pick_of document.old.pick)
+        (piece_of piece.now) (store_of store.old) (forest_of document.old.grove))
+        (piece_of piece.now) (store_of store.new)) }
+    ensures kept { Kept if_quiet (λ before after. after ≡ before) result (store.new ≡ store.old)
+        document.old document.new }
+    ensures limit { (rest : plain.List Piece) → Counted (piece_of piece.now) rest returns
+        → TellsLimit result (step_limit standard_limits (piece_of piece.now) rest
+        (store_of store.old) (forest_of document.old.grove)) }
+    ensures store { IfOk result FitsStore }
 {
     match piece {
-        Pending::Run(command) => {
-            command_planned(alloc, theory, command, others, store, grove, pick)
-        }
-        Pending::Restore(variable, value) => Ok(restored(alloc, variable, value)?),
+        Pending::Run(command) => command_effect(alloc, theory, command, returns, store, document),
+        Pending::Restore(variable, value) => Ok(Effect::Set(variable, value.copy(alloc)?)),
         Pending::Return(caller, results, variables) => {
-            Ok(given_back(alloc, results, variables, store, caller)?)
+            let (results, variables) = (results.as_slice(), variables.as_slice());
+            Ok(Effect::Back(with_results(alloc, results, variables, store, caller)?))
         }
     }
 }
 
-// What is planned for the command.
-fn command_planned(
-    alloc: Global,
-    theory: &Theory,
-    command: &Command,
-    others: &[Pending],
-    store: &Store,
-    grove: &Grove,
-    pick: (u32, u32),
-) -> Result<Plan, StepFault>
-    requires terms { TermsFit (procedures_of (theory_of theory.now)) (command_of command.now) }
-    requires well_formed { WellFormed (forest_of grove.now) }
-    ensures plan { IfOk result (λ plan.
-        move_of plan (run (command_of command.now)) (store_of store.now) (forest_of grove.now)
-        ≡ move (procedures_of (theory_of theory.now)) (pick_of pick) (run (command_of command.now))
-        (store_of store.now) (forest_of grove.now)) }
-    ensures limit { TellsLimit result (step_limit standard_limits (run (command_of command.now))
-        (pieces_in others.now) (store_of store.now) (forest_of grove.now)) }
+// The effect with pieces of its own.
+fn plan_of(alloc: Global, effect: Effect, store: &Store) -> Result<Plan, OutOfMemory>
+    ensures moves { IfOk result (λ plan. (piece : Piece) (grove : Trees)
+        → move_planned plan piece (store_of store.now) grove
+        ≡ move_of effect.entry piece (store_of store.now) grove) }
+    ensures takes { Takes effect.entry result }
+    ensures store { FitsStore effect.entry → IfOk result FitsPlan }
 {
-    match command {
-        Command::Skip | Command::Block(_) => Ok(Plan::Becomes(Change::Unfold)),
-        Command::Assign(x, value) => assigned(alloc, x, value, store),
-        Command::Create(x, name) => created(alloc, x, name, store, grove, pick),
-        Command::Name(x, node) => node_read(alloc, Read::Name, x, node, store, grove),
-        Command::Parent(x, node) => node_read(alloc, Read::Parent, x, node, store, grove),
-        Command::Children(x, node) => node_read(alloc, Read::List, x, node, store, grove),
-        Command::Item(x, list, place) => item_read(alloc, x, list, place, store, grove),
-        Command::Append(parent, child) => {
-            moved(alloc, Place::Children, parent, child, store, grove)
+    match effect {
+        Effect::Nothing | Effect::Created { .. } | Effect::Moved { .. } | Effect::Removed { .. } =>
+            Ok(Plan::Taken),
+        Effect::Set(variable, value) => {
+            Ok(Plan::Becomes(Change::Set(variable.copy(alloc)?, value)))
         }
-        Command::Remove(parent, child) => moved(alloc, Place::Roots, parent, child, store, grove),
-        Command::InsertBefore(parent, child, next) => {
-            inserted(alloc, parent, child, next, store, grove)
+        Effect::Commands(block) => { Ok(Plan::Becomes(Change::Pieces(commands_in(alloc, block)?))) }
+        Effect::Block(block) => Ok(Plan::Becomes(Change::Pieces(block_piece(alloc, block)?))),
+        Effect::Again(block) => Ok(Plan::Becomes(Change::Before(block_piece(alloc, block)?))),
+        Effect::Local(variable, old, block) => {
+            Ok(Plan::Becomes(opened(alloc, variable, old, block, store)?))
         }
-        Command::If(cond, first, second) => chosen(alloc, cond, first, second, store),
-        Command::While(cond, block) => repeated(alloc, cond, block, store),
-        Command::Local(x, block) => Ok(opened(alloc, x, block, store)?),
-        Command::Call(results, name, arguments) => {
-            called(alloc, theory, results, name, arguments, others, store)
+        Effect::Call(procedure, variables, callee) => {
+            let pieces = body_and_return(alloc, procedure, variables, store)?;
+            Ok(Plan::Becomes(Change::Switch(pieces, callee)))
         }
+        Effect::Back(caller) => Ok(Plan::Becomes(Change::Switch(List::new(alloc), caller))),
+        Effect::Fault(kind) => Ok(Plan::Faults(kind)),
+        Effect::BadPick => Ok(Plan::BadPick),
     }
+}
+
+// The block, and after it the value that the variable is given back. The variable has its default
+// in the block.
+fn opened(
+    alloc: Global,
+    variable: &ProgVar,
+    old: Value,
+    block: &Block,
+    store: &Store,
+) -> Result<Change, OutOfMemory>
+    ensures pieces { IfOk result (λ change. (piece : Piece) → pieces_after change piece
+        ≡ run (commands.block (block_of block.now))
+        ∷ restore (prog_var_of variable.now) (value_seen old) ∷ []) }
+    ensures store { IfOk result (λ change. store_after change (store_of store.now)
+        ≡ set (prog_var_of variable.now) (default (value_sort_of variable.now.sort))
+        (store_of store.now)) }
+    ensures fits { IfOk result FitsStores }
+{
+    let mut pieces = List::new(alloc);
+    pieces.push(Pending::Restore(variable.copy(alloc)?, old))?;
+    pieces.push(Pending::Run(Command::Block(block.copy(alloc)?)))?;
+    let mut inner = store.copy(alloc)?;
+    inner.set(variable.copy(alloc)?, default_of(alloc, variable.sort))?;
+    Ok(Change::Switch(pieces, inner))
 }

@@ -1,28 +1,26 @@
-// What commands read off the grove.
-ghost use Rattle.std.specs.Prelude.{◌≡◌, ◌≢◌, [], ◌∷◌, true, IfOk, MatchOption, option_copied};
+// What commands read off the document.
+ghost use Rattle.std.specs.Prelude.{◌≡◌, [], ◌∷◌, true, IfOk};
 ghost use Rattle.model_shapes.specs.Sorts as sorts;
 ghost use Rattle.model_shapes.specs.Trees.{WellFormed};
-ghost use Rattle.model_shapes.specs.Trees as shapes;
-ghost use Rattle.model_shapes.specs.Values.{node_number};
+ghost use Rattle.model_shapes.specs.Values.{FitsValue, node_number, int};
 ghost use Rattle.model_terms.specs.Stores.{value_of};
 ghost use Rattle.model_terms.specs.TermSorts.{evaluates};
-ghost use Rattle.model_groves.specs.Groves.{node_at, list_at, nodes_where, parental};
-ghost use Rattle.model_groves.specs.Groves.{first_number, number_at, item_of};
+ghost use Rattle.model_groves.specs.Groves.{node_at, list_at, item_of};
 ghost use Rattle.model_machine.specs.Machine.{Piece, reading, no_node, no_list};
 ghost use Rattle.model_limits.specs.Limits.{standard_limits};
 ghost use Rattle.model_terms.specs.TermLimits.{term_limit, terms_limit};
 ghost use Rattle.dom_terms.specs.Terms.{prog_var_of, term_of};
 ghost use Rattle.dom_terms.specs.Values.{value_seen};
 ghost use Rattle.dom_terms.specs.Stores.{store_of};
-ghost use Rattle.grove_data.specs.declared.trees.Tree.{out-Tree};
-ghost use Rattle.grove_data.specs.Trees.{tree_of, forest_of};
+ghost use Rattle.grove_data.specs.Finding.{number_or_null};
+ghost use Rattle.dom_meaning.specs.Documents.{Reads};
+ghost use Rattle.dom_meaning.specs.Effects.{move_of, value_read, TellsNone};
 ghost use Rattle.dom_meaning.specs.Faults.{TellsLimit};
-ghost use Rattle.dom_meaning.specs.Plans.{move_of, value_read};
 
+use crate::documents::Document;
+use crate::effects::Effect;
 use crate::faults::{FaultKind, StepFault};
-use crate::plans::{Change, Plan};
 use dom_terms::{Copied, OutOfMemory, ProgVar, Store, Term, Value, eval};
-use grove_data::{Forest, Grove, Tree, find, find_list, parent_of};
 use std::alloc::Global;
 
 /// What is read off a node.
@@ -36,136 +34,144 @@ pub(crate) enum Read {
     Parent,
 }
 
-/// The variable is set to what is read off the node.
-#[tactic(auto, using(crate::proofs::Reading::stands))]
-pub(crate) fn node_read(
+/// The variable is to be set to what is read off the node.
+pub(crate) fn node_read<'a, D: Document>(
     alloc: Global,
     read: Read,
-    variable: &ProgVar,
+    variable: &'a ProgVar,
     node: &Term,
     store: &Store,
-    grove: &Grove,
-) -> Result<Plan, StepFault>
+    document: &D,
+) -> Result<Effect<'a>, StepFault>
     requires node { evaluates sorts.node_sort (term_of node.now) ≡ true }
-    requires well_formed { WellFormed (forest_of grove.now) }
-    ensures plan { IfOk result (λ plan. (piece : Piece)
-        → move_of plan piece (store_of store.now) (forest_of grove.now)
-        ≡ reading (node_at (value_of (store_of store.now) (term_of node.now)) (forest_of grove.now))
-        no_node (value_read read (forest_of grove.now)) (prog_var_of variable.now)
-        (store_of store.now) (forest_of grove.now)) }
+    requires well_formed { WellFormed (D.grove document.now) }
+    ensures moves { IfOk result (λ effect. (piece : Piece)
+        → move_of effect piece (store_of store.now) (D.grove document.now)
+        ≡ reading (node_at (value_of (store_of store.now) (term_of node.now))
+        (D.grove document.now)) no_node (value_read read (D.grove document.now))
+        (prog_var_of variable.now) (store_of store.now) (D.grove document.now)) }
+    ensures change { IfOk result TellsNone }
     ensures limit { TellsLimit result
         (term_limit standard_limits (store_of store.now) (term_of node.now)) }
 {
-    let Some(tree) = node_named(&eval(alloc, node, store)?, grove) else {
-        return Ok(Plan::Faults(FaultKind::NoNode));
+    let Value::Node(node) = eval(alloc, node, store)? else {
+        return Ok(Effect::Fault(FaultKind::NoNode));
     };
-    let value = read_off(alloc, tree, read, grove)?;
-    Ok(Plan::Becomes(Change::Set(variable.copy(alloc)?, value)))
+    match read_off(alloc, read, node, document)? {
+        Ok(value) => Ok(Effect::Set(variable, value)),
+        Err(kind) => Ok(Effect::Fault(kind)),
+    }
 }
 
-/// The variable is set to the child at a place, counted from 0, of the node with the list, or to
-/// null where there is none.
-pub(crate) fn item_read(
+// What is read off the node with the number.
+fn read_off<D: Document>(
     alloc: Global,
-    variable: &ProgVar,
+    read: Read,
+    node: u32,
+    document: &D,
+) -> Result<Result<Value, FaultKind>, OutOfMemory>
+    requires { WellFormed (D.grove document.now) }
+    ensures { IfOk result (Reads value_seen (node_at (node_number node) (D.grove document.now))
+        no_node (value_read read (D.grove document.now))) }
+{
+    match read {
+        Read::Name => name_of(alloc, node, document),
+        Read::List => Ok(list_of(node, document)),
+        Read::Parent => Ok(parent_of(node, document)),
+    }
+}
+
+// The name of the node.
+fn name_of<D: Document>(
+    alloc: Global,
+    node: u32,
+    document: &D,
+) -> Result<Result<Value, FaultKind>, OutOfMemory>
+    requires { WellFormed (D.grove document.now) }
+    ensures { IfOk result (Reads value_seen (node_at (node_number node) (D.grove document.now))
+        no_node (value_read Read.Name (D.grove document.now))) }
+{
+    match document.node_name(node) {
+        Ok(name) => Ok(Ok(Value::Str(name.copy(alloc)?))),
+        Err(kind) => Ok(Err(kind)),
+    }
+}
+
+// The number of the children list of the node.
+fn list_of<D: Document>(node: u32, document: &D) -> Result<Value, FaultKind>
+    requires { WellFormed (D.grove document.now) }
+    ensures { Reads value_seen (node_at (node_number node) (D.grove document.now)) no_node
+        (value_read Read.List (D.grove document.now)) result }
+{
+    match document.child_nodes(node) {
+        Ok(list) => Ok(Value::List(list)),
+        Err(kind) => Err(kind),
+    }
+}
+
+// The number of the parent of the node, or null.
+fn parent_of<D: Document>(node: u32, document: &D) -> Result<Value, FaultKind>
+    requires { WellFormed (D.grove document.now) }
+    ensures { Reads value_seen (node_at (node_number node) (D.grove document.now)) no_node
+        (value_read Read.Parent (D.grove document.now)) result }
+{
+    match document.parent_node(node) {
+        Ok(parent) => Ok(node_or_null(parent)),
+        Err(kind) => Err(kind),
+    }
+}
+
+// The number as that of a node, or null where there is none.
+fn node_or_null(node: Option<u32>) -> Value
+    ensures { value_seen result ≡ number_or_null node }
+{
+    match node {
+        Some(number) => Value::Node(number),
+        None => Value::NullNode,
+    }
+}
+
+/// The variable is to be set to the child at a place, counted from 0, of the node with the list, or
+/// to null where there is none.
+pub(crate) fn item_read<'a, D: Document>(
+    alloc: Global,
+    variable: &'a ProgVar,
     list: &Term,
     place: &Term,
     store: &Store,
-    grove: &Grove,
-) -> Result<Plan, StepFault>
+    document: &D,
+) -> Result<Effect<'a>, StepFault>
     requires list { evaluates sorts.list_sort (term_of list.now) ≡ true }
     requires place { evaluates sorts.int_sort (term_of place.now) ≡ true }
-    requires well_formed { WellFormed (forest_of grove.now) }
-    ensures plan { IfOk result (λ plan. (piece : Piece)
-        → move_of plan piece (store_of store.now) (forest_of grove.now)
-        ≡ reading (list_at (value_of (store_of store.now) (term_of list.now)) (forest_of grove.now))
-        no_list (λ s i k l. item_of (value_of (store_of store.now) (term_of place.now)) k)
-        (prog_var_of variable.now) (store_of store.now) (forest_of grove.now)) }
+    requires well_formed { WellFormed (D.grove document.now) }
+    ensures moves { IfOk result (λ effect. (piece : Piece)
+        → move_of effect piece (store_of store.now) (D.grove document.now)
+        ≡ reading (list_at (value_of (store_of store.now) (term_of list.now))
+        (D.grove document.now)) no_list
+        (λ s i k l. item_of (value_of (store_of store.now) (term_of place.now)) k)
+        (prog_var_of variable.now) (store_of store.now) (D.grove document.now)) }
+    ensures change { IfOk result TellsNone }
     ensures limit { TellsLimit result (terms_limit standard_limits (store_of store.now)
         (term_of list.now ∷ term_of place.now ∷ [])) }
 {
     let list = eval(alloc, list, store)?;
-    let place = eval(alloc, place, store)?;
-    let Some(tree) = node_with_list(&list, grove) else {
-        return Ok(Plan::Faults(FaultKind::NoList));
+    let place = integer(eval(alloc, place, store)?);
+    let Value::List(list) = list else {
+        return Ok(Effect::Fault(FaultKind::NoList));
     };
-    let item = item_at(&tree.kids, &place);
-    Ok(Plan::Becomes(Change::Set(variable.copy(alloc)?, item)))
+    match document.list_item(list, place) {
+        Ok(item) => Ok(Effect::Set(variable, node_or_null(item))),
+        Err(kind) => Ok(Effect::Fault(kind)),
+    }
 }
 
-/// The node that a value names.
-pub(crate) fn node_named<'a>(value: &Value, grove: &'a Grove) -> Option<&'a Tree>
-    requires { WellFormed (forest_of grove.now) }
-    ensures { MatchOption (option_copied result)
-        (node_at (value_seen value.now) (forest_of grove.now) ≡ shapes.none)
-        (λ tree. node_at (value_seen value.now) (forest_of grove.now) ≡ tree_of tree) }
+// The integer that a value is.
+fn integer(value: Value) -> i64
+    requires { FitsValue sorts.int_sort (value_seen value) }
+    ensures { int result ≡ value_seen value }
 {
     match value {
-        Value::Node(id) => find(grove, *id),
-        _ => None,
-    }
-}
-
-// The node whose children list a value names.
-fn node_with_list<'a>(value: &Value, grove: &'a Grove) -> Option<&'a Tree>
-    requires { WellFormed (forest_of grove.now) }
-    ensures { MatchOption (option_copied result)
-        (list_at (value_seen value.now) (forest_of grove.now) ≡ shapes.none)
-        (λ tree. list_at (value_seen value.now) (forest_of grove.now) ≡ tree_of tree) }
-{
-    match value {
-        Value::List(list) => find_list(grove, *list),
-        _ => None,
-    }
-}
-
-// What is read off the node.
-fn read_off(alloc: Global, tree: &Tree, read: Read, grove: &Grove) -> Result<Value, OutOfMemory>
-    requires there { node_at (node_number (out-Tree tree.now).id) (forest_of grove.now)
-        ≢ shapes.none }
-    requires well_formed { WellFormed (forest_of grove.now) }
-    ensures { IfOk result (λ value. value_seen value
-        ≡ value_read read (forest_of grove.now) (out-Tree tree.now).name (out-Tree tree.now).id
-        (forest_of (out-Tree tree.now).kids) (out-Tree tree.now).list) }
-{
-    match read {
-        Read::Name => Ok(Value::Str(tree.name.copy(alloc)?)),
-        Read::List => Ok(Value::List(tree.list)),
-        Read::Parent => Ok(parent(tree, grove)),
-    }
-}
-
-// The parent of the node, or null where it is a root.
-fn parent(tree: &Tree, grove: &Grove) -> Value
-    requires there { node_at (node_number (out-Tree tree.now).id) (forest_of grove.now)
-        ≢ shapes.none }
-    requires well_formed { WellFormed (forest_of grove.now) }
-    ensures { value_seen result
-        ≡ first_number (nodes_where (parental (out-Tree tree.now).id) (forest_of grove.now)) }
-{
-    match parent_of(grove, tree.id) {
-        Some(Some(parent)) => Value::Node(parent),
-        _ => Value::NullNode,
-    }
-}
-
-// The child at the place that a value is, counted from 0, or null where there is none.
-fn item_at(kids: &Forest, place: &Value) -> Value
-    ensures { value_seen result ≡ item_of (value_seen place.now) (forest_of kids.now) }
-{
-    match place {
-        Value::Int(place) if *place >= 0 => child_at(kids, *place as usize),
-        _ => Value::NullNode,
-    }
-}
-
-// The child at a place, or null where there is none.
-#[tactic(auto, using(crate::proofs::Reading::child_there, crate::proofs::Reading::no_child))]
-fn child_at(kids: &Forest, place: usize) -> Value
-    ensures { value_seen result ≡ number_at place (forest_of kids.now) }
-{
-    match kids.get(place) {
-        Some(child) => Value::Node(child.id),
-        None => Value::NullNode,
+        Value::Int(number) => number,
+        _ => unreachable!(),
     }
 }

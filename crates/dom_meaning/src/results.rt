@@ -10,11 +10,7 @@ use std::alloc::Global;
 
 /// The values of the variables, in order.
 #[tactic(auto, using(crate::proofs::StoreLaws::values_are))]
-pub(crate) fn values_of(
-    alloc: Global,
-    variables: &Vars,
-    store: &Store,
-) -> Result<Values, OutOfMemory>
+pub fn values_of(alloc: Global, variables: &Vars, store: &Store) -> Result<Values, OutOfMemory>
     ensures { IfOk result (λ values. map value_seen values
         ≡ values_in (map prog_var_of variables.now) (store_of store.now)) }
 {

@@ -71,8 +71,8 @@ fn begun(
     })
 }
 
-// The store in which the variables have these values.
-fn holding(alloc: Global, variables: &[ProgVar], values: &[Value]) -> Result<Store, OutOfMemory>
+/// The store in which the variables have these values.
+pub fn holding(alloc: Global, variables: &[ProgVar], values: &[Value]) -> Result<Store, OutOfMemory>
     requires { ValuesFit (map prog_var_of variables.now) (map value_seen values.now) }
     ensures { IfOk result (λ store. store_of store
         ≡ holding_values (map prog_var_of variables.now) (map value_seen values.now)) }

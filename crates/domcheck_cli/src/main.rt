@@ -1,12 +1,13 @@
-//! The program `domcheck`: hands its words, the current folder, standard output and the assistants
-//! to the top call, and ends with the number of the status. Promises nothing beyond the contract of
-//! `domcheck`, and writes nothing to standard error. Stands on domcheck_core, step_filler and
-//! outside_io.
+//! The program `domcheck`: hands its words, the current folder, standard output, the assistants and
+//! a counting observer to the top call, and ends with the number of the status. Promises nothing
+//! beyond the contract of `domcheck`, and writes nothing to standard error. Stands on domcheck_core,
+//! step_filler, run_trace and outside_io.
 #![tactic(auto)]
 
 use dom_terms::OutOfMemory;
 use domcheck_core::{Filler, Status, domcheck};
 use outside_io::{Folder, Screen};
+use run_trace::{Observer, Tally};
 use std::env::{Env, FillError};
 use std::process::ExitCode;
 use std::{env, io};
@@ -49,16 +50,28 @@ fn words_of(rt: &HostRuntime) -> Result<Vec<String>, OutOfMemory> {
     }
 }
 
-// How the call ends. Where there is no memory for the words or the fillers nothing is written.
+// How the call ends. Where there is no memory for the words, the fillers or the observer nothing is
+// written.
 fn end_of(rt: &HostRuntime) -> Result<Status, OutOfMemory> {
     let words = words_of(rt)?;
     let mut fillers: Vec<Box<dyn Filler>> = Vec::new(rt.alloc());
     fillers.push(Box::new(rt.alloc(), Tidy::new())?)?;
     fillers.push(Box::new(rt.alloc(), Spot::new())?)?;
     fillers.push(Box::new(rt.alloc(), Conj::new())?)?;
+    let mut observers: Vec<Box<dyn Observer>> = Vec::new(rt.alloc());
+    observers.push(Box::new(rt.alloc(), Tally::new())?)?;
     let mut folder = Folder::new(rt);
     let mut screen = Screen::new(rt);
-    Ok(domcheck(rt.alloc(), &words, &mut folder, &mut screen, fillers))
+    let status = domcheck(
+        rt.alloc(),
+        &words,
+        &mut folder,
+        &mut screen,
+        fillers,
+        &mut observers,
+    );
+    drop(observers);
+    Ok(status)
 }
 
 fn main(rt: HostRuntime) -> ExitCode {

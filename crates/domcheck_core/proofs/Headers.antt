@@ -1,5 +1,5 @@
 -- The header of a procedure of a well-formed theory: what is asked of its ensures and its body.
-use Rattle.std.proofs.Common.{◌≡◌, ◌∙◌, ℕ, ◌+◌, List, [], ◌∷◌, ◌++◌, map, Bool, true, false, cond, refl, sym, ap, subst, Some, None, bytes_eq, is_none}
+use Rattle.std.proofs.Common.{◌≡◌, ◌∙◌, ℕ, zero, suc, ◌+◌, List, slice_get, Option, [], ◌∷◌, ◌++◌, map, Bool, true, false, cond, refl, sym, ap, subst, Some, None, bytes_eq, is_none}
 use Rattle.std.specs.Prelude.{not, ◌&&◌, ◌||◌}
 use Rattle.std.specs.List.{list_all, list_any, position_from}
 use Rattle.std.proofs.lemmas.List.Folds.{list_all-append}
@@ -9,7 +9,7 @@ use Rattle.model_shapes.proofs.Truth.{both_true, and_from}
 use Rattle.model_terms.specs.Variables.{Var, prog, logic, bound}
 use Rattle.model_terms.specs.Stores.{ProgVar, named, as_var}
 use Rattle.model_formulas.specs.Formulas.{Named, truth, falsity, conjunction, disjunction, implication, negation, existential, universal, equality, at_most, empty, bare_hole, node_formula, one_tree, one_root, concatenation, grove_sum, grove_sum_hole, application, hole_adjoint, context_adjoint, same_as, length_is, value_meets, left_sort, right_sort}
-use Rattle.model_formulas.specs.WellSorted.{flags, is_form, may_bind}
+use Rattle.model_formulas.specs.WellSorted.{flags, is_form, may_bind, first_fault}
 use Rattle.model_formulas.specs.Substitution.{gathered}
 use Rattle.model_commands.specs.CommandParts.{variables_of, variables_of_command}
 use Rattle.model_commands.specs.SortTests.{is_sorted}
@@ -168,6 +168,42 @@ module _ (theory : Theory) where
           subst Head (some_same p f q) (record { earlier = earlier; no_fault = here })
       by_name false q here later = later q
 
+  placed-head : (earlier : List (ProcedureOf Named)) (n : ℕ) (ps : List (ProcedureOf Named))
+      → first_fault_at (procedures_from theory earlier n ps) ≡ None
+      → (place : ℕ) (f : ProcedureOf Named) → slice_get ps place ≡ Some f → Head f
+  placed-head earlier n [] e place f q = absurd cc
+  placed-head earlier n (p ∷ ps) e place f q =
+      let a = first-none n 0 (header theory earlier p) (steps_from theory n p 1 p.proof
+      ++ procedures_from theory (p ∷ earlier) (n + 1) ps) e in
+      let b = both-none (steps_from theory n p 1 p.proof) _ a.1 in
+      by_place place q a.0 (placed-head (p ∷ earlier) (n + 1) ps b.1)
+    where
+      by_place : (at : ℕ) → slice_get (p ∷ ps) at ≡ Some f → head_kind theory earlier p ≡ None
+          → ((later : ℕ) (g : ProcedureOf Named) → slice_get ps later ≡ Some g → Head g) → Head f
+      by_place zero q here later =
+          subst Head (some_same p f q) (record { earlier = earlier; no_fault = here })
+      by_place (suc at) q here later = later at f q
+
+  no_fault-in : (found : Option ℕ) → is_none found ≡ true → found ≡ None
+  no_fault-in None e = refl
+  no_fault-in (Some n) e = absurd cc
+
+  -- the formulas of a procedure at a place may be judged at its sort
+  module _ (formed : IsWellFormedTheory theory) (place : ℕ) (f : ProcedureOf Named)
+      (there : slice_get theory.procedures place ≡ Some f) where
+    both-judged : (is_judged_at (shape f.sort) f.pre && is_judged_at (shape f.sort) f.post) ≡ true
+    both-judged =
+        let head = placed-head [] 1 theory.procedures
+        (first-none 0 0 (declarations theory) (procedures_from theory [] 1 theory.procedures)
+        formed).1 place f there in
+        (both_true _ _ (passes-each (header theory head.earlier f) head.no_fault sort_kind)).0
+
+    pub pre-sorted : first_fault f.pre (shape f.sort) ≡ None
+    pre-sorted = no_fault-in _ (both_true (is_judged_at (shape f.sort) f.pre) _ both-judged).0
+
+    pub post-sorted : first_fault f.post (shape f.sort) ≡ None
+    post-sorted = no_fault-in _ (both_true (is_judged_at (shape f.sort) f.pre) _ both-judged).1
+
   module _ (formed : IsWellFormedTheory theory) (name : Name) (f : ProcedureOf Named)
       (there : procedure_named name theory.procedures ≡ Some f) where
     passes : (earlier : List (ProcedureOf Named)) × ((kind : FileKind)
@@ -201,11 +237,19 @@ module _ (theory : Theory) where
               both.1);
         }
 
-    -- its body has parts of the right sorts
-    pub body-sorted : is_sorted (procedures_of theory) f.body ≡ true
-    body-sorted =
-        well-formed-bodies theory formed name (nameless_procedure f)
-        (nameless theory.procedures there)
+    -- its formulas may be judged at its sort
+    named-judged : (is_judged_at (shape f.sort) f.pre && is_judged_at (shape f.sort) f.post) ≡ true
+    named-judged = (both_true _ _ (passes.1 sort_kind)).0
+
+    pub named-pre : first_fault f.pre (shape f.sort) ≡ None
+    named-pre = no_fault-in _ (both_true (is_judged_at (shape f.sort) f.pre) _ named-judged).0
+
+    pub named-post : first_fault f.post (shape f.sort) ≡ None
+    named-post = no_fault-in _ (both_true (is_judged_at (shape f.sort) f.pre) _ named-judged).1
+
+    -- it is found without the names of its formulas' variables
+    pub nameless-there : procedure_named name (procedures_of theory) ≡ Some (nameless_procedure f)
+    nameless-there = nameless theory.procedures there
       where
         nameless : (ps : List (ProcedureOf Named)) → procedure_named name ps ≡ Some f
             → procedure_named name (map nameless_procedure ps) ≡ Some (nameless_procedure f)
@@ -220,3 +264,8 @@ module _ (theory : Theory) where
             by_name true e later =
                 ap (λ (z : ProcedureOf Named). Some (nameless_procedure z)) (some_same p f e)
             by_name false e later = later e
+
+    -- its body has parts of the right sorts
+    pub body-sorted : is_sorted (procedures_of theory) f.body ≡ true
+    body-sorted =
+        well-formed-bodies theory formed name (nameless_procedure f) nameless-there

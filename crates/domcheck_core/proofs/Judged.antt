@@ -17,11 +17,12 @@ use Rattle.model_grammar.specs.TheoryWriting.{theory_lines}
 use Rattle.logic_text.proofs.Utf8Lemmas.{lines_literals}
 use Rattle.filled_theory_laws.proofs.FileTexts.{filled-file}
 use Rattle.model_limits.specs.Limits.{standard_limits}
-use Rattle.model_answers.specs.Words.{Request, check, fill, wp, run, make, trial}
+use Rattle.model_answers.specs.Words.{Request, RunForm, check, fill, wp, run, make, trial}
+use Rattle.run_trace.specs.Listeners.{Listener}
 use Rattle.model_text.specs.Lexemes.{Lexeme}
 use Rattle.model_limits.specs.Limits.{LimitKind, file_limit}
 use Rattle.model_answers.specs.Texts.{IsFile}
-use Rattle.domcheck_core.specs.Answers.{Books, Answer, limit_answer, Unread, over_limit, NoFile, no_file, judged, PlaceAnswer, CheckVerdict, says_yes, says_no, CheckAnswer, FillVerdict, says_filled, fills_too_much, cannot_fill, FillAnswer, PreconditionAnswer, has_none, has_one, WpVerdict, not_there, is_there, WpAnswer, DocumentAnswer, IsCalled, NotCalled, RunAnswer, not_run, not_called, is_called, IsAnswer, checked, filled, preconditioned, ran, IsToldBook, IsTold}
+use Rattle.domcheck_core.specs.Answers.{Books, Answer, limit_answer, Unread, over_limit, NoFile, no_file, judged, PlaceAnswer, CheckVerdict, says_yes, says_no, CheckAnswer, FillVerdict, says_filled, fills_too_much, cannot_fill, FillAnswer, PreconditionAnswer, has_none, has_one, WpVerdict, not_there, is_there, WpAnswer, grove_answer, GroveAnswers, DocumentAnswer, IsCalled, NotCalled, RunAnswer, not_run, not_called, is_called, IsAnswer, checked, filled, preconditioned, ran, IsToldBook, IsTold}
 use Rattle.domcheck_core.specs.Books.{IsReply}
 use Rattle.domcheck_core.specs.Clauses.{OfFile, IsSoundFile, OfGaps, IsFilledFile, TookFilled, OfBody, IsPrecondition, TookPrecondition, NotThere, ExactlyWhere, BadWordsExactly, Says, IsAnswered, Wrote}
 use Rattle.outside_io.specs.Pieces.{Took}
@@ -170,24 +171,26 @@ no_words_bent : AreNoWords status.NotStraight
 no_words_bent e = cc
 
 -- A REPLY, where what it needs is told
-module _ (voices : List Voice) (books : Books) where
+module _ (voices : List Voice) (listeners : List Listener) (books : Books) where
   -- of a run: the document that was read is the told one, where it comes to that
-  told_run : (document bytes procedure : List ℕ) (fuel : ℕ) (arguments : List (List ℕ))
+  told_run : (on_grove : GroveAnswers) (document bytes procedure : List ℕ) (fuel : ℕ)
+      (arguments : List (List ℕ))
       (read : List ℕ) (s : Status) (output : List ℕ) → Told (books document) (λ d. read ≡ d)
       → (IsCalled bytes procedure arguments → IsToldBook books document)
-      → RunAnswer (Some read) bytes procedure fuel arguments s output
-      → RunAnswer (books document) bytes procedure fuel arguments s output
-  told_run document bytes name fuel words read s output same needs (not_run n) = not_run n
-  told_run document bytes name fuel words read s output same needs (not_called n) = not_called n
-  told_run document bytes name fuel words read s output same needs
+      → RunAnswer on_grove (Some read) bytes procedure fuel arguments s output
+      → RunAnswer on_grove (books document) bytes procedure fuel arguments s output
+  told_run on_grove document bytes name fuel words read s output same needs (not_run n) = not_run n
+  told_run on_grove document bytes name fuel words read s output same needs (not_called n) =
+      not_called n
+  told_run on_grove document bytes name fuel words read s output same needs
       (is_called t f values d spells e found answer) =
       let told = needs (t, spells, f, values, e) in
       let there : told.0 ≡ d = cc (same told.0 told.1) in
       is_called t f values told.0 spells e told.1
-      (subst (λ (z : List ℕ). DocumentAnswer t f values fuel z s output) (sym there) answer)
+      (subst (λ (z : List ℕ). DocumentAnswer on_grove t f values fuel z s output) (sym there) answer)
 
   pub answer : (r : Option Request) (s : Status) (output : List ℕ)
-      → IsReply voices r books s output → IsTold r books → IsAnswer voices books r s output
+      → IsReply voices listeners r books s output → IsTold r books → IsAnswer voices listeners books r s output
   answer None s output a told = a
   answer (Some (make n)) s output a told = a
   answer (Some (trial n)) s output a told = a
@@ -200,37 +203,40 @@ module _ (voices : List Voice) (books : Books) where
   answer (Some (wp file procedure)) s output a told =
       preconditioned file procedure told.0 told.1
       (subst (λ (z : List ℕ). WpAnswer procedure z s output) (a.2 told.0 told.1) a.1)
-  answer (Some (run file procedure document fuel arguments)) s output a told =
-      ran file procedure document fuel arguments told.0 told.1
-      (told_run document told.0 procedure fuel arguments a.1.0 s output a.1.2 told.2
-      (subst (λ (z : List ℕ). RunAnswer (Some a.1.0) z procedure fuel arguments s output)
+  answer (Some (run form file procedure document fuel arguments)) s output a told =
+      let on_grove = grove_answer form listeners in
+      ran form file procedure document fuel arguments told.0 told.1
+      (told_run on_grove document told.0 procedure fuel arguments a.1.0 s output a.1.2 told.2
+      (subst (λ (z : List ℕ). RunAnswer on_grove (Some a.1.0) z procedure fuel arguments s output)
       (a.2 told.0 told.1) a.1.1))
 
   pub answered : (r : Option Request) (s : Status) (output : List ℕ)
-      → IsReply voices r books s output → IsAnswered voices r books s
+      → IsReply voices listeners r books s output → IsAnswered voices listeners r books s
   answered r s output a = λ told. inl (output, answer r s output a told)
 
   -- the answer of the definition, where there is one, is the one that was given
   pub same_answer : (r : Option Request) (s : Status) (output : List ℕ)
-      → IsReply voices r books s output
+      → IsReply voices listeners r books s output
       → (before after : Option (List ℕ)) → Took before after output
-      → (t : Status) (other : List ℕ) → IsAnswer voices books r t other
+      → (t : Status) (other : List ℕ) → IsAnswer voices listeners books r t other
       → Says s before after t other
   same_answer r s output a before after took t other b =
-      let told = told_of voices books r t other b in
-      let same = one_answer voices books r s output t other (answer r s output a told) b in
+      let told = told_of voices listeners books r t other b in
+      let same = one_answer voices listeners books r s output t other (answer r s output a told) b in
       (same.0, subst (λ (z : List ℕ). Took before after z) same.1 took)
 
   -- what the sink took is all of the output of the answer
-  pub wrote : (r : Option Request) (s : Status) (output : List ℕ) → IsReply voices r books s output
-      → (before after : Option (List ℕ)) → Took before after output
-      → Wrote voices r books s before after
-  wrote r s output a before after took = by_status s (reply_speaks voices r books s output a)
+  pub wrote : (r : Option Request) (s : Status) (output : List ℕ)
+      → IsReply voices listeners r books s output → (before after : Option (List ℕ)) → Took before after output
+      → Wrote voices listeners r books s before after
+  wrote r s output a before after took =
+      by_status s (reply_speaks voices listeners r books s output a)
       (λ told. (output, answer r s output a told, took))
     where
       by_status : (t : Status) → speaks t ≡ true
-          → (IsTold r books → (o : List ℕ) × IsAnswer voices books r t o × Took before after o)
-          → Wrote voices r books t before after
+          → (IsTold r books
+          → (o : List ℕ) × IsAnswer voices listeners books r t o × Took before after o)
+          → Wrote voices listeners r books t before after
       by_status status.Done e h = h
       by_status status.StepFails e h = h
       by_status status.BadWords e h = h
@@ -245,30 +251,32 @@ module _ (voices : List Voice) (books : Books) where
       by_status status.ReadFault e h = absurd cc
       by_status status.WriteFault e h = absurd cc
       by_status status.NotStraight e h = h
+      by_status status.NotWatchable e h = h
 
   -- a fact of the told bytes of a file
   pub on_file : (r : Option Request) (s : Status) (output : List ℕ) (P : List ℕ → Type 0)
       → ((bytes : List ℕ) → CheckAnswer bytes s output → P bytes)
-      → IsReply voices r books s output → OfFile r books P
+      → IsReply voices listeners r books s output → OfFile r books P
   on_file None s output P f a = tt
   on_file (Some (make n)) s output P f a = tt
   on_file (Some (trial n)) s output P f a = tt
   on_file (Some (fill file)) s output P f a = tt
   on_file (Some (wp file procedure)) s output P f a = tt
-  on_file (Some (run file procedure document fuel arguments)) s output P f a = tt
+  on_file (Some (run form file procedure document fuel arguments)) s output P f a = tt
   on_file (Some (check file)) s output P f a = λ bytes told.
       f bytes (subst (λ (z : List ℕ). CheckAnswer z s output) (a.2 bytes told) a.1)
 
   -- and of those of a file that is filled, where the sink took the output
   pub on_gaps : (r : Option Request) (s : Status) (output : List ℕ) (before after : Option (List ℕ))
-      → IsReply voices r books s output → IsUtf8 output → Took before after output
+      → IsReply voices listeners r books s output → IsUtf8 output → Took before after output
       → OfGaps r books (λ bytes. s ≡ status.Done → TookFilled voices bytes before after)
   on_gaps None s output before after a utf8 took = tt
   on_gaps (Some (make n)) s output before after a utf8 took = tt
   on_gaps (Some (trial n)) s output before after a utf8 took = tt
   on_gaps (Some (check file)) s output before after a utf8 took = tt
   on_gaps (Some (wp file procedure)) s output before after a utf8 took = tt
-  on_gaps (Some (run file procedure document fuel arguments)) s output before after a utf8 took = tt
+  on_gaps (Some (run form file procedure document fuel arguments)) s output before after a utf8
+      took = tt
   on_gaps (Some (fill file)) s output before after a utf8 took = λ bytes told e. (
     output,
     filled_file voices bytes s output
@@ -278,7 +286,7 @@ module _ (voices : List Voice) (books : Books) where
 
   -- and of those of a file whose procedure is asked for
   pub on_body : (r : Option Request) (s : Status) (output : List ℕ) (before after : Option (List ℕ))
-      → IsReply voices r books s output → Took before after output
+      → IsReply voices listeners r books s output → Took before after output
       → OfBody r books
       (λ procedure bytes. s ≡ status.Done → TookPrecondition procedure bytes before after)
   on_body None s output before after a took = tt
@@ -286,7 +294,7 @@ module _ (voices : List Voice) (books : Books) where
   on_body (Some (trial n)) s output before after a took = tt
   on_body (Some (check file)) s output before after a took = tt
   on_body (Some (fill file)) s output before after a took = tt
-  on_body (Some (run file procedure document fuel arguments)) s output before after a took = tt
+  on_body (Some (run form file procedure document fuel arguments)) s output before after a took = tt
   on_body (Some (wp file procedure)) s output before after a took = λ bytes told e. (
     output,
     printed procedure bytes s output
@@ -315,26 +323,28 @@ module _ (voices : List Voice) (books : Books) where
   )
 
   -- bad words of a run
-  words_of_run : (bytes procedure : List ℕ) (fuel : ℕ) (arguments : List (List ℕ))
-      (read : Option (List ℕ)) (s : Status) (output : List ℕ)
-      → RunAnswer read bytes procedure fuel arguments s output
+  words_of_run : (form : RunForm) (bytes procedure : List ℕ) (fuel : ℕ)
+      (arguments : List (List ℕ)) (read : Option (List ℕ)) (s : Status) (output : List ℕ)
+      → RunAnswer (grove_answer form listeners) read bytes procedure fuel arguments s output
       → ExactlyWhere (NotCalled bytes procedure arguments) s status.BadWords
-  words_of_run bytes name fuel words read s output (not_run n) = (
+  words_of_run form bytes name fuel words read s output (not_run n) = (
     λ e. absurd (all_no_file AreNoWords no_words_past no_words_ill bytes s output no_words_bad n e),
     λ c. absurd (not_file bytes s output c.0 c.1 n),
   )
-  words_of_run bytes name fuel words read s output (not_called n) = (λ e. n, λ c. inl refl)
-  words_of_run bytes name fuel words read s output (is_called t f values d spells e found answer) =
-      let called : is_of_called s ≡ true = document_status t f values fuel d s output answer in (
-        λ q. absurd (not_bad_words (subst (λ (z : Status). is_of_called z ≡ true) q called)),
+  words_of_run form bytes name fuel words read s output (not_called n) = (λ e. n, λ c. inl refl)
+  words_of_run form bytes name fuel words read s output
+      (is_called t f values d spells e found answer) =
+      let called : is_of_called form s ≡ true =
+      document_status form listeners t f values fuel d s output answer in (
+        λ q. absurd (not_bad_words (subst (λ (z : Status). is_of_called form z ≡ true) q called)),
         λ c. absurd (not_both_called bytes name words (t, spells, f, values, e) c),
       )
     where
-      not_bad_words : is_of_called status.BadWords ≡ true → ⊥
+      not_bad_words : is_of_called form status.BadWords ≡ true → ⊥
       not_bad_words h = cc
 
   pub bad_words_exactly : (r : Option Request) (s : Status) (output : List ℕ)
-      → IsReply voices r books s output → BadWordsExactly r books s
+      → IsReply voices listeners r books s output → BadWordsExactly r books s
   bad_words_exactly None s output a = tt
   bad_words_exactly (Some (make n)) s output a = tt
   bad_words_exactly (Some (trial n)) s output a = tt
@@ -343,7 +353,7 @@ module _ (voices : List Voice) (books : Books) where
   bad_words_exactly (Some (wp file procedure)) s output a =
       λ bytes told. words_of_wp bytes procedure s output
       (subst (λ (z : List ℕ). WpAnswer procedure z s output) (a.2 bytes told) a.1)
-  bad_words_exactly (Some (run file procedure document fuel arguments)) s output a =
-      λ bytes told. words_of_run bytes procedure fuel arguments (Some a.1.0) s output
-      (subst (λ (z : List ℕ). RunAnswer (Some a.1.0) z procedure fuel arguments s output)
-      (a.2 bytes told) a.1.1)
+  bad_words_exactly (Some (run form file procedure document fuel arguments)) s output a =
+      λ bytes told. words_of_run form bytes procedure fuel arguments (Some a.1.0) s output
+      (subst (λ (z : List ℕ). RunAnswer (grove_answer form listeners) (Some a.1.0) z procedure fuel
+      arguments s output) (a.2 bytes told) a.1.1)

@@ -1,3 +1,4 @@
+pub mod Equal
 pub mod OneAnswer
 pub mod Statuses
 pub mod Judged
@@ -18,4 +19,9 @@ pub mod Headers
 pub mod BodySizes
 pub mod Straights
 pub mod NewNames
+pub mod Ending
+pub mod Watching
+pub mod Promises
 pub mod Weakest
+pub mod Hearing
+pub mod Surrounding

@@ -21,12 +21,13 @@ use Rattle.model_documents.specs.Grammar.{SpellsGrove}
 use Rattle.model_grammar.specs.Theories.{SpellsTheory}
 use Rattle.model_weakest.specs.Written.{new_sorts, new_variables, written}
 use Rattle.model_answers.specs.Words.{Request}
+use Rattle.run_trace.specs.Listeners.{Listener}
 use Rattle.model_answers.specs.Arguments.{called}
 use Rattle.model_answers.specs.Texts.{limit_passed, theory_limit, IsFile}
 use Rattle.model_answers.specs.Output.{bad_text_line, bad_document_text_line, fail_line, no_proof_line, gap_line, precondition_lines}
 use Rattle.proof_text.proofs.Exact.{one_theory}
 use Rattle.logic_text.proofs.Exact.{at_most_one}
-use Rattle.domcheck_core.specs.Answers.{Books, Answer, limit_answer, fault_answer, Unread, over_limit, spells_nothing, theory_refusal, NoFile, unread, refused, FileAnswer, no_file, judged, item_numbered, PlaceAnswer, has_gap, step_fails, has_no_proof, CheckVerdict, says_yes, says_no, CheckAnswer, FillVerdict, says_filled, fills_too_much, cannot_fill, FillAnswer, precondition_refusal, PreconditionAnswer, has_none, has_one, WpVerdict, not_there, is_there, WpAnswer, grove_answer, DocumentAnswer, no_document, is_document, IsCalled, NotCalled, RunAnswer, not_run, not_called, is_called, IsAnswer, bad_words, checked, filled, preconditioned, ran, made, tried, IsToldBook, IsTold}
+use Rattle.domcheck_core.specs.Answers.{Books, Answer, limit_answer, fault_answer, Unread, over_limit, spells_nothing, theory_refusal, NoFile, unread, refused, FileAnswer, no_file, judged, item_numbered, PlaceAnswer, has_gap, step_fails, has_no_proof, CheckVerdict, says_yes, says_no, CheckAnswer, FillVerdict, says_filled, fills_too_much, cannot_fill, FillAnswer, precondition_refusal, PreconditionAnswer, has_none, has_one, WpVerdict, not_there, is_there, WpAnswer, grove_answer, GroveAnswers, DocumentAnswer, no_document, is_document, IsCalled, NotCalled, RunAnswer, not_run, not_called, is_called, IsAnswer, bad_words, checked, filled, preconditioned, ran, made, tried, IsToldBook, IsTold}
 use Rattle.domcheck_core.proofs.NewNames.{one-list}
 use Rattle.domcheck_core.specs.declared.status.Status.{Status}
 
@@ -280,21 +281,22 @@ not_both_there procedure bytes t u f a b e d =
     (one_file bytes t u a b) ∙ d)
 
 -- RUN
-one_on_document : (theory : Theory) (f : ProcedureOf Named) (values : List Value) (fuel : ℕ)
-    (bytes : List ℕ) (s t : Status) (o p : List ℕ) → DocumentAnswer theory f values fuel bytes s o
-    → DocumentAnswer theory f values fuel bytes t p → Equal s o t p
-one_on_document theory f values fuel bytes s t o p (no_document a) (no_document b) =
+one_on_document : (on_grove : GroveAnswers) (theory : Theory) (f : ProcedureOf Named)
+    (values : List Value) (fuel : ℕ) (bytes : List ℕ) (s t : Status) (o p : List ℕ)
+    → DocumentAnswer on_grove theory f values fuel bytes s o
+    → DocumentAnswer on_grove theory f values fuel bytes t p → Equal s o t p
+one_on_document on_grove theory f values fuel bytes s t o p (no_document a) (no_document b) =
     one_unread SpellsGrove _ bad_document_text_line bytes s t o p a b
-one_on_document theory f values fuel bytes s t o p (no_document a) (is_document g e x y) =
+one_on_document on_grove theory f values fuel bytes s t o p (no_document a) (is_document g e x y) =
     absurd (not_unread SpellsGrove _ bad_document_text_line bytes s o g e x a)
-one_on_document theory f values fuel bytes s t o p (is_document g e x y) (no_document b) =
+one_on_document on_grove theory f values fuel bytes s t o p (is_document g e x y) (no_document b) =
     absurd (not_unread SpellsGrove _ bad_document_text_line bytes t p g e x b)
-one_on_document theory f values fuel bytes s t o p (is_document g e x y) (is_document h d z w) =
-    some_pair s t o p (grove_answer theory f values fuel g) y
-    (ap (grove_answer theory f values fuel) (at_most_one (lexemes_of bytes) g h x z) ∙ w)
+one_on_document on_grove theory f values fuel bytes s t o p (is_document g e x y) (is_document h d z w) =
+    some_pair s t o p (on_grove theory f values fuel g) y
+    (ap (on_grove theory f values fuel) (at_most_one (lexemes_of bytes) g h x z) ∙ w)
 
 -- what a file calls
-one_call : (bytes procedure : List ℕ) (arguments : List (List ℕ)) (t u : Theory)
+pub one_call : (bytes procedure : List ℕ) (arguments : List (List ℕ)) (t u : Theory)
     → IsFile bytes t → IsFile bytes u
     → called t procedure arguments ≡ called u procedure arguments
 one_call bytes procedure arguments t u a b =
@@ -305,88 +307,96 @@ pub not_both_called : (bytes procedure : List ℕ) (arguments : List (List ℕ))
 not_both_called bytes procedure arguments c n =
     some_none (c.2, c.3) (sym c.4 ∙ one_call bytes procedure arguments c.0 n.0 c.1 n.1 ∙ n.2)
 
-same_document : (t u : Theory) (f g : ProcedureOf Named) (values others : List Value) (fuel : ℕ)
+same_document : (on_grove : GroveAnswers) (t u : Theory) (f g : ProcedureOf Named) (values others : List Value) (fuel : ℕ)
     (read reread : List ℕ) (s : Status) (o : List ℕ)
     → t ≡ u → f ≡ g → values ≡ others → read ≡ reread
-    → DocumentAnswer t f values fuel read s o → DocumentAnswer u g others fuel reread s o
-same_document t u f g values others fuel read reread s o a b c d answer =
-    subst (λ (z : Theory). DocumentAnswer z g others fuel reread s o) a
-    (subst (λ (z : ProcedureOf Named). DocumentAnswer t z others fuel reread s o) b
-    (subst (λ (z : List Value). DocumentAnswer t f z fuel reread s o) c
-    (subst (λ (z : List ℕ). DocumentAnswer t f values fuel z s o) d answer)))
+    → DocumentAnswer on_grove t f values fuel read s o
+    → DocumentAnswer on_grove u g others fuel reread s o
+same_document on_grove t u f g values others fuel read reread s o a b c d answer =
+    subst (λ (z : Theory). DocumentAnswer on_grove z g others fuel reread s o) a
+    (subst (λ (z : ProcedureOf Named). DocumentAnswer on_grove t z others fuel reread s o) b
+    (subst (λ (z : List Value). DocumentAnswer on_grove t f z fuel reread s o) c
+    (subst (λ (z : List ℕ). DocumentAnswer on_grove t f values fuel z s o) d answer)))
 
-pub one_run : (document : Option (List ℕ)) (bytes procedure : List ℕ) (fuel : ℕ)
-    (arguments : List (List ℕ)) (s t : Status) (o p : List ℕ)
-    → RunAnswer document bytes procedure fuel arguments s o
-    → RunAnswer document bytes procedure fuel arguments t p → Equal s o t p
-one_run document bytes name fuel words s t o p (not_run a) (not_run b) =
+pub one_run : (on_grove : GroveAnswers) (document : Option (List ℕ)) (bytes procedure : List ℕ)
+    (fuel : ℕ) (arguments : List (List ℕ)) (s t : Status) (o p : List ℕ)
+    → RunAnswer on_grove document bytes procedure fuel arguments s o
+    → RunAnswer on_grove document bytes procedure fuel arguments t p → Equal s o t p
+one_run on_grove document bytes name fuel words s t o p (not_run a) (not_run b) =
     one_no_file bytes s t o p a b
-one_run document bytes name fuel words s t o p (not_run a) (not_called m) =
+one_run on_grove document bytes name fuel words s t o p (not_run a) (not_called m) =
     absurd (not_file bytes s o m.0 m.1 a)
-one_run document bytes name fuel words s t o p (not_run n) (is_called u f vs read a e r d) =
+one_run on_grove document bytes name fuel words s t o p (not_run n) (is_called u f vs read a e r d) =
     absurd (not_file bytes s o u a n)
-one_run document bytes name fuel words s t o p (not_called m) (not_run b) =
+one_run on_grove document bytes name fuel words s t o p (not_called m) (not_run b) =
     absurd (not_file bytes t p m.0 m.1 b)
-one_run document bytes name fuel words s t o p (not_called m) (not_called n) = (refl, refl)
-one_run document bytes name fuel words s t o p (not_called m) (is_called u f vs read a e r d) =
+one_run on_grove document bytes name fuel words s t o p (not_called m) (not_called n) = (refl, refl)
+one_run on_grove document bytes name fuel words s t o p (not_called m) (is_called u f vs read a e r d) =
     absurd (not_both_called bytes name words (u, a, f, vs, e) m)
-one_run document bytes name fuel words s t o p (is_called u f vs read a e r d) (not_run n) =
+one_run on_grove document bytes name fuel words s t o p (is_called u f vs read a e r d) (not_run n) =
     absurd (not_file bytes t p u a n)
-one_run document bytes name fuel words s t o p (is_called u f vs read a e r d) (not_called m) =
+one_run on_grove document bytes name fuel words s t o p (is_called u f vs read a e r d) (not_called m) =
     absurd (not_both_called bytes name words (u, a, f, vs, e) m)
-one_run document bytes name fuel words s t o p
+one_run on_grove document bytes name fuel words s t o p
     (is_called u f values read a e told d) (is_called v g others reread b h retold c) =
     let pair : (f, values) ≡ (g, others) =
     some_same (f, values) (g, others) (sym e ∙ one_call bytes name words u v a b ∙ h) in
     let here : read ≡ reread = some_same read reread (sym told ∙ retold) in
-    one_on_document v g others fuel reread s t o p
-    (same_document u v f g values others fuel read reread s o (one_file bytes u v a b)
+    one_on_document on_grove v g others fuel reread s t o p
+    (same_document on_grove u v f g values others fuel read reread s o (one_file bytes u v a b)
     (ap (λ (z : ProcedureOf Named × List Value). z.0) pair)
     (ap (λ (z : ProcedureOf Named × List Value). z.1) pair) here d) c
 
-pub one_answer : (voices : List Voice) (books : Books) (r : Option Request) (s : Status)
-    (o : List ℕ) (t : Status) (p : List ℕ)
-    → IsAnswer voices books r s o → IsAnswer voices books r t p → Equal s o t p
-one_answer voices books r s o t p bad_words bad_words = (refl, refl)
-one_answer voices books r s o t p (checked file bytes e a) (checked again other f b) =
+pub one_answer : (voices : List Voice) (listeners : List Listener) (books : Books)
+    (r : Option Request) (s : Status) (o : List ℕ) (t : Status) (p : List ℕ)
+    → IsAnswer voices listeners books r s o → IsAnswer voices listeners books r t p
+    → Equal s o t p
+one_answer voices listeners books r s o t p bad_words bad_words = (refl, refl)
+one_answer voices listeners books r s o t p (checked file bytes e a) (checked again other f b) =
     let same : bytes ≡ other = some_same bytes other (sym e ∙ f) in
     one_check other s t o p (subst (λ (z : List ℕ). CheckAnswer z s o) same a) b
-one_answer voices books r s o t p (filled file bytes e a) (filled again other f b) =
+one_answer voices listeners books r s o t p (filled file bytes e a) (filled again other f b) =
     let same : bytes ≡ other = some_same bytes other (sym e ∙ f) in
     one_fill voices other s t o p (subst (λ (z : List ℕ). FillAnswer voices z s o) same a) b
-one_answer voices books r s o t p (preconditioned file procedure bytes e a)
+one_answer voices listeners books r s o t p (preconditioned file procedure bytes e a)
     (preconditioned again name other f b) =
     let same : bytes ≡ other = some_same bytes other (sym e ∙ f) in
     one_wp procedure other s t o p (subst (λ (z : List ℕ). WpAnswer procedure z s o) same a) b
-one_answer voices books r s o t p
-    (ran file procedure document fuel arguments bytes e a)
-    (ran again procedure' document' fuel' arguments' other f b) =
+one_answer voices listeners books r s o t p
+    (ran form file procedure document fuel arguments bytes e a)
+    (ran form' again procedure' document' fuel' arguments' other f b) =
     let same : bytes ≡ other = some_same bytes other (sym e ∙ f) in
-    one_run (books document) other procedure fuel arguments s t o p
-    (subst (λ (z : List ℕ). RunAnswer (books document) z procedure fuel arguments s o) same a) b
-one_answer voices books r s o t p (made n) (made m) = (refl, refl)
-one_answer voices books r s o t p (tried n) (tried m) = (refl, refl)
+    let on_grove = grove_answer form listeners in
+    one_run on_grove (books document) other procedure fuel arguments s t o p
+    (subst (λ (z : List ℕ). RunAnswer on_grove (books document) z procedure fuel arguments s o) same
+    a) b
+one_answer voices listeners books r s o t p (made n) (made m) = (refl, refl)
+one_answer voices listeners books r s o t p (tried n) (tried m) = (refl, refl)
 
 -- where there is an answer, what it needs is told
-told_for_run : (books : Books) (bytes procedure document : List ℕ) (fuel : ℕ)
-    (arguments : List (List ℕ)) (s : Status) (o : List ℕ)
-    → RunAnswer (books document) bytes procedure fuel arguments s o
+told_for_run : (on_grove : GroveAnswers) (books : Books) (bytes procedure document : List ℕ)
+    (fuel : ℕ) (arguments : List (List ℕ)) (s : Status) (o : List ℕ)
+    → RunAnswer on_grove (books document) bytes procedure fuel arguments s o
     → IsCalled bytes procedure arguments → IsToldBook books document
-told_for_run books bytes procedure document fuel arguments s o (not_run n) c =
+told_for_run on_grove books bytes procedure document fuel arguments s o (not_run n) c =
     absurd (not_file bytes s o c.0 c.1 n)
-told_for_run books bytes procedure document fuel arguments s o (not_called m) c =
+told_for_run on_grove books bytes procedure document fuel arguments s o (not_called m) c =
     absurd (not_both_called bytes procedure arguments c m)
-told_for_run books bytes procedure document fuel arguments s o
+told_for_run on_grove books bytes procedure document fuel arguments s o
     (is_called u f vs read a e told d) c =
     (read, told)
 
-pub told_of : (voices : List Voice) (books : Books) (r : Option Request) (s : Status) (o : List ℕ)
-    → IsAnswer voices books r s o → IsTold r books
-told_of voices books r s o bad_words = tt
-told_of voices books r s o (made n) = tt
-told_of voices books r s o (tried n) = tt
-told_of voices books r s o (checked file bytes e a) = (bytes, e)
-told_of voices books r s o (filled file bytes e a) = (bytes, e)
-told_of voices books r s o (preconditioned file procedure bytes e a) = (bytes, e)
-told_of voices books r s o (ran file procedure document fuel arguments bytes e a) =
-    (bytes, e, told_for_run books bytes procedure document fuel arguments s o a)
+pub told_of : (voices : List Voice) (listeners : List Listener) (books : Books)
+    (r : Option Request) (s : Status) (o : List ℕ) → IsAnswer voices listeners books r s o
+    → IsTold r books
+told_of voices listeners books r s o bad_words = tt
+told_of voices listeners books r s o (made n) = tt
+told_of voices listeners books r s o (tried n) = tt
+told_of voices listeners books r s o (checked file bytes e a) = (bytes, e)
+told_of voices listeners books r s o (filled file bytes e a) = (bytes, e)
+told_of voices listeners books r s o (preconditioned file procedure bytes e a) = (bytes, e)
+told_of voices listeners books r s o (ran form file procedure document fuel arguments bytes e a) = (
+  bytes,
+  e,
+  told_for_run (grove_answer form listeners) books bytes procedure document fuel arguments s o a,
+)

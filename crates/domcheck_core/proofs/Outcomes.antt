@@ -9,7 +9,10 @@ use Rattle.model_formulas.specs.Formulas.{Named}
 use Rattle.model_terms.specs.Stores.{ProgVar}
 use Rattle.model_terms.specs.TermLimits.{or_else}
 use Rattle.model_commands.specs.Theories.{ProcedureOf, Theory}
+use Rattle.model_machine.specs.Changes.{Change}
 use Rattle.model_machine.specs.Outcomes.{Outcome}
+use Rattle.model_answers.specs.Words.{RunForm}
+use Rattle.run_trace.specs.Listeners.{Listener}
 use Rattle.model_documents.specs.Printed.{grove_text}
 use Rattle.model_documents.specs.Roots.{sorted_roots}
 use Rattle.model_documents.proofs.SortedRoots.{sorted-same, sorted-rising, rising-equal}
@@ -19,7 +22,7 @@ use Rattle.heap_runner.specs.declared.outcomes.HeapOutcome.{HeapOutcome}
 use Rattle.heap_runner.specs.declared.outcomes.HeapOutcome.TheVariants as h
 use Rattle.domcheck_core.specs.Calls.{CameOut}
 use Rattle.domcheck_core.specs.declared.status.Status.{Status}
-use Rattle.domcheck_core.specs.Answers.{Answer, outcome_on, outcome_answer, grove_answer, refusal}
+use Rattle.domcheck_core.specs.Answers.{Answer, outcome_on, traced_answer, shown_answer, grove_answer, refusal}
 
 -- groves that are the same are equal once their roots are sorted
 same_sorted : (a b : Trees) → Shaped (shape grove) a → SameAt grove a b
@@ -55,22 +58,28 @@ came_out run fuel (h.Limit kind) trees a = a.0
 came_out run fuel h.OutOfMemory trees a = tt
 
 -- the answer of the outcome is the answer on the document, and so is what is refused
-module _ (theory : Theory) (f : ProcedureOf Named) (values : List Value) (fuel : ℕ)
-    (document : Trees) where
-  pub on_grove : {A E : Type 0} (of : A → Answer) (results : List ProgVar) (reply : Result A E)
-      → refusal document ≡ None → results ≡ f.results
-      → IfOk reply (λ x.
-      outcome_answer results (outcome_on theory f values fuel document) ≡ Some (of x))
-      → IfOk reply (λ x. grove_answer theory f values fuel document ≡ Some (of x))
-  on_grove of results (Ok x) passes e h =
-      let answer = λ (z : List ProgVar). outcome_answer z
-      (outcome_on theory f values fuel document) in
-      ap (λ (z : Option Answer). or_else z (answer f.results)) passes
-      ∙ subst (λ (z : List ProgVar). answer z ≡ Some (of x)) e h
-  on_grove of results (Err x) passes e h = tt
+module _ (form : RunForm) (listeners : List Listener) (theory : Theory) (f : ProcedureOf Named)
+    (values : List Value) (fuel : ℕ) (document : Trees) where
+  abbrev shown : Option Answer
+  shown =
+      shown_answer form listeners theory f values document
+      (outcome_on theory f values fuel document)
+
+  pub on_grove : {A E : Type 0} (of : A → Answer) (reply : Result A E) → refusal document ≡ None
+      → IfOk reply (λ x. shown ≡ Some (of x))
+      → IfOk reply (λ x. grove_answer form listeners theory f values fuel document ≡ Some (of x))
+  on_grove of (Ok x) passes h = ap (λ (z : Option Answer). or_else z shown) passes ∙ h
+  on_grove of (Err x) passes h = tt
 
   pub refused : (s : Status) (line : List ℕ) → refusal document ≡ Some (s, line)
-      → grove_answer theory f values fuel document ≡ Some (s, line)
-  refused s line h =
-      let answer = outcome_answer f.results (outcome_on theory f values fuel document) in
-      ap (λ (z : Option Answer). or_else z answer) h
+      → grove_answer form listeners theory f values fuel document ≡ Some (s, line)
+  refused s line h = ap (λ (z : Option Answer). or_else z shown) h
+
+-- the answer of a traced run names the results of its procedure
+pub traced_on : {A E : Type 0} (of : A → Answer) (before : List Listener)
+    (changes_in : ℕ → List Change) (results others : List ProgVar) (o : Outcome)
+    (reply : Result A E) → results ≡ others
+    → IfOk reply (λ x. traced_answer before changes_in results o ≡ Some (of x))
+    → IfOk reply (λ x. traced_answer before changes_in others o ≡ Some (of x))
+traced_on of before changes_in results others o reply same =
+    subst (λ rs. IfOk reply (λ x. traced_answer before changes_in rs o ≡ Some (of x))) same

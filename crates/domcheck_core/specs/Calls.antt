@@ -6,6 +6,7 @@ use Rattle.model_shapes.specs.Shapes.{SameAt}
 use Rattle.model_machine.specs.Machine.{Config}
 use Rattle.model_machine.specs.Outcomes as model
 use Rattle.model_machine.specs.Outcomes.{Outcome}
+use Rattle.model_terms.specs.Stores.{ProgVar}
 use Rattle.model_machine.specs.Fitting.{ValuesFit}
 use Rattle.model_files.specs.FileFaults.{IsWellFormedTheory}
 use Rattle.dom_terms.specs.Terms.{prog_var_of}
@@ -21,7 +22,7 @@ use Rattle.theory_syntax.specs.Theories.{procedure_of, theory_of}
 use Rattle.dom_terms.specs.Values.{value_seen}
 use Rattle.model_answers.specs.Arguments.{called}
 use Rattle.model_answers.specs.Texts.{IsFile}
-use Rattle.domcheck_core.specs.Answers.{DocumentAnswer, RunAnswer}
+use Rattle.domcheck_core.specs.Answers.{GroveAnswers, DocumentAnswer, RunAnswer}
 use Rattle.domcheck_core.specs.declared.calls.Call.{Call}
 use Rattle.domcheck_core.specs.declared.runs.Opened.{Opened}
 use Rattle.domcheck_core.specs.declared.runs.Opened.TheVariants as opened
@@ -51,15 +52,20 @@ abbrev pub IsOpened : List ℕ → List ℕ → List (List ℕ) → Opened → T
 IsOpened bytes name arguments (opened.Called theory call) =
     IsFile bytes (theory_of theory) × IsCallOf theory name arguments call
 IsOpened bytes name arguments (opened.Answered reply) =
-    (document : Option (List ℕ)) (fuel : ℕ)
-    → RunAnswer document bytes name fuel arguments reply.status reply.output
+    (on_grove : GroveAnswers) (document : Option (List ℕ)) (fuel : ℕ)
+    → RunAnswer on_grove document bytes name fuel arguments reply.status reply.output
 
--- the answer of the call on a document with these bytes
-abbrev pub CallAnswer : Theory → Call → ℕ → List ℕ → Status → List ℕ → Type 0
-CallAnswer theory call fuel document s output =
+-- the answer of the call on a document with these bytes, where this is that on a grove
+abbrev pub CallAnswer : GroveAnswers → Theory → Call → ℕ → List ℕ → Status → List ℕ → Type 0
+CallAnswer on_grove theory call fuel document s output =
     (f : Procedure) → slice_get theory.procedures call.procedure ≡ Some f
-    → DocumentAnswer (theory_of theory) (procedure_of f) (map value_seen call.values) fuel document
-    s output
+    → DocumentAnswer on_grove (theory_of theory) (procedure_of f) (map value_seen call.values) fuel
+    document s output
+
+-- the values with which a run on a heap ended fit these variables
+abbrev pub ResultsFit : List ProgVar → HeapOutcome → Type 0
+ResultsFit results (h.Ended steps values) = ValuesFit results (map value_seen values)
+ResultsFit results outcome = Unit
 
 -- A run on a heap came out so, by the definitions: with the heap's grove at its end, up to the
 -- order of roots.

@@ -1,6 +1,6 @@
 -- The clauses of the top call. Each speaks of the request, the told books, the fillers, the counts
 -- and the status.
-use Rattle.std.specs.Prelude.{◌≡◌, ◌⊎◌, ◌↔◌, ℕ, List, [], ◌∷◌, map, Option, Some, None, String, string_bytes}
+use Rattle.std.specs.Prelude.{◌≡◌, ◌⊎◌, ◌↔◌, ℕ, List, [], ◌∷◌, map, Option, Some, None, String, string_bytes, ◌++◌}
 use Rattle.outside_io.specs.Causes.{Told}
 use Rattle.outside_io.specs.Pieces.{Took, TookPrefix}
 use Rattle.model_shapes.specs.Sorts.{shape, grove}
@@ -20,9 +20,10 @@ use Rattle.model_round_trip.specs.ReadBack.{without_lines}
 use Rattle.rule_table.specs.Accepted.{Each, IsAccepted}
 use Rattle.model_filling.specs.Offers.{Voice}
 use Rattle.model_filling.specs.Filled.{IsFilled}
-use Rattle.model_answers.specs.Words.{Request, check, fill, wp, run, make, trial, reading_of}
+use Rattle.model_answers.specs.Words.{Request, RunForm, with_verdicts, check, fill, wp, run, make, trial, reading_of}
 use Rattle.model_answers.specs.Output.{precondition_lines}
 use Rattle.model_answers.specs.Texts.{IsFile}
+use Rattle.run_trace.specs.Listeners.{Listener}
 use Rattle.domcheck_core.specs.Answers.{Books, IsAnswer, IsTold, IsCalled, NotCalled}
 use Rattle.domcheck_core.specs.declared.status.Status.{Status}
 use Rattle.domcheck_core.specs.declared.status.Status.TheVariants as status
@@ -93,9 +94,9 @@ abbrev pub Says : Status → Option (List ℕ) → Option (List ℕ) → Status 
 Says s before after wanted output = (s ≡ wanted) × Took before after output
 
 -- the answer is that of the definition, or the call gives up
-abbrev pub IsAnswered : List Voice → Option Request → Books → Status → Type 0
-IsAnswered voices r books s =
-    IsTold r books → ((output : List ℕ) × IsAnswer voices books r s output) ⊎ GivesUp s
+abbrev pub IsAnswered : List Voice → List Listener → Option Request → Books → Status → Type 0
+IsAnswered voices listeners r books s =
+    IsTold r books → ((output : List ℕ) × IsAnswer voices listeners books r s output) ⊎ GivesUp s
 
 -- this status comes only where the cause stands; and where it stands, it comes or the call gives up
 abbrev pub ExactlyWhere : Type 0 → Status → Status → Type 0
@@ -109,7 +110,7 @@ NotThere bytes procedure =
 -- A run whose file is told has bad words exactly where they name no procedure of the file or no
 -- arguments for it, whatever its document is; and `wp` where they name no procedure of the file.
 abbrev pub BadWordsExactly : Option Request → Books → Status → Type 0
-BadWordsExactly (Some (run file procedure document fuel arguments)) books s =
+BadWordsExactly (Some (run form file procedure document fuel arguments)) books s =
     Told (books file) (λ bytes.
     ExactlyWhere (NotCalled bytes procedure arguments) s status.BadWords)
 BadWordsExactly (Some (wp file procedure)) books s =
@@ -121,6 +122,17 @@ BadWordsExactly r books s = Unit
 abbrev pub file_statuses : List ℕ
 file_statuses = 0 ∷ 1 ∷ 3 ∷ 4 ∷ 8 ∷ 9 ∷ 10 ∷ 11 ∷ 12 ∷ []
 
+-- of a run in any form, and in each
+abbrev pub call_statuses : List ℕ
+call_statuses = 0 ∷ 2 ∷ 3 ∷ 4 ∷ 5 ∷ 6 ∷ 7 ∷ 8 ∷ 10 ∷ 11 ∷ 12 ∷ []
+
+abbrev pub own_statuses : RunForm → List ℕ
+own_statuses with_verdicts = 14 ∷ []
+own_statuses form = []
+
+abbrev pub run_statuses : RunForm → List ℕ
+run_statuses form = call_statuses ++ own_statuses form
+
 -- and of each
 abbrev pub statuses : Option Request → List ℕ
 statuses None = 2 ∷ 10 ∷ 12 ∷ []
@@ -128,8 +140,7 @@ statuses (Some (check file)) = file_statuses
 statuses (Some (fill file)) = file_statuses
 statuses (Some (wp file procedure)) =
     0 ∷ 2 ∷ 3 ∷ 4 ∷ 8 ∷ 10 ∷ 11 ∷ 12 ∷ 13 ∷ []
-statuses (Some (run file procedure document fuel arguments)) =
-    0 ∷ 2 ∷ 3 ∷ 4 ∷ 5 ∷ 6 ∷ 7 ∷ 8 ∷ 10 ∷ 11 ∷ 12 ∷ []
+statuses (Some (run form file procedure document fuel arguments)) = run_statuses form
 statuses (Some (make n)) = 0 ∷ 10 ∷ 12 ∷ []
 statuses (Some (trial n)) = 0 ∷ 10 ∷ 12 ∷ []
 
@@ -139,18 +150,19 @@ abbrev pub ReadRose : Option Request → Books → (List ℕ → Type 0) → Typ
 ReadRose (Some (check file)) books rose = rose file
 ReadRose (Some (fill file)) books rose = rose file
 ReadRose (Some (wp file procedure)) books rose = rose file
-ReadRose (Some (run file procedure document fuel arguments)) books rose =
+ReadRose (Some (run form file procedure document fuel arguments)) books rose =
     rose file ⊎ (rose document × Told (books file) (λ bytes. IsCalled bytes procedure arguments))
 ReadRose r books rose = ⊥
 
 -- what the sink took: all of the output of the answer; at a fault of the sink a prefix of that of
 -- some answer; at want of memory and a fault of the library nothing
-abbrev pub Wrote : List Voice → Option Request → Books → Status → Option (List ℕ)
-    → Option (List ℕ) → Type 0
-Wrote voices r books status.OutOfMemory before after = Took before after []
-Wrote voices r books status.ReadFault before after = Took before after []
-Wrote voices r books status.WriteFault before after =
-    IsTold r books → (s : Status) × (output : List ℕ) × IsAnswer voices books r s output
+abbrev pub Wrote : List Voice → List Listener → Option Request → Books → Status
+    → Option (List ℕ) → Option (List ℕ) → Type 0
+Wrote voices listeners r books status.OutOfMemory before after = Took before after []
+Wrote voices listeners r books status.ReadFault before after = Took before after []
+Wrote voices listeners r books status.WriteFault before after =
+    IsTold r books → (s : Status) × (output : List ℕ) × IsAnswer voices listeners books r s output
     × TookPrefix before after output
-Wrote voices r books s before after =
-    IsTold r books → (output : List ℕ) × IsAnswer voices books r s output × Took before after output
+Wrote voices listeners r books s before after =
+    IsTold r books → (output : List ℕ) × IsAnswer voices listeners books r s output
+    × Took before after output

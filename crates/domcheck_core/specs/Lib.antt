@@ -6,3 +6,6 @@ pub mod Numbers
 pub mod Refusals
 pub mod Stands
 pub mod Preconditions
+pub mod Heard
+pub mod Watched
+pub mod Replies

@@ -18,3 +18,4 @@ status_number status.OutOfMemory = 10
 status_number status.ReadFault = 11
 status_number status.WriteFault = 12
 status_number status.NotStraight = 13
+status_number status.NotWatchable = 14

@@ -1,21 +1,29 @@
 // The books that the words name: what is done with their bytes once they are read.
-ghost use Rattle.std.specs.Prelude.{◌≡◌, ◌≤◌, ◌<◌, ℕ, List, Some, length, IfOk, IsErrOf, MatchOption};
+ghost use Rattle.std.specs.Prelude.{◌≡◌, ◌≤◌, ◌<◌, ℕ, List, Some, length, map, slice_get, IfOk, IsErrOf, MatchOption};
 ghost use Rattle.outside_io.specs.Causes.{Rose, Told};
 ghost use Rattle.model_limits.specs.Limits.{file_limit, standard_limits};
 ghost use Rattle.boxed_fillers.specs.Voices.{voices_of};
-ghost use Rattle.domcheck_core.specs.Answers.{CheckAnswer, FillAnswer, WpAnswer, limit_answer};
+ghost use Rattle.run_trace.specs.Listeners.{listeners_of};
+ghost use Rattle.theory_syntax.specs.declared.theories.Procedure.{Procedure};
+ghost use Rattle.theory_syntax.specs.Theories.{procedure_of, theory_of};
+ghost use Rattle.dom_terms.specs.Values.{value_seen};
+ghost use Rattle.domcheck_core.specs.Answers.{CheckAnswer, FillAnswer, WpAnswer, grove_answer, limit_answer};
 ghost use Rattle.domcheck_core.specs.Books.{ReadFrom};
 ghost use Rattle.domcheck_core.specs.Calls.{FitsCall, IsOpened, CallAnswer};
+ghost use Rattle.domcheck_core.specs.Heard.{DocumentRuns};
+ghost use Rattle.domcheck_core.specs.Replies.{form_of, end_of, HeardIn};
 
 use crate::calls::Call;
 use crate::checks::{Ending, check_until};
 use crate::fills::fill_until;
+use crate::forms::RunForm;
 use crate::preconditions::wp_until;
 use crate::replies::{Refusal, Reply, answered};
 use crate::runs::{Opened, open_file, run_document};
 use crate::texts::past;
 use dom_terms::{LimitKind, OutOfMemory, Text, Texts};
 use outside_io::{Library, ReadAllFault, read_all};
+use run_trace::Observer;
 use std::alloc::Global;
 use step_filler::Filler;
 use theory_syntax::Theory;
@@ -137,10 +145,19 @@ pub fn run_book<L: Library>(
     call: Call,
     document: &Text,
     fuel: u32,
+    form: RunForm,
+    observers: &mut Vec<Box<dyn Observer>>,
 ) -> Result<Reply, Refusal>
     requires { FitsCall theory.now call }
     ensures answer { IfOk result (λ r. ReadFrom (L.book library.old document.now)
-        (λ bytes. CallAnswer theory.now call fuel bytes r.status r.output)) }
+        (λ bytes. CallAnswer (grove_answer (form_of form)
+        (listeners_of face after says observers.old.items)) theory.now call fuel bytes r.status
+        r.output)) }
+    ensures heard { (p : Procedure) → slice_get theory.now.procedures call.procedure ≡ Some p
+        → ReadFrom (L.book library.old document.now) (λ bytes. HeardIn (form_of form)
+        (DocumentRuns (theory_of theory.now) (procedure_of p) (map value_seen call.values) bytes)
+        fuel (end_of result) (listeners_of face after says observers.old.items)
+        (listeners_of face after says observers.new.items)) }
     ensures cause { IsErrOf result Refusal.ReadFault
         → Rose (L.faults library.old document.now) (L.faults library.new document.now) }
     ensures kept { (other : List ℕ)
@@ -148,7 +165,10 @@ pub fn run_book<L: Library>(
     ensures later { (other : List ℕ) → L.faults library.old other ≤ L.faults library.new other }
 {
     match read_book(alloc, library, document.as_str())? {
-        Some(bytes) => Ok(run_document(alloc, theory, call, &bytes, fuel)?),
+        Some(bytes) => {
+            let reply = run_document(alloc, theory, call, &bytes, fuel, form, observers)?;
+            Ok(reply)
+        }
         None => Ok(too_large(alloc)?),
     }
 }

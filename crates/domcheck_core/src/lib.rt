@@ -10,9 +10,12 @@
 ghost use Rattle.std.specs.Prelude.{◌≡◌, ◌≤◌, ◌⊎◌, ℕ, List, Contains, None, Some};
 ghost use Rattle.outside_io.specs.Causes.{Rose, Told};
 ghost use Rattle.boxed_fillers.specs.Voices.{voices_of};
+ghost use Rattle.run_trace.specs.Listeners.{listeners_of};
 ghost use Rattle.domcheck_core.specs.Answers.{IsAnswer};
 ghost use Rattle.domcheck_core.specs.Clauses.{asked, OfFile, IsSoundFile, OfGaps, TookFilled, OfBody, TookPrecondition, BadWordsExactly, GivesUp, Says, IsAnswered, statuses, ReadRose, Wrote};
+ghost use Rattle.domcheck_core.specs.Heard.{Heard};
 ghost use Rattle.domcheck_core.specs.Numbers.{status_number};
+ghost use Rattle.domcheck_core.specs.Watched.{JudgesSatisfaction, KeepsPromises};
 
 mod answers;
 mod books;
@@ -21,6 +24,7 @@ mod checks;
 mod document;
 mod file;
 mod fills;
+mod forms;
 mod generated;
 mod groves;
 mod limits;
@@ -29,6 +33,8 @@ mod replies;
 mod runs;
 mod status;
 mod texts;
+mod traces;
+mod watches;
 
 use answers::answer_words;
 pub use boxed_fillers::FillFault;
@@ -39,23 +45,28 @@ pub use preconditions::wp_bytes;
 use replies::Refusal;
 pub use replies::Reply;
 pub use request_words::{Request, WordFault, read_words};
+pub use run_trace::{Change, Changes, Observer, Tally};
 pub use runs::run_bytes;
 pub use status::Status;
 use std::alloc::Global;
 pub use step_filler::Filler;
+pub use traces::{Traced, trace_heap};
 
 /// Does what the words after the program's name ask for, and answers how it ended. The forms today
-/// are `check FILE`, `fill FILE`, `wp FILE PROC`, `run FILE PROC DOC FUEL ARG*`, `make N` and
-/// `trial N`. The output is built whole and then written. The fillers are asked in their order for
-/// the steps of the gaps of a file that is filled; nobody trusts them. It is made for a program
-/// that ends after it: the memory of the theory of a file that was read is mostly left to the
-/// system. `check_bytes`, `fill_bytes`, `wp_bytes` and `run_bytes` give all back.
+/// are `check FILE`, `fill FILE`, `wp FILE PROC`, `run FILE PROC DOC FUEL ARG*`,
+/// `trace FILE PROC DOC FUEL ARG*`, `watch FILE PROC DOC FUEL ARG*`, `make N` and `trial N`. The
+/// output is built whole and then written. The fillers are asked in their order for the steps of the
+/// gaps of a file that is filled; nobody trusts them. The observers are told in their order what
+/// each step of a traced run changes, when it is taken. It is made for a program that ends after it:
+/// the memory of the theory of a file that was read is mostly left to the system. `check_bytes`,
+/// `fill_bytes`, `wp_bytes` and `run_bytes` give all back.
 pub fn domcheck<L: Library, S: Sink>(
     alloc: Global,
     words: &[String],
     library: &mut L,
     sink: &mut S,
     fillers: Vec<Box<dyn Filler>>,
+    observers: &mut Vec<Box<dyn Observer>>,
 ) -> Status
     // A yes is a proof.
     ensures soundness_of_yes { OfFile (asked words.now) (L.book library.old)
@@ -73,16 +84,19 @@ pub fn domcheck<L: Library, S: Sink>(
         → TookPrecondition procedure bytes (S.taken sink.old) (S.taken sink.new)) }
 
     // The answer to each request is the one that is defined, status and output, and no other.
-    ensures answered { IsAnswered (voices_of turn offers fillers.items) (asked words.now)
-        (L.book library.old) result }
+    ensures answered { IsAnswered (voices_of turn offers fillers.items)
+        (listeners_of face after says observers.old.items) (asked words.now) (L.book library.old)
+        result }
     ensures exactly { (s : Status) (output : List ℕ)
-        → IsAnswer (voices_of turn offers fillers.items) (L.book library.old) (asked words.now) s
+        → IsAnswer (voices_of turn offers fillers.items)
+        (listeners_of face after says observers.old.items) (L.book library.old) (asked words.now) s
         output
         → Says result (S.taken sink.old) (S.taken sink.new) s output ⊎ GivesUp result }
 
     // It is given where nothing failed, but for want of memory.
     ensures complete { (s : Status) (output : List ℕ)
-        → IsAnswer (voices_of turn offers fillers.items) (L.book library.old) (asked words.now) s
+        → IsAnswer (voices_of turn offers fillers.items)
+        (listeners_of face after says observers.old.items) (L.book library.old) (asked words.now) s
         output
         → (ReadRose (asked words.now) (L.book library.old) (λ name.
         Rose (L.faults library.old name) (L.faults library.new name)) → ⊥)
@@ -103,8 +117,18 @@ pub fn domcheck<L: Library, S: Sink>(
         → Rose (S.faults sink.old) (S.faults sink.new) }
 
     // What the sink took.
-    ensures wrote { Wrote (voices_of turn offers fillers.items) (asked words.now)
-        (L.book library.old) result (S.taken sink.old) (S.taken sink.new) }
+    ensures wrote { Wrote (voices_of turn offers fillers.items)
+        (listeners_of face after says observers.old.items) (asked words.now) (L.book library.old)
+        result (S.taken sink.old) (S.taken sink.new) }
+
+    // What is judged of a run that is watched, and what comes of a procedure that is accepted.
+    ensures judged { JudgesSatisfaction }
+    ensures watched { KeepsPromises }
+
+    // What the observers were told.
+    ensures heard { Heard (asked words.now) (L.book library.old) result
+        (listeners_of face after says observers.old.items)
+        (listeners_of face after says observers.new.items) }
 
     // The words are read first: where they have no reading the library isn't asked.
     ensures words_first { asked words.now ≡ None → library.new ≡ library.old }
@@ -116,7 +140,7 @@ pub fn domcheck<L: Library, S: Sink>(
     ensures sink_later { S.faults sink.old ≤ S.faults sink.new }
 {
     let mut fillers = fillers;
-    match answer_words(alloc, words, library, &mut fillers) {
+    match answer_words(alloc, words, library, &mut fillers, observers) {
         Ok(reply) => {
             // so the text of a filled theory is a file, whose literals are UTF-8
             reply.output.is_utf8();

@@ -1,5 +1,5 @@
 // Runs of a file's procedure on a document, over the bytes of both.
-ghost use Rattle.std.specs.Prelude.{◌≡◌, ℕ, List, Some, map, slice_get, IfOk};
+ghost use Rattle.std.specs.Prelude.{◌≡◌, ℕ, List, [], None, Some, map, slice_get, IfOk};
 ghost use Rattle.model_shapes.specs.Trees.{Trees};
 ghost use Rattle.model_shapes.specs.Shapes.{SameAt};
 ghost use Rattle.model_shapes.specs.Sorts.{grove};
@@ -10,20 +10,29 @@ ghost use Rattle.theory_syntax.specs.declared.theories.Procedure.{Procedure};
 ghost use Rattle.theory_syntax.specs.Theories.{procedure_of, theory_of};
 ghost use Rattle.logic_text.specs.RawGroves.{raw_forest_of};
 ghost use Rattle.model_answers.specs.Texts.{IsFile};
-ghost use Rattle.domcheck_core.specs.Answers.{outcome_answer, grove_answer, RunAnswer};
+ghost use Rattle.model_answers.specs.Words.{only_outcome};
+ghost use Rattle.run_trace.specs.Listeners.{listeners_of};
+ghost use Rattle.domcheck_core.specs.Answers.{outcome_on, outcome_answer, changes_on, traced_answer};
+ghost use Rattle.domcheck_core.specs.Answers.{grove_answer, refusal, RunAnswer};
 ghost use Rattle.domcheck_core.specs.Calls.{FitsCall, CameOut, IsOpened, CallAnswer};
+ghost use Rattle.domcheck_core.specs.Heard.{GroveRuns, DocumentRuns, HearsWhere};
+ghost use Rattle.domcheck_core.specs.Replies.{form_of, status_of, HeardIn};
 
 use crate::calls::{Call, read_call};
 use crate::document::read_document;
 use crate::file::read_file;
+use crate::forms::RunForm;
 use crate::groves::fit_heap;
 use crate::replies::{Reply, answered, reported};
 use crate::status::Status;
+use crate::traces::{trace_heap, traced_reply};
+use crate::watches::watched_reply;
 use dom_terms::{OutOfMemory, ProgVar, Text, Texts, Values};
 use fault_report::{Report, ended_text};
 use heap_runner::{HeapOutcome, run_heap};
 use logic_text::RawGrove;
 use node_heap::NodeHeap;
+use run_trace::Observer;
 use std::alloc::Global;
 use theory_syntax::Theory;
 
@@ -88,8 +97,8 @@ fn ended(
     Ok(Reply { status, output })
 }
 
-// The answer of an outcome of a run that left this heap.
-fn outcome_reply(
+/// The answer of an outcome of a run that left this heap.
+pub fn outcome_reply(
     alloc: Global,
     results: &[ProgVar],
     outcome: HeapOutcome,
@@ -120,6 +129,93 @@ fn outcome_reply(
     }
 }
 
+// The answer of a call on a heap.
+fn plain_reply(
+    alloc: Global,
+    theory: &Theory,
+    call: Call,
+    heap: NodeHeap,
+    fuel: u32,
+) -> Result<Reply, OutOfMemory>
+    requires { FitsCall theory.now call }
+    ensures { (p : Procedure) → slice_get theory.now.procedures call.procedure ≡ Some p
+        → (document : Trees) → SameAt grove document heap.grove
+        → IfOk result (λ r. outcome_answer (procedure_of p).results
+        (outcome_on (theory_of theory.now) (procedure_of p) (map value_seen call.values) fuel
+        document) ≡ Some (r.status, r.output)) }
+{
+    let mut heap = heap;
+    let Call { procedure, values } = call;
+    let Some(called) = theory.procedures.get(procedure) else {
+        unreachable!();
+    };
+    let outcome = run_heap(alloc, theory, procedure, &mut heap, values, fuel);
+    outcome_reply(alloc, called.results.as_slice(), outcome, &heap)
+}
+
+// The answer of a call on a heap, whose changes the observers are told.
+fn told_reply(
+    alloc: Global,
+    theory: &Theory,
+    call: Call,
+    heap: NodeHeap,
+    fuel: u32,
+    observers: &mut Vec<Box<dyn Observer>>,
+) -> Result<Reply, OutOfMemory>
+    requires { FitsCall theory.now call }
+    ensures answer { (p : Procedure) → slice_get theory.now.procedures call.procedure ≡ Some p
+        → (document : Trees) → SameAt grove document heap.grove
+        → IfOk result (λ r. traced_answer (listeners_of face after says observers.old.items)
+        (changes_on (theory_of theory.now) (procedure_of p) (map value_seen call.values) document)
+        (procedure_of p).results
+        (outcome_on (theory_of theory.now) (procedure_of p) (map value_seen call.values) fuel
+        document) ≡ Some (r.status, r.output)) }
+    ensures heard { (p : Procedure) → slice_get theory.now.procedures call.procedure ≡ Some p
+        → (document : Trees) → SameAt grove document heap.grove → refusal document ≡ None
+        → HearsWhere
+        (GroveRuns (theory_of theory.now) (procedure_of p) (map value_seen call.values) document)
+        fuel (status_of result) (listeners_of face after says observers.old.items)
+        (listeners_of face after says observers.new.items) }
+{
+    let mut heap = heap;
+    let Call { procedure, values } = call;
+    let Some(called) = theory.procedures.get(procedure) else {
+        unreachable!();
+    };
+    let traced = trace_heap(alloc, theory, procedure, &mut heap, values, fuel, observers);
+    traced_reply(alloc, called.results.as_slice(), traced, &heap, observers)
+}
+
+// The answer of a call on a heap, in each form.
+fn heap_reply(
+    alloc: Global,
+    theory: &Theory,
+    call: Call,
+    heap: NodeHeap,
+    fuel: u32,
+    form: RunForm,
+    observers: &mut Vec<Box<dyn Observer>>,
+) -> Result<Reply, OutOfMemory>
+    requires { FitsCall theory.now call }
+    ensures answer { (p : Procedure) → slice_get theory.now.procedures call.procedure ≡ Some p
+        → (document : Trees) → SameAt grove document heap.grove → refusal document ≡ None
+        → IfOk result (λ r. grove_answer (form_of form)
+        (listeners_of face after says observers.old.items) (theory_of theory.now) (procedure_of p)
+        (map value_seen call.values) fuel document ≡ Some (r.status, r.output)) }
+    ensures heard { (p : Procedure) → slice_get theory.now.procedures call.procedure ≡ Some p
+        → (document : Trees) → SameAt grove document heap.grove → refusal document ≡ None
+        → HeardIn (form_of form)
+        (GroveRuns (theory_of theory.now) (procedure_of p) (map value_seen call.values) document)
+        fuel (status_of result) (listeners_of face after says observers.old.items)
+        (listeners_of face after says observers.new.items) }
+{
+    match form {
+        RunForm::OnlyOutcome => plain_reply(alloc, theory, call, heap, fuel),
+        RunForm::WithChanges => told_reply(alloc, theory, call, heap, fuel, observers),
+        RunForm::WithVerdicts => watched_reply(alloc, theory, call, heap, fuel),
+    }
+}
+
 // The answer of a run on the grove that a document spells.
 fn run_on(
     alloc: Global,
@@ -127,21 +223,22 @@ fn run_on(
     call: Call,
     raw: &RawGrove,
     fuel: u32,
+    form: RunForm,
+    observers: &mut Vec<Box<dyn Observer>>,
 ) -> Result<Reply, OutOfMemory>
     requires { FitsCall theory.now call }
-    ensures { (p : Procedure) → slice_get theory.now.procedures call.procedure ≡ Some p
-        → IfOk result (λ r. grove_answer (theory_of theory.now) (procedure_of p)
+    ensures answer { (p : Procedure) → slice_get theory.now.procedures call.procedure ≡ Some p
+        → IfOk result (λ r. grove_answer (form_of form)
+        (listeners_of face after says observers.old.items) (theory_of theory.now) (procedure_of p)
         (map value_seen call.values) fuel (raw_forest_of raw.now) ≡ Some (r.status, r.output)) }
+    ensures heard { (p : Procedure) → slice_get theory.now.procedures call.procedure ≡ Some p
+        → HeardIn (form_of form) (GroveRuns (theory_of theory.now) (procedure_of p)
+        (map value_seen call.values) (raw_forest_of raw.now)) fuel (status_of result)
+        (listeners_of face after says observers.old.items)
+        (listeners_of face after says observers.new.items) }
 {
     match fit_heap(alloc, raw) {
-        Ok(mut heap) => {
-            let Call { procedure, values } = call;
-            let Some(called) = theory.procedures.get(procedure) else {
-                unreachable!();
-            };
-            let outcome = run_heap(alloc, theory, procedure, &mut heap, values, fuel);
-            outcome_reply(alloc, called.results.as_slice(), outcome, &heap)
-        }
+        Ok(heap) => heap_reply(alloc, theory, call, heap, fuel, form, observers),
         Err(why) => answered(alloc, why),
     }
 }
@@ -153,12 +250,21 @@ pub fn run_document(
     call: Call,
     document: &[u8],
     fuel: u32,
+    form: RunForm,
+    observers: &mut Vec<Box<dyn Observer>>,
 ) -> Result<Reply, OutOfMemory>
     requires { FitsCall theory.now call }
-    ensures { IfOk result (λ r. CallAnswer theory.now call fuel document.now r.status r.output) }
+    ensures answer { IfOk result (λ r. CallAnswer (grove_answer (form_of form)
+        (listeners_of face after says observers.old.items)) theory.now call fuel document.now
+        r.status r.output) }
+    ensures heard { (p : Procedure) → slice_get theory.now.procedures call.procedure ≡ Some p
+        → HeardIn (form_of form) (DocumentRuns (theory_of theory.now) (procedure_of p)
+        (map value_seen call.values) document.now) fuel (status_of result)
+        (listeners_of face after says observers.old.items)
+        (listeners_of face after says observers.new.items) }
 {
     match read_document(alloc, document) {
-        Ok(raw) => run_on(alloc, theory, call, &raw, fuel),
+        Ok(raw) => run_on(alloc, theory, call, &raw, fuel, form, observers),
         Err(why) => answered(alloc, why),
     }
 }
@@ -173,14 +279,19 @@ pub fn run_bytes(
     fuel: u32,
     arguments: &Texts,
 ) -> Result<Reply, OutOfMemory>
-    ensures answer { IfOk result (λ r. RunAnswer (Some document.now) file.now procedure.now fuel
-        arguments.now r.status r.output) }
+    ensures answer { IfOk result (λ r. RunAnswer (grove_answer only_outcome []) (Some document.now)
+        file.now procedure.now fuel arguments.now r.status r.output) }
     ensures exactly { (s : Status) (output : List ℕ)
-        → RunAnswer (Some document.now) file.now procedure.now fuel arguments.now s output
+        → RunAnswer (grove_answer only_outcome []) (Some document.now) file.now procedure.now fuel
+        arguments.now s output
         → IfOk result (λ r. (r.status ≡ s) × (r.output ≡ output)) }
 {
     match open_file(alloc, file, procedure, arguments)? {
-        Opened::Called(theory, call) => run_document(alloc, &theory, call, document, fuel),
+        Opened::Called(theory, call) => {
+            let mut nobody: Vec<Box<dyn Observer>> = Vec::new(alloc);
+            let form = RunForm::OnlyOutcome;
+            run_document(alloc, &theory, call, document, fuel, form, &mut nobody)
+        }
         Opened::Answered(reply) => Ok(reply),
     }
 }

@@ -39,6 +39,9 @@ pub enum Status {
     /// The procedure whose weakest precondition is asked for doesn't speak of groves, or its body
     /// isn't straight-line.
     NotStraight,
+    /// The procedure that is watched doesn't speak of groves, or its requires or its ensures can't
+    /// be judged by going over the nodes that are there.
+    NotWatchable,
 }
 
 impl Status {
@@ -61,6 +64,7 @@ impl Status {
             Status::ReadFault => 11,
             Status::WriteFault => 12,
             Status::NotStraight => 13,
+            Status::NotWatchable => 14,
         }
     }
 }

@@ -39,6 +39,10 @@ pub data Report : Type 0 where
   -- a procedure of another sort than that of groves, and a command that isn't straight-line
   not_straight_sort : Report
   not_straight : Command → Report
+  -- the same of a procedure that is watched, and the first part of its requires, or of its ensures,
+  -- that can't be judged
+  not_watchable_sort : Report
+  not_watchable_requires not_watchable_ensures : ℕ → Report
 
 -- the report
 abbrev pub report_of : program.Report → Report
@@ -58,3 +62,6 @@ report_of (r.Limit kind) = limit (limit_kind_of kind)
 report_of (r.GapLeft step procedure at) = gap_left step procedure at
 report_of r.NotStraightSort = not_straight_sort
 report_of (r.NotStraight command) = not_straight (command_of command)
+report_of r.NotWatchableSort = not_watchable_sort
+report_of (r.NotWatchableRequires part) = not_watchable_requires part
+report_of (r.NotWatchableEnsures part) = not_watchable_ensures part

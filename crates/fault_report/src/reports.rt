@@ -105,6 +105,18 @@ pub enum Report {
         /// The first command that keeps it from being so.
         command: Command,
     },
+    /// The procedure that is watched doesn't speak of groves.
+    NotWatchableSort,
+    /// Its requires can't be judged on a grove.
+    NotWatchableRequires {
+        /// The first part that can't, counted from 0.
+        part: u32,
+    },
+    /// Its ensures can't be judged on a grove.
+    NotWatchableEnsures {
+        /// The first part that can't, counted from 0.
+        part: u32,
+    },
 }
 
 impl Copied for Report {
@@ -148,6 +160,9 @@ impl Copied for Report {
             } => copy_of_gap(alloc, *step, procedure, *line),
             Self::NotStraightSort => Ok(Self::NotStraightSort),
             Self::NotStraight { command } => copy_of_command(alloc, command),
+            Self::NotWatchableSort => Ok(Self::NotWatchableSort),
+            Self::NotWatchableRequires { part } => Ok(Self::NotWatchableRequires { part: *part }),
+            Self::NotWatchableEnsures { part } => Ok(Self::NotWatchableEnsures { part: *part }),
         }
     }
 }

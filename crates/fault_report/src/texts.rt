@@ -3,6 +3,8 @@ ghost use Rattle.std.specs.Prelude.{◌≡◌, IfOk, string_bytes};
 ghost use Rattle.model_answers.specs.Output.{line, range_line, repeat_line, bad_file_line};
 ghost use Rattle.model_answers.specs.Output.{bad_document_text_line, limit_line, fault_line};
 ghost use Rattle.model_answers.specs.Output.{fail_line, gap_line, no_proof_line, not_straight_line};
+ghost use Rattle.model_answers.specs.Output.{not_watchable_requires_line};
+ghost use Rattle.model_answers.specs.Output.{not_watchable_ensures_line};
 ghost use Rattle.row_patterns.specs.Verdicts.{verdict_in};
 ghost use Rattle.grove_data.specs.UsedNumbers.{numbered_of};
 ghost use Rattle.theory_syntax.specs.Commands.{command_of};
@@ -116,6 +118,20 @@ fn straight_text(alloc: Global, command: &Command) -> Result<String, OutOfMemory
     Ok(text)
 }
 
+// The text of a requires with a part that can't be judged.
+fn requires_text(alloc: Global, part: u32) -> Result<String, AllocError>
+    ensures { IfOk result (λ text. line (string_bytes text) ≡ not_watchable_requires_line part) }
+{
+    format!(in alloc; "not watchable: requires, part {part}")
+}
+
+// The text of an ensures with a part that can't be judged.
+fn ensures_text(alloc: Global, part: u32) -> Result<String, AllocError>
+    ensures { IfOk result (λ text. line (string_bytes text) ≡ not_watchable_ensures_line part) }
+{
+    format!(in alloc; "not watchable: ensures, part {part}")
+}
+
 // The text of a proof that ends in something else.
 fn end_text(alloc: Global, procedure: &str) -> Result<String, AllocError>
     ensures { IfOk result (λ text. line (string_bytes text) ≡ no_proof_line procedure.now) }
@@ -160,6 +176,9 @@ fn report_text(alloc: Global, report: &Report) -> Result<String, OutOfMemory>
         } => { gap_text(alloc, *step, procedure.as_str(), *line)? }
         Report::NotStraightSort => String::from_str(alloc, "not straight-line: sort")?,
         Report::NotStraight { command } => straight_text(alloc, command)?,
+        Report::NotWatchableSort => String::from_str(alloc, "not watchable: sort")?,
+        Report::NotWatchableRequires { part } => requires_text(alloc, *part)?,
+        Report::NotWatchableEnsures { part } => ensures_text(alloc, *part)?,
     };
     Ok(text)
 }

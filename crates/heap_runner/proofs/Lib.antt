@@ -1,6 +1,8 @@
-pub mod Moves
-pub mod Results
-pub mod FirstTurns
-pub mod FirstPieces
+pub mod StepLaws
 pub mod SameGroves
 pub mod RunLaws
+pub mod StackLaws
+pub mod OutcomeLaws
+pub mod AdvanceLaws
+pub mod BeginLaws
+pub mod PlacingLaws

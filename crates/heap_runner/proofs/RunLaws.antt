@@ -1,5 +1,5 @@
 -- Runs, step by step, on groves that are the same up to the order of roots.
-use Rattle.std.proofs.Common.{◌≡◌, ◌⊎◌, inl, inr, ℕ, zero, suc, ◌+◌, ◌-◌, ◌<◌, ◌≤◌, Bool, true, false, cond, List, [], ◌∷◌, ◌++◌, Option, Some, None, refl, sym, ap, ◌∙◌, subst, arith, zero-add, Err, length, length-append}
+use Rattle.std.proofs.Common.{◌≡◌, ℕ, zero, suc, ◌+◌, ◌-◌, ◌<◌, ◌≤◌, Bool, true, false, cond, List, [], ◌∷◌, ◌++◌, Some, None, refl, sym, ap, ◌∙◌, subst, arith, zero-add}
 use Rattle.model_shapes.specs.Sorts.{shape, grove}
 use Rattle.model_shapes.specs.Trees.{Trees}
 use Rattle.model_shapes.specs.Shapes.{SameAt, Shaped}
@@ -15,16 +15,12 @@ use Rattle.model_machine.specs.SameMoves.{SameMove}
 use Rattle.model_machine.specs.Fitting.{FitPieces, FitsConfig}
 use Rattle.model_machine.proofs.Fine.{step-fits}
 use Rattle.model_machine.proofs.SameRuns.{same-move}
-use Rattle.std.proofs.Common as plain
+use Rattle.dom_terms.specs.declared.limits.LimitKind as limits
 use Rattle.dom_terms.specs.Limits.{limit_kind_of}
-use Rattle.dom_meaning.specs.declared.configurations.Pending.{Pending}
-use Rattle.dom_meaning.specs.declared.faults.StepFault.{StepFault}
-use Rattle.dom_meaning.specs.declared.faults.StepFault.TheVariants as f
-use Rattle.dom_meaning.specs.Configs.{piece_of, pieces_in}
-use Rattle.dom_meaning.proofs.PieceLaws.{pieces_in-append}
 use Rattle.heap_runner.specs.Answers.{Leaves, Answers}
 use Rattle.heap_runner.specs.Turns.{limit_here}
-use Rattle.heap_runner.specs.Steps.{SameConfig, Leads, LeavesGrove, Stepped, outcome_of}
+use Rattle.heap_runner.specs.Steps.{SameConfig, Leads}
+use Rattle.heap_runner.specs.declared.outcomes.HeapOutcome.TheVariants as o
 use Rattle.heap_runner.specs.Reached.{Reached}
 use Rattle.heap_runner.proofs.SameGroves.{same-pick, same-limit}
 
@@ -62,17 +58,6 @@ leads_from out at_bad_pick after same leads = absurd leads
 leads_from done (next other) after same leads = absurd same
 leads_from (at_fault kind) (next other) after same leads = absurd same
 leads_from at_bad_pick (next other) after same leads = absurd same
-
-leaves_from : (out other : StepOut) (trees : Trees) → SameOut out other → LeavesGrove other trees
-    → (config : Config) × (out ≡ next config) × SameAt grove config.grove trees
-leaves_from (next config) (next other) trees same leaves =
-    (config, refl, SameAt-trans grove config.grove other.grove trees same.2 leaves)
-leaves_from out done trees same leaves = absurd leaves
-leaves_from out (at_fault kind) trees same leaves = absurd leaves
-leaves_from out at_bad_pick trees same leaves = absurd leaves
-leaves_from done (next other) trees same leaves = absurd same
-leaves_from (at_fault kind) (next other) trees same leaves = absurd same
-leaves_from at_bad_pick (next other) trees same leaves = absurd same
 
 faults_from : (out other : StepOut) (kind : FaultKind) → SameOut out other
     → other ≡ at_fault kind → out ≡ at_fault kind
@@ -234,32 +219,22 @@ module _ (run : ℕ → Outcome) (ps : Procedures) (rs : List ProgVar) (steps : 
       with_fuel fuel (suc (fuel - steps - 1)) (omega arith)
       ∙ comes_to_limit ps rs steps (fuel - steps - 1) there kind (same_limit ∙ limit)
 
-  -- where only the heap took the step
-  pub reached_grove : (trees : Trees) → limit_here here ≡ None
-      → LeavesGrove (step ps here (next_pick here.grove)) trees → Leaves (run (suc steps)) trees
-  reached_grove trees limit leaves =
-      let l = leaves_from (step ps there (next_pick there.grove))
-      (step ps here (next_pick here.grove)) trees same_out leaves in
-      subst (λ z. Leaves z trees)
-      (sym (with_fuel (suc steps) 1 (omega arith)
-      ∙ goes_on ps rs steps 0 there l.0 (same_limit ∙ limit) l.1))
-      (no_fuel ps rs (suc steps) l.0 trees (SameAt-sym grove l.0.grove trees l.2))
-
   -- a step that isn't taken
-  pub reached_refusal : (after : Config) (fault : StepFault) (fuel : ℕ) → steps < fuel
-      → Stepped (limit_here here) (step ps here (next_pick here.grove)) here after (Err fault)
-      → Answers run fuel (outcome_of fault) after.grove
-  reached_refusal after (f.Limit kind) fuel le stepped = (
-    reached_limit fuel (limit_kind_of kind) le stepped.0,
+  pub reached_refusal : (kind : limits.LimitKind) (fuel : ℕ) (trees : Trees) → steps < fuel
+      → limit_here here ≡ Some (limit_kind_of kind) → trees ≡ here.grove
+      → Answers run fuel (o.Limit kind) trees
+  reached_refusal kind fuel trees le limit same = (
+    reached_limit fuel (limit_kind_of kind) le limit,
     steps,
     le,
-    reached_limit (suc steps) (limit_kind_of kind) (omega arith) stepped.0,
-    subst (Leaves (run steps)) (sym stepped.1) reached_leaves,
+    reached_limit (suc steps) (limit_kind_of kind) (omega arith) limit,
+    subst (Leaves (run steps)) (sym same) reached_leaves,
   )
-  reached_refusal after f.OutOfMemory fuel le (inl same) =
-      (steps, omega arith, subst (Leaves (run steps)) (sym same) reached_leaves)
-  reached_refusal after f.OutOfMemory fuel le (inr went) =
-      (suc steps, omega arith, reached_grove after.grove went.0 went.1)
+
+  pub reached_want : (fuel : ℕ) (trees : Trees) → steps ≤ fuel → trees ≡ here.grove
+      → Answers run fuel o.OutOfMemory trees
+  reached_want fuel trees le same =
+      (steps, le, subst (Leaves (run steps)) (sym same) reached_leaves)
 
   -- with all the fuel spent
   pub reached_spent : (here.pending ≡ [] → ⊥) → run steps ≡ spends steps there
@@ -298,12 +273,3 @@ reached_start ps rs here roots same pieces proper whole = record {
       ap (λ n. outcome standard_limits ps rs n 0 (configuration here.pending here.store roots))
       (zero-add fuel);
 }
-
--- where pieces are pending, the machine has some
-pub some_pending : (pending : plain.List Pending) → (pending ≡ [] → ⊥)
-    → pieces_in pending ≡ [] → ⊥
-some_pending [] n e = n refl
-some_pending (x ∷ pending) n e =
-    let none : pieces_in pending ++ piece_of x ∷ [] ≡ [] =
-    sym (pieces_in-append (x ∷ []) pending) ∙ e in
-    absurd (omega (arith, ap length none, length-append (pieces_in pending) (piece_of x ∷ [])))

@@ -56,7 +56,7 @@ module _ (f : Trees → ℕ) (joins : (a b : Trees) → f (beside a b) ≡ max (
       )
 
 module _ (a b : Trees) (same : SameAt grove a b) where
-  same-size : size a ≡ size b
+  pub same-size : size a ≡ size b
   same-size = same-at size size-beside grove a b same
 
   same-node : greatest_node a ≡ greatest_node b

@@ -2,3 +2,9 @@ pub mod Answers
 pub mod Turns
 pub mod Steps
 pub mod Reached
+pub mod Pieces
+pub mod Stacks
+pub mod Effects
+pub mod RunViews
+pub mod Runs
+pub mod Told

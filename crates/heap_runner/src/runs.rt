@@ -1,33 +1,26 @@
 // Runs on a heap within their fuel.
-ghost use Rattle.std.specs.Prelude as plain;
-ghost use Rattle.std.specs.Prelude.{◌≡◌, ◌<◌, ◌≤◌, ◌+◌, ℕ, length, map, slice_get};
-ghost use Rattle.std.specs.Prelude.{Some, IfOk, MatchResult};
-ghost use Rattle.model_commands.specs.Theories.{Procedures, procedures_of};
-ghost use Rattle.model_groves.specs.Picks.{Pick};
+ghost use Rattle.std.specs.Prelude.{◌≡◌, ◌<◌, ◌≤◌, ℕ, length, map, slice_get};
+ghost use Rattle.std.specs.Prelude.{Some};
+ghost use Rattle.model_commands.specs.Theories.{procedures_of};
 ghost use Rattle.model_files.specs.FileFaults.{IsWellFormedTheory};
 ghost use Rattle.model_limits.specs.Limits.{standard_limits};
 ghost use Rattle.model_machine.specs.Machine as model;
 ghost use Rattle.model_machine.specs.Fitting.{ValuesFit, FitsConfig};
 ghost use Rattle.model_machine.specs.Outcomes as outcomes;
-ghost use Rattle.model_machine.specs.Outcomes.{outcome, ends_at, has_fault, first_command};
+ghost use Rattle.model_machine.specs.Outcomes.{outcome, ends_at};
 ghost use Rattle.model_shapes.specs.Trees.{Trees};
-ghost use Rattle.model_shapes.specs.Shapes.{Shaped, SameAt};
-ghost use Rattle.model_shapes.specs.Sorts.{shape};
+ghost use Rattle.model_shapes.specs.Shapes.{SameAt};
 ghost use Rattle.model_shapes.specs.Sorts as sorts;
 ghost use Rattle.dom_terms.specs.Stores.{store_of};
-ghost use Rattle.dom_terms.specs.Terms.{prog_var_of};
 ghost use Rattle.dom_terms.specs.Values.{value_seen};
 ghost use Rattle.theory_syntax.specs.Theories.{procedure_of, theory_of};
-ghost use Rattle.dom_meaning.specs.Configs.{config_of};
-ghost use Rattle.dom_meaning.specs.Faults.{fault_kind_of};
 ghost use Rattle.heap_runner.specs.Answers.{Answers, Leaves};
-ghost use Rattle.heap_runner.specs.Steps.{on_heap, outcome_of};
+ghost use Rattle.heap_runner.specs.RunViews.{config_on};
 ghost use Rattle.heap_runner.specs.Reached.{Reached};
 
+use crate::advancing::{HeapRun, HeapStep};
 use crate::outcomes::HeapOutcome;
-use crate::steps::step_on;
-use dom_meaning::{Config, FaultKind, Pending, StepFault, StepOut, start};
-use dom_terms::{List, OutOfMemory, Store, Values, Vars, value_or_default};
+use dom_terms::Values;
 use node_heap::NodeHeap;
 use std::alloc::Global;
 use theory_syntax::{Procedure, Theory};
@@ -61,124 +54,60 @@ pub fn run_heap(
 {
     // a heap stands for a well-formed grove: so says the call for its size
     let _size = heap.len();
-    match start(alloc, theory, procedure, arguments, List::new(alloc)) {
-        Ok(config) => run_from(alloc, theory, config, heap, fuel),
+    match HeapRun::begin(alloc, theory, procedure, arguments) {
+        Ok(run) => run_from(alloc, theory, run, heap, fuel),
         Err(_) => HeapOutcome::OutOfMemory,
     }
 }
 
-// Runs the configuration with the heap's grove in place of its own.
-fn run_from(
+// Runs on, for at most `fuel` steps.
+fn run_from<'a>(
     alloc: Global,
-    theory: &Theory,
-    config: Config,
+    theory: &'a Theory,
+    mut run: HeapRun<'a>,
     heap: &mut NodeHeap,
     fuel: u32,
 ) -> HeapOutcome
     requires well_formed { IsWellFormedTheory (theory_of theory.now) }
-    requires fits { FitsConfig (procedures_of (theory_of theory.now)) (config_of config) }
-    requires shaped { Shaped (shape sorts.grove) heap.old.grove }
-    ensures { (run : ℕ → outcomes.Outcome)
-        → Reached run (procedures_of (theory_of theory.now)) (map prog_var_of config.results) 0
-        (on_heap config heap.old.grove)
-        → Answers run fuel result heap.new.grove }
+    requires fits { FitsConfig (procedures_of (theory_of theory.now))
+        (config_on run heap.old.grove) }
+    requires steps { run.steps ≡ 0 }
+    ensures { (runs : ℕ → outcomes.Outcome)
+        → Reached runs (procedures_of (theory_of theory.now)) (run.entry).results 0
+        (config_on (run.entry) heap.old.grove)
+        → Answers runs fuel result heap.new.grove }
 {
-    let mut config = config;
     for steps in 0..fuel {
-        match turned(alloc, theory, config, heap, steps) {
-            Ok(next) => config = next,
-            Err(outcome) => return outcome,
+        match run.advance(alloc, theory, heap) {
+            HeapStep::Next { .. } => (),
+            HeapStep::Done { values } => return HeapOutcome::Ended { steps, values },
+            HeapStep::Fault { kind, command } => {
+                return HeapOutcome::Fault {
+                    kind,
+                    steps,
+                    command,
+                };
+            }
+            HeapStep::Limit(kind) => return HeapOutcome::Limit(kind),
+            HeapStep::OutOfMemory => return HeapOutcome::OutOfMemory,
         }
     }
-    if config.pending.is_empty() {
-        return ended(alloc, &config, fuel);
+    if run.is_done() {
+        return ended(alloc, &run, fuel);
     }
     HeapOutcome::Spent { steps: fuel }
 }
 
-// One step of a run: the next configuration, or how the run comes out there.
-fn turned(
-    alloc: Global,
-    theory: &Theory,
-    mut config: Config,
-    heap: &mut NodeHeap,
-    steps: u32,
-) -> Result<Config, HeapOutcome>
-    requires well_formed { IsWellFormedTheory (theory_of theory.now) }
-    requires fits { FitsConfig (procedures_of (theory_of theory.now)) (config_of config) }
-    requires shaped { Shaped (shape sorts.grove) heap.old.grove }
-    ensures outcome { let procedures = procedures_of (theory_of theory.now) in
-        let results = map prog_var_of config.results in
-        (run : ℕ → outcomes.Outcome)
-        → Reached run procedures results steps (on_heap config heap.old.grove)
-        → MatchResult result
-        (λ next. Reached run procedures results (steps + 1) (on_heap next heap.new.grove))
-        (λ came_out. (fuel : ℕ) → steps < fuel → Answers run fuel came_out heap.new.grove) }
-    ensures next { IfOk result
-        (λ next. FitsConfig (procedures_of (theory_of theory.now)) (config_of next)) }
-    ensures results { IfOk result (λ next. next.results ≡ config.results) }
-{
-    match step_on(alloc, theory, &mut config, heap) {
-        Ok(StepOut::Next) => Ok(config),
-        Ok(StepOut::Done) => Err(ended(alloc, &config, steps)),
-        Ok(StepOut::Fault(kind)) => Err(faulted(config, kind, steps)),
-        Ok(StepOut::BadPick) => unreachable!(),
-        Err(fault) => Err(refused(fault)),
-    }
-}
-
-// How a run comes out where a step isn't taken.
-fn refused(fault: StepFault) -> HeapOutcome
-    ensures { result ≡ outcome_of fault }
-{
-    match fault {
-        StepFault::Limit(kind) => HeapOutcome::Limit(kind),
-        StepFault::OutOfMemory => HeapOutcome::OutOfMemory,
-    }
-}
-
 // The end of a run.
-fn ended(alloc: Global, config: &Config, steps: u32) -> HeapOutcome
-    ensures { (run : ℕ → outcomes.Outcome) (fuel : ℕ) (left : model.Config) (trees : Trees)
-        → left.store ≡ store_of config.now.store → steps ≤ fuel
-        → run fuel ≡ ends_at (map prog_var_of config.now.results) steps left
-        → Leaves (run steps) trees → SameAt sorts.grove trees left.grove
-        → Answers run fuel result trees }
+fn ended(alloc: Global, run: &HeapRun, steps: u32) -> HeapOutcome
+    ensures { (runs : ℕ → outcomes.Outcome) (fuel : ℕ) (left : model.Config) (trees : Trees)
+        → left.store ≡ store_of run.now.store → steps ≤ fuel
+        → runs fuel ≡ ends_at run.now.results steps left
+        → Leaves (runs steps) trees → SameAt sorts.grove trees left.grove
+        → Answers runs fuel result trees }
 {
-    match values_of(alloc, &config.results, &config.store) {
+    match run.values(alloc) {
         Ok(values) => HeapOutcome::Ended { steps, values },
         Err(_) => HeapOutcome::OutOfMemory,
-    }
-}
-
-// The values of the variables, in order.
-fn values_of(alloc: Global, variables: &Vars, store: &Store) -> Result<Values, OutOfMemory>
-    ensures { IfOk result (λ values. map value_seen values
-        ≡ outcomes.values_in (map prog_var_of variables.now) (store_of store.now)) }
-{
-    let mut values = List::new(alloc);
-    for variable in variables.as_slice() {
-        values.push(value_or_default(alloc, variable, store)?)?;
-    }
-    Ok(values)
-}
-
-// The fault of the first piece, which is a command: no other piece faults.
-fn faulted(mut config: Config, kind: FaultKind, steps: u32) -> HeapOutcome
-    requires { (procedures : Procedures) × (pick : Pick) × (trees : Trees)
-        × (model.step procedures (on_heap config trees) pick
-        ≡ model.at_fault (fault_kind_of kind)) }
-    ensures { (run : ℕ → outcomes.Outcome) (fuel : ℕ) (trees : Trees)
-        → run fuel ≡ has_fault (fault_kind_of kind) steps
-        (first_command (on_heap config trees).pending)
-        → Leaves (run steps) trees → Answers run fuel result trees }
-{
-    match config.pending.pop() {
-        Some(Pending::Run(command)) => HeapOutcome::Fault {
-            kind,
-            steps,
-            command,
-        },
-        _ => unreachable!(),
     }
 }

@@ -1,5 +1,5 @@
 -- The lines that the program prints, byte by byte. Each ends with one newline.
-use Rattle.std.specs.Prelude.{ℕ, cond, List, [], ◌∷◌, ◌++◌, length, map, codes}
+use Rattle.std.specs.Prelude.{ℕ, zero, suc, Bool, true, false, cond, List, [], ◌∷◌, ◌++◌, length, map, codes}
 use Rattle.std.specs.Fmt.{decimal, signed_decimal}
 use Rattle.model_shapes.specs.Trees.{Trees}
 use Rattle.model_shapes.specs.Values.{Value, null, nolist, node_number, list_number, int, str, boolean}
@@ -8,6 +8,7 @@ use Rattle.model_terms.specs.Stores.{ProgVar, named}
 use Rattle.model_formulas.specs.Formulas.{Named}
 use Rattle.model_commands.specs.Commands.{Command}
 use Rattle.model_commands.specs.Theories.{Theory}
+use Rattle.model_machine.specs.Changes.{Change, created, moved, removed}
 use Rattle.model_machine.specs.Machine.{FaultKind, no_node, no_list, cycle, not_child, self_ref}
 use Rattle.model_limits.specs.Limits.{LimitKind, file_limit, nesting_limit, text_limit, variables_limit, steps_limit, nodes_limit, identifier_limit, number_limit, depth_limit, straight_limit, watch_limit}
 use Rattle.model_text.specs.Tokens.{newline}
@@ -24,6 +25,11 @@ use Rattle.model_grammar.specs.TheoryWriting.{logic_line, formula_lexemes, text_
 -- a text with the newline that ends it
 abbrev pub line : List ℕ → List ℕ
 line text = text ++ newline ∷ []
+
+-- a line for each text
+abbrev pub lines_of : List (List ℕ) → List ℕ
+lines_of [] = []
+lines_of (text ∷ texts) = line text ++ lines_of texts
 
 -- `accepted: P procedures, N steps`
 abbrev pub accepted_text : ℕ → ℕ → List ℕ
@@ -178,6 +184,47 @@ ended_with steps results values text =
 abbrev pub ended_lines : ℕ → List ProgVar → List Value → Trees → List ℕ
 ended_lines steps results values grove =
     ended_with steps results values (grove_text (sorted_roots grove))
+
+-- what a change says of parents, with `root` where there is none, and of the child before which the
+-- node goes, where there is one
+abbrev pub parent_text : ℕ → List ℕ
+parent_text zero = codes "root"
+parent_text (suc n) = codes "#" ++ decimal (suc n)
+
+abbrev pub before_text : ℕ → List ℕ
+before_text zero = []
+before_text (suc n) = codes " before #" ++ decimal (suc n)
+
+-- `K created #N %L`, `K moved #N from #A to #B before #C`, `K removed #N from #A`
+abbrev pub change_text : Change → List ℕ
+change_text (created step node list) =
+    decimal step ++ (codes " created #" ++ (decimal node ++ (codes " %" ++ decimal list)))
+change_text (moved step node from to before) =
+    decimal step ++ (codes " moved #" ++ (decimal node ++ (codes " from " ++ (parent_text from
+    ++ (codes " to #" ++ (decimal to ++ before_text before))))))
+change_text (removed step node from) =
+    decimal step ++ (codes " removed #" ++ (decimal node ++ (codes " from #" ++ decimal from)))
+
+-- `requires yes`, `requires no`, `ensures yes`, `ensures no`
+abbrev pub requires_line : Bool → List ℕ
+requires_line true = line (codes "requires yes")
+requires_line false = line (codes "requires no")
+
+abbrev pub ensures_line : Bool → List ℕ
+ensures_line true = line (codes "ensures yes")
+ensures_line false = line (codes "ensures no")
+
+-- `not watchable: sort`, of a procedure that doesn't speak of groves;
+-- `not watchable: requires, part K` and `not watchable: ensures, part K`
+abbrev pub not_watchable_sort_line : List ℕ
+not_watchable_sort_line = line (codes "not watchable: sort")
+
+abbrev pub not_watchable_requires_line : ℕ → List ℕ
+not_watchable_requires_line part =
+    line (codes "not watchable: requires, part " ++ decimal part)
+
+abbrev pub not_watchable_ensures_line : ℕ → List ℕ
+not_watchable_ensures_line part = line (codes "not watchable: ensures, part " ++ decimal part)
 
 -- `not straight-line: sort`, of a procedure that doesn't speak of groves, and
 -- `not straight-line: COMMAND`

@@ -1,6 +1,5 @@
--- Needn't be believed: no promise speaks of it. The changes of a run: which of its steps make, move
--- or remove a node, with the numbers that say which. They follow DOM Level 1 Core in what
--- appendChild, removeChild and insertBefore do.
+-- The changes of a run: which of its steps make, move or remove a node, with the numbers that say
+-- which. They follow DOM Level 1 Core in what appendChild, removeChild and insertBefore do.
 use Rattle.std.specs.Prelude.{ℕ, zero, suc, List, [], ◌∷◌, Option, Some, None}
 use Rattle.model_shapes.specs.Values.{Value, node_number}
 use Rattle.model_shapes.specs.Trees.{Trees}

@@ -1,6 +1,5 @@
--- Needn't be believed: the program's promise doesn't speak of it. The limits that a formula passes
--- when it is watched: first those of the values of its terms, in the order of its parts, and then
--- that of its weight. They are the language's own.
+-- The limits that a formula passes when it is watched: first those of the values of its terms, in
+-- the order of its parts, and then that of its weight. They are the language's own.
 use Rattle.std.specs.Prelude.{ℕ, nat_le, List, [], ◌∷◌, ◌++◌, Option}
 use Rattle.std.specs.List.{filter}
 use Rattle.model_limits.specs.FirstOf.{or_else, unless}

@@ -22,3 +22,6 @@ pub mod Texts
 pub mod Leaves
 pub mod Told
 pub mod Inserted
+pub mod DocumentMoves
+pub mod Siblings
+pub mod Numbers

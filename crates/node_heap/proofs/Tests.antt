@@ -26,7 +26,7 @@ before_count n x (y ∷ ys) h = by_test (holds (head_of ys) n) refl (before_coun
         omega (arith, one_here x y (sym w))
     by_test false e k = omega (arith, k (rw e at h))
 
-head_counts : (x : ℕ) (xs : List ℕ) → head_of xs ≡ Some x → 1 ≤ count x xs
+pub head_counts : (x : ℕ) (xs : List ℕ) → head_of xs ≡ Some x → 1 ≤ count x xs
 head_counts x [] h = absurd (cc)
 head_counts x (y ∷ ys) h = let w : y ≡ x = cc in omega (arith, one_here x y (sym w))
 
@@ -64,7 +64,7 @@ module _ (s : Slab Record) (nodes lists : List Pair) (g : Trees) (l : Linking s 
   kid_stands : (p x : ℕ) → 1 ≤ count x (kids_of (rows_of g p)) → IsSome (rows_of g x)
   kid_stands p x h = some_of (rows_of g x) p ((Kin-rows_of g l.once).up p x h)
 
-  in_row : (q : Option ℕ) (x : ℕ) → 1 ≤ count x (row (rows_of g) q) → IsSome (rows_of g x)
+  pub in_row : (q : Option ℕ) (x : ℕ) → 1 ≤ count x (row (rows_of g) q) → IsSome (rows_of g x)
   in_row None x h = absurd (omega (arith, h))
   in_row (Some p) x h = kid_stands p x h
 

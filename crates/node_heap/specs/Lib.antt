@@ -8,3 +8,4 @@ pub mod Ends
 pub mod Drafts
 pub mod Walking
 pub mod Writing
+pub mod Visiting

@@ -1,5 +1,5 @@
 // New nodes.
-ghost use Rattle.std.specs.Prelude.{◌≡◌, ◌+◌, ◌<◌, ◌≤◌, ◌⊎◌, IfOk, OnOk, IfErr};
+ghost use Rattle.std.specs.Prelude.{◌≡◌, ◌+◌, ◌<◌, ◌≤◌, ◌⊎◌, MatchOption, IfOk, OnOk, IfErr};
 ghost use Rattle.model_shapes.specs.Trees.{none, node as node_with, beside};
 ghost use Rattle.model_shapes.specs.Sorts.{grove};
 ghost use Rattle.model_shapes.specs.Shapes.{SameAt};
@@ -37,6 +37,23 @@ impl Copied for NoNumber {
 }
 
 impl NodeHeap {
+    /// The numbers that a run gives to a new node. There are none exactly where one would pass the
+    /// greatest that there is.
+    pub fn next_numbers(&self) -> Option<(u32, u32)>
+        ensures { MatchOption result
+            ((greatest_node self.now.grove ≡ u32.MAX) ⊎ (greatest_list self.now.grove ≡ u32.MAX))
+            (λ pick. (pick_of pick ≡ next_pick self.now.grove)
+            × (greatest_node self.now.grove < u32.MAX)
+            × (greatest_list self.now.grove < u32.MAX)) }
+    {
+        let node = greatest(&self.nodes);
+        let list = greatest(&self.lists);
+        if node == u32::MAX || list == u32::MAX {
+            return None;
+        }
+        Some((node + 1, list + 1))
+    }
+
     /// Adds a root with the name and no children, and takes no memory. Its numbers are those that a
     /// run gives. There are none exactly where one would pass the greatest that there is: the heap
     /// is then as it was.

@@ -8,11 +8,13 @@
 
 mod building;
 mod creating;
+mod document;
 mod heap;
 mod index;
 mod moving;
 mod reading;
 mod records;
+mod visiting;
 mod walking;
 mod writing;
 

@@ -82,7 +82,8 @@ fn fill(alloc: Global, fillers: Vec<Box<dyn Filler>>, tape: &mut Tape) -> Result
     let mut shelf = Shelf::new(alloc);
     shelf.add("same", SAME.as_bytes())?;
     let asked = words_of(alloc, &["fill", "same"])?;
-    Ok(domcheck(alloc, &asked, &mut shelf, tape, fillers))
+    let nobody = &mut Vec::new(alloc);
+    Ok(domcheck(alloc, &asked, &mut shelf, tape, fillers, nobody))
 }
 
 // The steps that are spelled so, as those of a proof.

@@ -38,7 +38,8 @@ fn answer<S: Sink>(
     shelf.add("z", b"0g")?;
     shelf.fail_at(fetch)?;
     let asked = words_of(alloc, words)?;
-    Ok(domcheck(alloc, &asked, &mut shelf, sink, Vec::new(alloc)))
+    let nobody = &mut Vec::new(alloc);
+    Ok(domcheck(alloc, &asked, &mut shelf, sink, Vec::new(alloc), nobody))
 }
 
 // (the words, the fetch call and the put call that fail, the status and what is written)
@@ -99,7 +100,8 @@ fn moved<L: Library, S: Sink>(
     sink: &mut S,
 ) -> Result<Status, Fail> {
     let asked = words_of(alloc, &["run", "move", "move", "tree", "10", "#1", "#4"])?;
-    Ok(domcheck(alloc, &asked, library, sink, Vec::new(alloc)))
+    let nobody = &mut Vec::new(alloc);
+    Ok(domcheck(alloc, &asked, library, sink, Vec::new(alloc), nobody))
 }
 
 // Two pieces are fetched of each book, the second of which is empty.

@@ -5,14 +5,18 @@ use Rattle.model_answers.specs.Words as model
 use Rattle.model_generator.specs.Made.{most_makers}
 use Rattle.request_words.specs.declared.requests.Request.{Request}
 use Rattle.request_words.specs.declared.requests.Request.TheVariants as r
-use Rattle.request_words.specs.declared.requests.WordFault.{WordFault}
-use Rattle.request_words.specs.declared.requests.WordFault.TheVariants as f
+use Rattle.request_words.specs.declared.faults.WordFault.{WordFault}
+use Rattle.request_words.specs.declared.faults.WordFault.TheVariants as f
 
 -- the request
 abbrev pub request_of : Request → model.Request
 request_of (r.Check file) = model.check file
 request_of (r.Run file procedure document fuel arguments) =
-    model.run file procedure document fuel arguments
+    model.run model.only_outcome file procedure document fuel arguments
+request_of (r.Trace file procedure document fuel arguments) =
+    model.run model.with_changes file procedure document fuel arguments
+request_of (r.Watch file procedure document fuel arguments) =
+    model.run model.with_verdicts file procedure document fuel arguments
 request_of (r.Fill file) = model.fill file
 request_of (r.Wp file procedure) = model.wp file procedure
 request_of (r.Make count) = model.make count

@@ -5,7 +5,10 @@
 
 mod arguments;
 mod decimals;
+mod faults;
 mod requests;
+mod run_words;
 
 pub use arguments::read_arguments;
-pub use requests::{MOST_PROCEDURES, Request, WordFault, read_words};
+pub use faults::WordFault;
+pub use requests::{MOST_PROCEDURES, Request, read_words};

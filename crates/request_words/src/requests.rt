@@ -4,12 +4,14 @@ ghost use Rattle.std.specs.Prelude.{IfOk, IfSome, IsErrOf, map, string_bytes};
 ghost use Rattle.std.specs.Option.{option_map};
 ghost use Rattle.model_answers.specs.Words as model;
 ghost use Rattle.model_answers.specs.Words.{file_of, run_of, count_of, wp_of, reading_of};
+ghost use Rattle.model_answers.specs.Words.{only_outcome, with_changes, with_verdicts};
 ghost use Rattle.model_generator.specs.Made.{most_makers};
-ghost use Rattle.request_words.specs.Requests.{Reads, Counts};
-ghost use Rattle.request_words.specs.declared.requests.WordFault.TheVariants.{OutOfMemory};
+ghost use Rattle.request_words.specs.Requests.{Reads, Counts, request_of};
+ghost use Rattle.request_words.specs.RunWords.{asking};
 
 use crate::decimals::decimal;
-use dom_terms::limits::FUEL;
+use crate::faults::WordFault;
+use crate::run_words::RunWords;
 use dom_terms::{Copied, OutOfMemory, Text, Texts};
 use std::alloc::Global;
 
@@ -26,6 +28,32 @@ pub enum Request {
     },
     /// `run FILE PROC DOC FUEL ARG*`
     Run {
+        /// The name of the file.
+        file: Text,
+        /// The name of the procedure.
+        procedure: Text,
+        /// The name of the document.
+        document: Text,
+        /// The most steps.
+        fuel: u32,
+        /// The words of the arguments.
+        arguments: Texts,
+    },
+    /// `trace FILE PROC DOC FUEL ARG*`
+    Trace {
+        /// The name of the file.
+        file: Text,
+        /// The name of the procedure.
+        procedure: Text,
+        /// The name of the document.
+        document: Text,
+        /// The most steps.
+        fuel: u32,
+        /// The words of the arguments.
+        arguments: Texts,
+    },
+    /// `watch FILE PROC DOC FUEL ARG*`
+    Watch {
         /// The name of the file.
         file: Text,
         /// The name of the procedure.
@@ -84,16 +112,28 @@ impl Copied for Request {
                 fuel,
                 arguments,
             } => {
-                let file = file.copy(alloc)?;
-                let procedure = procedure.copy(alloc)?;
-                let document = document.copy(alloc)?;
-                Ok(Self::Run {
-                    file,
-                    procedure,
-                    document,
-                    fuel: *fuel,
-                    arguments: arguments.copy(alloc)?,
-                })
+                let words = RunWords::of(alloc, file, procedure, document, *fuel, arguments)?;
+                Ok(plain(words))
+            }
+            Self::Trace {
+                file,
+                procedure,
+                document,
+                fuel,
+                arguments,
+            } => {
+                let words = RunWords::of(alloc, file, procedure, document, *fuel, arguments)?;
+                Ok(traced(words))
+            }
+            Self::Watch {
+                file,
+                procedure,
+                document,
+                fuel,
+                arguments,
+            } => {
+                let words = RunWords::of(alloc, file, procedure, document, *fuel, arguments)?;
+                Ok(watched(words))
             }
             Self::Fill { file } => {
                 Ok(Self::Fill {
@@ -111,32 +151,43 @@ impl Copied for Request {
     }
 }
 
-/// Why words have no reading.
-#[derive(Clone, Copy, Debug, PartialEq, Eq)]
-pub enum WordFault {
-    /// The words have none of the forms.
-    BadWords,
-    /// Memory ran out.
-    OutOfMemory,
-}
-
-impl From<OutOfMemory> for WordFault {
-    ghost from_gives = { λ _ e. e ≡ OutOfMemory };
-
-    fn from(_e: OutOfMemory) -> WordFault {
-        WordFault::OutOfMemory
-    }
-}
-
-// The words as texts.
-fn texts(alloc: Global, words: &[String]) -> Result<Texts, OutOfMemory>
-    ensures { IfOk result (λ texts. texts ≡ map string_bytes words.now) }
+// The run of which only the outcome is shown.
+fn plain(words: RunWords) -> Request
+    ensures { request_of result ≡ asking only_outcome words }
 {
-    let mut texts = Texts::new(alloc);
-    for word in words {
-        texts.push(Text::from_str(alloc, word.as_str())?)?;
+    Request::Run {
+        file: words.file,
+        procedure: words.procedure,
+        document: words.document,
+        fuel: words.fuel,
+        arguments: words.arguments,
     }
-    Ok(texts)
+}
+
+// The run before and after which the specification is judged.
+fn watched(words: RunWords) -> Request
+    ensures { request_of result ≡ asking with_verdicts words }
+{
+    Request::Watch {
+        file: words.file,
+        procedure: words.procedure,
+        document: words.document,
+        fuel: words.fuel,
+        arguments: words.arguments,
+    }
+}
+
+// The run whose changes are shown.
+fn traced(words: RunWords) -> Request
+    ensures { request_of result ≡ asking with_changes words }
+{
+    Request::Trace {
+        file: words.file,
+        procedure: words.procedure,
+        document: words.document,
+        fuel: words.fuel,
+        arguments: words.arguments,
+    }
 }
 
 // The name of the file behind `check` or `fill`.
@@ -184,22 +235,26 @@ fn read_wp(alloc: Global, words: &[String]) -> Result<Request, WordFault>
 
 // The words behind `run`.
 fn read_run(alloc: Global, words: &[String]) -> Result<Request, WordFault>
-    ensures reading { Reads result (run_of (map string_bytes words.now)) }
+    ensures reading { Reads result (run_of only_outcome (map string_bytes words.now)) }
     ensures counts { IfOk result Counts }
 {
-    let [file, procedure, document, fuel, arguments @ ..] = words else {
-        return Err(WordFault::BadWords);
-    };
-    let Some(fuel) = decimal(fuel.as_str().as_bytes(), u64::from(FUEL)) else {
-        return Err(WordFault::BadWords);
-    };
-    Ok(Request::Run {
-        file: Text::from_str(alloc, file.as_str())?,
-        procedure: Text::from_str(alloc, procedure.as_str())?,
-        document: Text::from_str(alloc, document.as_str())?,
-        fuel: fuel as u32,
-        arguments: texts(alloc, arguments)?,
-    })
+    Ok(plain(RunWords::read(alloc, words)?))
+}
+
+// The words behind `trace`.
+fn read_trace(alloc: Global, words: &[String]) -> Result<Request, WordFault>
+    ensures reading { Reads result (run_of with_changes (map string_bytes words.now)) }
+    ensures counts { IfOk result Counts }
+{
+    Ok(traced(RunWords::read(alloc, words)?))
+}
+
+// The words after `watch`.
+fn read_watch(alloc: Global, words: &[String]) -> Result<Request, WordFault>
+    ensures reading { Reads result (run_of with_verdicts (map string_bytes words.now)) }
+    ensures counts { IfOk result Counts }
+{
+    Ok(watched(RunWords::read(alloc, words)?))
 }
 
 // The number behind `make` or `trial`, or none.
@@ -255,6 +310,8 @@ pub fn read_words(alloc: Global, words: &[String]) -> Result<Request, WordFault>
         "make" => read_make(words),
         "trial" => read_trial(words),
         "wp" => read_wp(alloc, words),
+        "trace" => read_trace(alloc, words),
+        "watch" => read_watch(alloc, words),
         _ => Err(WordFault::BadWords),
     }
 }

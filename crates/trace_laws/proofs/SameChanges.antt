@@ -63,6 +63,9 @@ module _ (a b : Trees) (same : SameAt grove a b) (w : WellFormed a) where
       (omega (arith, width-parental i a, w.nodes_once i))
       (same-after (nodes_where (parental i)) (those-beside (parental i)) a b same))
 
+  pub same-next : next_pick a ≡ next_pick b
+  same-next = λ i. record { node = suc (same-node i); list = suc (same-list i) }
+
   pub same-change : (n : ℕ) (pending : List Piece) (store : Store)
       → change_of n (next_pick a) (configuration pending store a)
       ≡ change_of n (next_pick b) (configuration pending store b)

@@ -1,6 +1,5 @@
--- Needn't be believed: the program's promise doesn't speak of it. The stores in which a procedure's
--- requires and ensures are watched: the parameters with the values of the arguments; and, at the
--- end, the results with their values besides.
+-- The stores in which a procedure's requires and ensures are watched: the parameters with the values
+-- of the arguments; and, at the end, the results with their values besides.
 use Rattle.std.specs.Prelude.{List, ◌∷◌}
 use Rattle.model_shapes.specs.Values.{Value}
 use Rattle.model_terms.specs.Stores.{ProgVar, Store, set}

@@ -2,7 +2,7 @@ use Rattle.std.proofs.Common.{◌∙◌, ap, bytes_eq}
 use Rattle.std.specs.Prelude.{find}
 use Rattle.std.specs.Option.{option_map}
 use Rattle.theory_syntax.specs.declared.theories.Procedure.{Procedure}
-use Rattle.dom_meaning.specs.Plans.{nameless_of}
+use Rattle.dom_meaning.specs.Effects.{nameless_of}
 use Rattle.dom_meaning.proofs.Calls.{found_by_name}
 use Rattle.dom_meaning.proofs.flow.procedure_with.Goals as goal
 

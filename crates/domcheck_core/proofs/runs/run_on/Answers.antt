@@ -1,30 +1,32 @@
-use Rattle.std.proofs.Common.{◌≡◌, ◌∙◌, map, ap}
-use Rattle.std.proofs.lemmas.Option.{same_Some}
-use Rattle.model_commands.specs.Theories.{procedures_of}
-use Rattle.model_limits.specs.Limits.{standard_limits}
-use Rattle.model_machine.specs.Machine.{start}
-use Rattle.model_machine.specs.Outcomes.{outcome}
-use Rattle.dom_terms.specs.Terms.{prog_var_of}
+use Rattle.std.proofs.Common.{◌≡◌, Some, ◌∙◌, sym}
 use Rattle.dom_terms.specs.Values.{value_seen}
+use Rattle.std.proofs.Common as plain
 use Rattle.theory_syntax.specs.Theories.{procedure_of, theory_of}
 use Rattle.logic_text.specs.RawGroves.{raw_forest_of}
-use Rattle.domcheck_core.specs.Answers.{outcome_on}
-use Rattle.domcheck_core.proofs.Outcomes.{came_out, on_grove}
+use Rattle.domcheck_core.specs.Answers.{refusal}
+use Rattle.domcheck_core.specs.Heard.{GroveRuns}
+use Rattle.domcheck_core.specs.Replies.{form_of}
+use Rattle.domcheck_core.proofs.Hearing.{refused_grove, unread_in}
+use Rattle.domcheck_core.proofs.Refusing.{weaker}
 use Rattle.domcheck_core.proofs.runs.run_on.Goals as goal
 
-pub returns-in-Some : goal.returns-in-Some
-returns-in-Some c = λ p e.
-    let here : c.in-Some.called.now ≡ p =
-    same_Some c.in-Some.called.now p (c.in-Some.ensures.item ∙ e) in
+pub returns-in-Ok-clause-answer : goal.returns-in-Ok-clause-answer
+returns-in-Ok-clause-answer g c = λ p e.
+    c.heap_reply.ensures.answer p e (raw_forest_of c.args.raw.now) c.in-Ok.ensures.same
+    c.in-Ok.ensures.passes
+
+pub returns-in-Ok-clause-heard : goal.returns-in-Ok-clause-heard
+returns-in-Ok-clause-heard g c = λ p e.
+    c.heap_reply.ensures.heard p e (raw_forest_of c.args.raw.now) c.in-Ok.ensures.same
+    c.in-Ok.ensures.passes
+
+pub returns-in-Err-clause-heard : goal.returns-in-Err-clause-heard
+returns-in-Err-clause-heard g c = λ p e.
     let theory = theory_of c.args.theory.now in
-    let values = map value_seen c.args.call.values in
+    let values = plain.map value_seen c.args.call.values in
     let document = raw_forest_of c.args.raw.now in
-    let results : map prog_var_of c.as_slice.result.now ≡ (procedure_of p).results =
-    ap (map prog_var_of) c.as_slice.ensures ∙ ap (λ z. (procedure_of z).results) here in
-    on_grove theory (procedure_of p) values c.args.fuel document (λ r. (r.status, r.output))
-    (map prog_var_of c.as_slice.result.now) c.outcome_reply.result c.in-Ok.ensures.passes results
-    (c.outcome_reply.ensures (outcome_on theory (procedure_of p) values c.args.fuel document)
-    (came_out (λ within. outcome standard_limits (procedures_of theory) (procedure_of p).results
-    within 0 (start (procedure_of p) values document)) c.args.fuel c.run_heap-outcome.result
-    c.run_heap-outcome.new.heap.grove
-    (c.run_heap-outcome.ensures p e document c.in-Ok.ensures.same)))
+    unread_in (form_of c.args.form) (GroveRuns theory (procedure_of p) values document)
+    c.args.fuel _ c.in-Err.why c.answered.result
+    (weaker (λ s o. refusal document ≡ Some (s, o)) _ c.in-Err.why
+    (λ s o is. refused_grove theory (procedure_of p) values document s o is) c.in-Err.ensures.told)
+    c.answered.ensures

@@ -1,0 +1,17 @@
+pub mod Walking
+pub mod Saturating
+pub mod TermLimits
+pub mod Meanings
+pub mod Cuts
+pub mod Connected
+pub mod Ready
+pub mod Weighing
+pub mod Single
+pub mod Meeting
+pub mod Counts
+pub mod Breadth
+pub mod Standing
+pub mod Serving
+pub mod Laying
+pub mod Siblings
+pub mod Reading
