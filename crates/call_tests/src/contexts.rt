@@ -13,7 +13,7 @@ use dom_terms::{DataSort, List, OutOfMemory, with};
 use std::alloc::Global;
 use std::test::Fail;
 
-// the hole for a forest behind `<"a"#1[0f]%1>`
+// the hole for a forest after `<"a"#1[0f]%1>`
 fn behind_leaf(alloc: Global) -> Result<Context, OutOfMemory>
     ensures whole { IfOk result (λ outside.
         context_thing outside ≡ node (codes "a") 1 none 1 (hole none)) }
@@ -39,7 +39,7 @@ fn bare_hole(alloc: Global) -> Context
     })
 }
 
-// what stands behind that leaf when the hole takes `<"b"#id[0f]%id>`
+// what stands after that leaf when the hole takes `<"b"#id[0f]%id>`
 fn plugged(alloc: Global, id: u32) -> Result<Piece, PlugFault>
     requires { 0 < id }
 {
@@ -50,7 +50,7 @@ fn plugged(alloc: Global, id: u32) -> Result<Piece, PlugFault>
     answer
 }
 
-// the hole behind the leaf, with a bare hole in its place
+// the hole after the leaf, with a bare hole in its place
 fn composed(alloc: Global) -> Result<Context, PlugFault> {
     let context = behind_leaf(alloc)?;
     let hole = bare_hole(alloc);

@@ -32,7 +32,7 @@ proof end
 proc leaf() returns (b: node) sort g
 requires true ensures true body b := createNode(\"b\") proof end";
 
-// What is printed where it ends: the steps behind the first one, the results and the grove.
+// What is printed where it ends: the steps after the first one, the results and the grove.
 const OUTCOME: &str = "Ended { steps: 24, values: List { items: [Node(1), Node(3), List(1), \
     Str(Text { characters: \"c\" }), Int(3)] }, grove: List { items: [\
     Tree { name: Text { characters: \"a\" }, id: 1, kids: List { items: [\

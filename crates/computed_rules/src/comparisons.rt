@@ -33,7 +33,7 @@ pub(crate) enum Test {
     Equation,
 }
 
-// Puts the comparisons of the formula with the first numbers behind those that were found. What it
+// Puts the comparisons of the formula with the first numbers after those that were found. What it
 // answers are the numbers that are left: none, where the formula or the numbers don't fit.
 pub(crate) fn read<'a>(
     formula: &'a Formula,

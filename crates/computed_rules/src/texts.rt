@@ -32,7 +32,7 @@ enum Piece<'a> {
     Logic(&'a LogicVar),
 }
 
-// what is left of a text: the bytes of a literal, and then the leaves behind it
+// what is left of a text: the bytes of a literal, and then the leaves after it
 #[derive(Clone, Copy)]
 struct Rest<'a> {
     text: &'a [u8],
@@ -93,7 +93,7 @@ fn have_same_pieces(alloc: Global, left: &Term, right: &Term) -> Result<bool, Ou
     Ok(same_pieces(all_of(&leaves), all_of(&others)))
 }
 
-// puts the literals and variables of a text behind those that are there
+// puts the literals and variables of a text after those that are there
 fn add_leaves<'a>(term: &'a Term, leaves: &mut Vec<Leaf<'a>>) -> Result<(), OutOfMemory>
     ensures { OnOk result (flat_map leaf_pieces leaves.new.items
         ≡ flat_map leaf_pieces leaves.old.items ++ pieces_of term.now) }
@@ -134,7 +134,7 @@ fn same_pieces(mut left: Rest, mut right: Rest) -> bool
     next(right).is_none()
 }
 
-// the next piece, and what is left behind it
+// the next piece, and what is left after it
 fn next<'a>(rest: Rest<'a>) -> Option<(Piece<'a>, Rest<'a>)>
     ensures { MatchOption result (pieces_left rest.entry ≡ [])
         (λ found. pieces_left rest.entry ≡ piece_of found.0 ∷ pieces_left found.1) }

@@ -18,7 +18,7 @@ pub(crate) fn copied(alloc: Global, trees: &[Tree]) -> Result<Forest, OutOfMemor
     Ok(forest)
 }
 
-// the trees of the first forest, and behind them those of the second
+// the trees of the first forest, and after them those of the second
 #[tactic(auto, using(crate::proofs::Joined::forest_rules))]
 pub(crate) fn joined(mut left: Forest, mut right: Forest) -> Result<Forest, OutOfMemory>
     ensures { IfOk result (λ all. forest_of all ≡ beside (forest_of left) (forest_of right)) }

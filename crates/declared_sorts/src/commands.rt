@@ -70,7 +70,7 @@ impl Sorted for Command {
     }
 }
 
-// Gives a variable that is set, and each variable of the term behind it, the sort of its
+// Gives a variable that is set, and each variable of the term after it, the sort of its
 // declaration, and tells whether each of them is declared, first with the sort that it then has.
 fn set_target(x: &mut ProgVar, term: &mut Term, declared: &Declared) -> bool
     requires { Knows declared.now }
@@ -147,7 +147,7 @@ fn set_block(block: &mut Block, declared: &Declared) -> bool
     set_commands(block.as_mut_slice(), declared)
 }
 
-// The same, where the commands are lent one behind the other.
+// The same, where the commands are lent one after the other.
 #[cycle(sorting)]
 fn set_commands(commands: &mut [Command], declared: &Declared) -> bool
     requires { Knows declared.now }

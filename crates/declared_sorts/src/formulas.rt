@@ -28,7 +28,7 @@ use formula_syntax::{Formula, fits, giving};
 pub struct ToldFormula {
     /// Each variable in it is declared, first with the sort that it has.
     pub is_settled: bool,
-    /// How much of the room is left behind its parts where it may be judged at the sort; 0 where
+    /// How much of the room is left after its parts where it may be judged at the sort; 0 where
     /// that isn't known.
     pub left: u32,
 }
@@ -106,7 +106,7 @@ fn set_parts(formula: &mut Formula, sort: Sort, room: u32, declared: &Declared) 
     }
 }
 
-// The same of two formulas, one behind the other, which are asked and counted too.
+// The same of two formulas, one after the other, which are asked and counted too.
 #[cycle(formula_sorting)]
 #[tactic(auto, using(crate::proofs::JudgedLaws::judged_rules))]
 fn set_two(
@@ -134,7 +134,7 @@ fn set_two(
     told_of(first.is_settled & second.is_settled, second.left)
 }
 
-// The same of a variable and the formula behind it.
+// The same of a variable and the formula after it.
 #[cycle(formula_sorting)]
 fn set_scope(
     variable: &mut LogicVar,

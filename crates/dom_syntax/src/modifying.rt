@@ -55,7 +55,7 @@ fn is_shadowed(over: &Shadows, variable: &ProgVar) -> bool
     }
 }
 
-// Puts the variable behind those that were found, unless it is there or is one of a block around.
+// Puts the variable after those that were found, unless it is there or is one of a block around.
 fn put<'a>(
     alloc: Global,
     variable: &'a ProgVar,

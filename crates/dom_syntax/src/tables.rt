@@ -42,7 +42,7 @@ impl<'a, V: Declared> Table<'a, V> {
         self.first.get(name)
     }
 
-    /// Puts a declaration behind those that are there.
+    /// Puts a declaration after those that are there.
     pub(crate) fn declare(&mut self, name: &'a str, value: V) -> Result<(), OutOfMemory>
         ensures { OnOk result ((ds : List (Declaration V.Seen)) → Declares V.seen self.old ds
             → Declares V.seen self.new (ds ++ (name.now, V.seen value) ∷ [])) }

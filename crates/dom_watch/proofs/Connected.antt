@@ -27,7 +27,8 @@ module _ (all : List Row) (store : Store) (b : Bindings) where
   Said p rows told = (f : Trees) → Shows all rows f → told ≡ truth_of p f
 
   module _ (p q n : Named) (rows : List Row) (told : Bool) (answer : Result Bool OutOfMemory) where
-    pub and_on : n ≡ conjunction p q → told ≡ true → Said p rows told → Tells all store b q rows answer
+    pub and_on : n ≡ conjunction p q → told ≡ true → Said p rows told
+        → Tells all store b q rows answer
         → Tells all store b n rows answer
     and_on is e left right f h =
         subst (λ m. IfOk answer (λ y. y ≡ truth_of m f)) (sym is)
@@ -39,7 +40,8 @@ module _ (all : List Row) (store : Store) (b : Bindings) where
         subst (λ m. false ≡ truth_of m f) (sym is)
         (subst (λ x. false ≡ (x && truth_of q f)) (sym e ∙ left f h) refl)
 
-    pub or_on : n ≡ disjunction p q → told ≡ false → Said p rows told → Tells all store b q rows answer
+    pub or_on : n ≡ disjunction p q → told ≡ false → Said p rows told
+        → Tells all store b q rows answer
         → Tells all store b n rows answer
     or_on is e left right f h =
         subst (λ m. IfOk answer (λ y. y ≡ truth_of m f)) (sym is)

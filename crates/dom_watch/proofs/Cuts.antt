@@ -158,7 +158,8 @@ module _ (all : List Row) where
 
 -- the others of the next root
 next_others : {A : Type 0} (xs : List A) (d : A) (m : ℕ) → suc m < length xs
-    → set (take m xs ++ drop (suc m) xs) m (get_or xs m d) ≡ take (suc m) xs ++ drop (suc (suc m)) xs
+    → set (take m xs ++ drop (suc m) xs) m (get_or xs m d)
+    ≡ take (suc m) xs ++ drop (suc (suc m)) xs
 next_others [] d m h = absurd (omega (arith, h))
 next_others (x ∷ []) d m h = absurd (omega (arith, h))
 next_others (x ∷ y ∷ xs) d zero h = refl

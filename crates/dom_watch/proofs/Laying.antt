@@ -22,7 +22,8 @@ use Rattle.dom_watch.proofs.Breadth.{Visited, roots_visited, kids_visited, visit
 use Rattle.dom_watch.proofs.Standing.{grove_stands, shown, among_take}
 use Rattle.dom_watch.proofs.Serving.{rows_serve}
 
--- THE CHILDREN of a number while their rows come to the end: those that are there, and those to come
+-- THE CHILDREN of a number while their rows come to the end: those that are there, and those to
+-- come
 pub record Following (g : Trees) (n : ℕ) (old rows : List Row) (child : Option ℕ) : Type 0 where
   pub more : List Row
   pub left : List ℕ

@@ -97,7 +97,8 @@ told_meaning bindings store v.NullList n h = refl
 told_meaning bindings store (v.Int z) n h = refl
 told_meaning bindings store (v.Str s) n h = refl
 told_meaning bindings store (v.Bool b) n h = refl
-told_meaning bindings store (v.Prog x) n h = plain_meaning bindings store h.0 (term_of (v.Prog x)) h.1
+told_meaning bindings store (v.Prog x) n h =
+    plain_meaning bindings store h.0 (term_of (v.Prog x)) h.1
 told_meaning bindings store (v.Logic x) n h = absurd (n x refl)
 told_meaning bindings store (v.Add' p a q b) n h =
     plain_meaning bindings store h.0 (term_of (v.Add' p a q b)) h.1

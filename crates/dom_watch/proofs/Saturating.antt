@@ -43,7 +43,8 @@ product_at_most a b = product_stops a b most (lit≤ tt)
 pub one_more : (a : ℕ) → min (min a most + 1) most ≡ min (1 + a) most
 one_more a = omega arith
 
-pub two_more : (a b : ℕ) → min (min (min a most + min b most) most + 1) most ≡ min (1 + (a + b)) most
+pub two_more : (a b : ℕ) → min (min (min a most + min b most) most + 1) most
+    ≡ min (1 + (a + b)) most
 two_more a b = omega arith
 
 pub times_one : (n a : ℕ) → min (min (n + 1) most * min (min a most + 1) most) most

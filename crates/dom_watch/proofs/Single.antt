@@ -53,7 +53,8 @@ module _ (all : List Row) (store : Store) (b : Bindings) where
           && (same_thing (val (node_number (sym h.1 j))) (meaning_of (environment b store) number)
           && (same_thing (val (list_number (sym h.2 j))) (meaning_of (environment b store) list)
           && truth_of all store b p k)))
-          ∙ sym (together (same_thing (val (str x.name.now)) (meaning_of (environment b store) name))
+          ∙ sym (together (same_thing (val (str x.name.now))
+          (meaning_of (environment b store) name))
           (same_thing (val (node_number x.number)) (meaning_of (environment b store) number))
           (same_thing (val (list_number x.list)) (meaning_of (environment b store) list))
           (truth_of all store b p k)),

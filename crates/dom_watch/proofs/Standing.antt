@@ -16,7 +16,8 @@ use Rattle.dom_watch.specs.Tables.{numbers_of, StandsIn, IsLaid}
 abbrev pub StandIn : Trees → Trees → Type 0
 StandIn g none = Unit {0}
 StandIn g (node s i k l rest) =
-    (p : Option ℕ) × (rows_of g i ≡ Some (record { name = s; list = l; parent = p; kids = roots k }))
+    (p : Option ℕ)
+    × (rows_of g i ≡ Some (record { name = s; list = l; parent = p; kids = roots k }))
     × StandIn g k × StandIn g rest
 StandIn g (hole rest) = ⊥
 
@@ -28,7 +29,8 @@ part_stands g q (hole rest) w u h = absurd (omega (arith, w))
 part_stands g q (node s i k l rest) w u h = (
   q,
   sym (h i (omega (arith, one_here i i refl))) ∙ own,
-  part_stands g (Some i) k (omega (arith, w)) (λ n. omega (arith, u n)) (λ n in_kids. inside n in_kids),
+  part_stands g (Some i) k (omega (arith, w)) (λ n. omega (arith, u n))
+      (λ n in_kids. inside n in_kids),
   part_stands g q rest (omega (arith, w)) (λ n. omega (arith, u n)) (λ n in_rest. beyond n in_rest),
 )
   where

@@ -15,7 +15,8 @@ module _ (store : Store) (n : ℕ) (p : Named) where
   abbrev of_terms : Option LimitKind
   of_terms = terms_limit standard_limits store (filter is_plain (terms_by_parts p))
 
-  pub passed : (k : LimitKind) → of_terms ≡ Some k → watching_limit standard_limits store n p ≡ Some k
+  pub passed : (k : LimitKind) → of_terms ≡ Some k
+      → watching_limit standard_limits store n p ≡ Some k
   passed k e = ap (λ o. or_else o (unless (leb (weight n p) 100000000) watch_limit)) e
 
   pub heavy : (w : ℕ) → of_terms ≡ None → w ≡ min (weight n p) (2 ^ 64 - 1) → 100000000 < w

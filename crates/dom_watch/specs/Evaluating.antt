@@ -1,5 +1,5 @@
--- Needn't be believed: the contracts of private functions alone speak of it. Formulas whose terms can
--- be evaluated.
+-- Needn't be believed: the contracts of private functions alone speak of it. Formulas whose terms
+-- can be evaluated.
 use Rattle.std.specs.Prelude.{◌≡◌, true}
 use Rattle.model_shapes.specs.Sorts.{ValueSort}
 use Rattle.model_terms.specs.Terms.{Term}

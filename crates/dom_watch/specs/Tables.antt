@@ -1,5 +1,5 @@
--- Needn't be believed: the contracts of private functions alone speak of it. Tables of all nodes of a
--- grove, and how they are made.
+-- Needn't be believed: the contracts of private functions alone speak of it. Tables of all nodes of
+-- a grove, and how they are made.
 use Rattle.std.specs.Prelude.{◌≡◌, ◌≤◌, ◌+◌, ℕ, List, ◌++◌, Some, length, map, take, slice_range, slice_set, slice_get}
 use Rattle.std.specs.List.{All}
 use Rattle.model_shapes.specs.Trees.{Trees}

@@ -1,5 +1,5 @@
--- Needn't be believed: the contracts of private functions alone speak of it. Walks over the parts of a
--- formula, which are counted as far as 64 bits allow.
+-- Needn't be believed: the contracts of private functions alone speak of it. Walks over the parts of
+-- a formula, which are counted as far as 64 bits allow.
 use Rattle.std.specs.Prelude.{◌≡◌, ◌<◌, ◌+◌, ◌-◌, ◌^◌, ℕ, Bool, not, List, None, Result, Ok, Err, MatchOption, length, min}
 use Rattle.std.specs.List.{position_from}
 use Rattle.dom_watch.specs.declared.faults.WatchFault.{WatchFault}

@@ -1,5 +1,5 @@
--- Needn't be believed: the program's promise doesn't speak of it. What is answered where a formula is
--- watched on a heap.
+-- Needn't be believed: the program's promise doesn't speak of it. What is answered where a
+-- formula is watched on a heap.
 use Rattle.std.specs.Prelude.{◌≡◌, ℕ, Bool, MatchBool, Some, None, Result, Ok, Err}
 use Rattle.model_limits.specs.Limits.{standard_limits}
 use Rattle.model_shapes.specs.Sorts.{shape, grove}
@@ -20,8 +20,8 @@ TellsMet met p store g = (e : Environment)
     → MatchBool met (Meets (nameless p) (with_store (lookup store) e) (shape grove) g)
     (Meets (nameless p) (with_store (lookup store) e) (shape grove) g → ⊥)
 
--- A fault has its cause, the first in this order: a part that can't be watched, then a limit that is
--- passed on a grove of so many nodes. An answer has none. Want of memory is free.
+-- A fault has its cause, the first in this order: a part that can't be watched, then a limit that
+-- is passed on a grove of so many nodes. An answer has none. Want of memory is free.
 abbrev pub Causes : {A : Type 0} → Named → Store → ℕ → Result A WatchFault → Type 0
 Causes p store nodes (Ok met) =
     (first_unwatchable p ≡ None) × (watching_limit standard_limits store nodes p ≡ None)

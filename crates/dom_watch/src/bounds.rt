@@ -51,7 +51,8 @@ pub fn within_bounds(
     Ok(())
 }
 
-// the fault where the part can't be watched; as want of memory where its place has more than 32 bits
+// the fault where the part can't be watched; as want of memory where its place has more than
+// 32 bits
 fn not_watchable(part: u64) -> WatchFault
     ensures { TellsPart part result }
 {

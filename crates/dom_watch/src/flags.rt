@@ -15,8 +15,8 @@ use formula_syntax::{Binders, Formula, Side};
 /// A part of a formula can't be watched.
 #[derive(Clone, Copy, Debug, PartialEq, Eq)]
 pub struct Unwatchable {
-    /// The place of the first such part, counted from 0, a formula before its parts, or the greatest
-    /// number where it is above that.
+    /// The place of the first such part, counted from 0, a formula before its parts, or the
+    /// greatest number where it is above that.
     pub part: u64,
 }
 

@@ -1,5 +1,5 @@
-// The table of all nodes of a grove, in which siblings stand in a row: the roots first, and then for
-// each row in turn those of its children.
+// The table of all nodes of a grove, in which siblings stand in a row: the roots first, and then
+// for each row in turn those of its children.
 ghost use Rattle.std.specs.Prelude.{◌≡◌, ◌<◌, ◌≤◌, ℕ, IfOk, OnOk, vec_len};
 ghost use Rattle.std.specs.List.{All};
 ghost use Rattle.model_shapes.specs.Sorts.{shape, grove};

@@ -1,7 +1,7 @@
 //! The program `domcheck`: hands its words, the current folder, standard output, the assistants and
 //! a counting observer to the top call, and ends with the number of the status. Promises nothing
-//! beyond the contract of `domcheck`, and writes nothing to standard error. Stands on domcheck_core,
-//! step_filler, run_trace and outside_io.
+//! beyond the contract of `domcheck`, and writes nothing to standard error. Stands on
+//! domcheck_core, step_filler, run_trace and outside_io.
 #![tactic(auto)]
 
 use dom_terms::OutOfMemory;

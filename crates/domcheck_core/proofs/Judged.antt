@@ -187,10 +187,12 @@ module _ (voices : List Voice) (listeners : List Listener) (books : Books) where
       let told = needs (t, spells, f, values, e) in
       let there : told.0 ≡ d = cc (same told.0 told.1) in
       is_called t f values told.0 spells e told.1
-      (subst (λ (z : List ℕ). DocumentAnswer on_grove t f values fuel z s output) (sym there) answer)
+      (subst (λ (z : List ℕ). DocumentAnswer on_grove t f values fuel z s output)
+      (sym there) answer)
 
   pub answer : (r : Option Request) (s : Status) (output : List ℕ)
-      → IsReply voices listeners r books s output → IsTold r books → IsAnswer voices listeners books r s output
+      → IsReply voices listeners r books s output → IsTold r books
+      → IsAnswer voices listeners books r s output
   answer None s output a told = a
   answer (Some (make n)) s output a told = a
   answer (Some (trial n)) s output a told = a
@@ -222,12 +224,14 @@ module _ (voices : List Voice) (listeners : List Listener) (books : Books) where
       → Says s before after t other
   same_answer r s output a before after took t other b =
       let told = told_of voices listeners books r t other b in
-      let same = one_answer voices listeners books r s output t other (answer r s output a told) b in
+      let same = one_answer voices listeners books r s output t other (answer r s output a told)
+      b in
       (same.0, subst (λ (z : List ℕ). Took before after z) same.1 took)
 
   -- what the sink took is all of the output of the answer
   pub wrote : (r : Option Request) (s : Status) (output : List ℕ)
-      → IsReply voices listeners r books s output → (before after : Option (List ℕ)) → Took before after output
+      → IsReply voices listeners r books s output → (before after : Option (List ℕ))
+      → Took before after output
       → Wrote voices listeners r books s before after
   wrote r s output a before after took =
       by_status s (reply_speaks voices listeners r books s output a)

@@ -291,7 +291,8 @@ one_on_document on_grove theory f values fuel bytes s t o p (no_document a) (is_
     absurd (not_unread SpellsGrove _ bad_document_text_line bytes s o g e x a)
 one_on_document on_grove theory f values fuel bytes s t o p (is_document g e x y) (no_document b) =
     absurd (not_unread SpellsGrove _ bad_document_text_line bytes t p g e x b)
-one_on_document on_grove theory f values fuel bytes s t o p (is_document g e x y) (is_document h d z w) =
+one_on_document on_grove theory f values fuel bytes s t o p (is_document g e x y)
+    (is_document h d z w) =
     some_pair s t o p (on_grove theory f values fuel g) y
     (ap (on_grove theory f values fuel) (at_most_one (lexemes_of bytes) g h x z) ∙ w)
 
@@ -307,7 +308,8 @@ pub not_both_called : (bytes procedure : List ℕ) (arguments : List (List ℕ))
 not_both_called bytes procedure arguments c n =
     some_none (c.2, c.3) (sym c.4 ∙ one_call bytes procedure arguments c.0 n.0 c.1 n.1 ∙ n.2)
 
-same_document : (on_grove : GroveAnswers) (t u : Theory) (f g : ProcedureOf Named) (values others : List Value) (fuel : ℕ)
+same_document : (on_grove : GroveAnswers) (t u : Theory) (f g : ProcedureOf Named)
+    (values others : List Value) (fuel : ℕ)
     (read reread : List ℕ) (s : Status) (o : List ℕ)
     → t ≡ u → f ≡ g → values ≡ others → read ≡ reread
     → DocumentAnswer on_grove t f values fuel read s o
@@ -326,16 +328,20 @@ one_run on_grove document bytes name fuel words s t o p (not_run a) (not_run b) 
     one_no_file bytes s t o p a b
 one_run on_grove document bytes name fuel words s t o p (not_run a) (not_called m) =
     absurd (not_file bytes s o m.0 m.1 a)
-one_run on_grove document bytes name fuel words s t o p (not_run n) (is_called u f vs read a e r d) =
+one_run on_grove document bytes name fuel words s t o p (not_run n)
+    (is_called u f vs read a e r d) =
     absurd (not_file bytes s o u a n)
 one_run on_grove document bytes name fuel words s t o p (not_called m) (not_run b) =
     absurd (not_file bytes t p m.0 m.1 b)
 one_run on_grove document bytes name fuel words s t o p (not_called m) (not_called n) = (refl, refl)
-one_run on_grove document bytes name fuel words s t o p (not_called m) (is_called u f vs read a e r d) =
+one_run on_grove document bytes name fuel words s t o p (not_called m)
+    (is_called u f vs read a e r d) =
     absurd (not_both_called bytes name words (u, a, f, vs, e) m)
-one_run on_grove document bytes name fuel words s t o p (is_called u f vs read a e r d) (not_run n) =
+one_run on_grove document bytes name fuel words s t o p
+    (is_called u f vs read a e r d) (not_run n) =
     absurd (not_file bytes t p u a n)
-one_run on_grove document bytes name fuel words s t o p (is_called u f vs read a e r d) (not_called m) =
+one_run on_grove document bytes name fuel words s t o p
+    (is_called u f vs read a e r d) (not_called m) =
     absurd (not_both_called bytes name words (u, a, f, vs, e) m)
 one_run on_grove document bytes name fuel words s t o p
     (is_called u f values read a e told d) (is_called v g others reread b h retold c) =

@@ -253,7 +253,8 @@ module _ (form : RunForm) where
       → AllOfCalled (judged_answer before f values o)
   judged_of_called before f values (ends steps results left) =
       first_of IsOfCalled (judging_refusal (after_store f values results) left f.post)
-      (option_map (between before (ensures_line (is_met (after_store f values results) left f.post)))
+      (option_map (between before (ensures_line (is_met (after_store f values results)
+      left f.post)))
       (outcome_answer f.results (ends steps results left)))
       (limit_of_called _) refl
   judged_of_called before f values (has_fault kind steps command) = refl

@@ -62,21 +62,25 @@ module _ (run : ℕ → Outcome) (changes_in : ℕ → List Change) (fuel : ℕ)
       (subst (λ z. outcome_answer results z ≡ Some (s, output)) came (says o came)))))
   surrounded_answer (h.Ended taken values) o came traces heard says other = (
     heard,
-    subst (λ z. traced_answer before changes_in results z ≡ Some (with_trace before told (s, output)))
+    subst (λ z. traced_answer before changes_in results z
+        ≡ Some (with_trace before told (s, output)))
         (sym came.1)
         (surrounds (ends taken (map value_seen values) came.0) taken traces.0 traces.2 traces.3 refl
         (subst (λ z. outcome_answer results z ≡ Some (s, output)) came.1 (says o came))),
   )
   surrounded_answer (h.Fault kind taken command) o came traces heard says other = (
     heard,
-    subst (λ z. traced_answer before changes_in results z ≡ Some (with_trace before told (s, output)))
+    subst (λ z. traced_answer before changes_in results z
+        ≡ Some (with_trace before told (s, output)))
         (sym came)
-        (surrounds (has_fault (fault_kind_of kind) taken (command_of command)) taken traces.0 traces.2 traces.3 refl
+        (surrounds (has_fault (fault_kind_of kind) taken (command_of command)) taken
+        traces.0 traces.2 traces.3 refl
         (subst (λ z. outcome_answer results z ≡ Some (s, output)) came (says o came))),
   )
   surrounded_answer (h.Spent taken) o came traces heard says other = (
     heard,
-    subst (λ z. traced_answer before changes_in results z ≡ Some (with_trace before told (s, output)))
+    subst (λ z. traced_answer before changes_in results z
+        ≡ Some (with_trace before told (s, output)))
         (sym came.1)
         (surrounds (spends taken came.0) taken traces.0 traces.2 traces.3 refl
         (subst (λ z. outcome_answer results z ≡ Some (s, output)) came.1 (says o came))),

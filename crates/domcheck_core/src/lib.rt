@@ -55,11 +55,11 @@ pub use traces::{Traced, trace_heap};
 /// Does what the words after the program's name ask for, and answers how it ended. The forms today
 /// are `check FILE`, `fill FILE`, `wp FILE PROC`, `run FILE PROC DOC FUEL ARG*`,
 /// `trace FILE PROC DOC FUEL ARG*`, `watch FILE PROC DOC FUEL ARG*`, `make N` and `trial N`. The
-/// output is built whole and then written. The fillers are asked in their order for the steps of the
-/// gaps of a file that is filled; nobody trusts them. The observers are told in their order what
-/// each step of a traced run changes, when it is taken. It is made for a program that ends after it:
-/// the memory of the theory of a file that was read is mostly left to the system. `check_bytes`,
-/// `fill_bytes`, `wp_bytes` and `run_bytes` give all back.
+/// output is built whole and then written. The fillers are asked in their order for the steps of
+/// the gaps of a file that is filled; nobody trusts them. The observers are told in their order
+/// what each step of a traced run changes, when it is taken. It is made for a program that ends
+/// after it: the memory of the theory of a file that was read is mostly left to the system.
+/// `check_bytes`, `fill_bytes`, `wp_bytes` and `run_bytes` give all back.
 pub fn domcheck<L: Library, S: Sink>(
     alloc: Global,
     words: &[String],

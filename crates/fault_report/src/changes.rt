@@ -1,41 +1,56 @@
 // The lines of what a run changes.
-ghost use Rattle.std.specs.Prelude.{◌≡◌, IfOk, map, string_bytes};
+ghost use Rattle.std.specs.Prelude.{◌≡◌, ◌++◌, IfOk, OnOk, decimal, map, string_bytes};
 ghost use Rattle.model_answers.specs.Output as output;
 ghost use Rattle.run_trace.specs.Changes.{change_of};
 
 use dom_terms::{OutOfMemory, Text};
+use itoa::Buffer;
 use run_trace::Change;
 use std::alloc::{AllocError, Global};
 
-// What is said of a node's parent before a move.
-fn parent_text(alloc: Global, parent: u32) -> Result<String, AllocError>
-    ensures { IfOk result (λ text. string_bytes text ≡ output.parent_text parent) }
+// Puts a word and the number after it at the end of the text.
+fn push_numbered(text: &mut String, word: &str, number: u32) -> Result<(), AllocError>
+    ensures { OnOk result (string_bytes text.new
+        ≡ string_bytes text.old ++ (word.now ++ decimal number)) }
+{
+    text.push_str(word)?;
+    text.push_str(Buffer::new().format(number))
+}
+
+// Puts what is said of a node's parent before a move at the end of the text.
+fn push_parent(text: &mut String, parent: u32) -> Result<(), AllocError>
+    ensures { OnOk result (string_bytes text.new
+        ≡ string_bytes text.old ++ output.parent_text parent) }
 {
     if parent == 0 {
-        String::from_str(alloc, "root")
+        text.push_str("root")
     } else {
-        format!(in alloc; "#{parent}")
+        push_numbered(text, "#", parent)
     }
 }
 
-// What is said of the child before which a node goes.
-fn before_text(alloc: Global, before: u32) -> Result<String, AllocError>
-    ensures { IfOk result (λ text. string_bytes text ≡ output.before_text before) }
+// Puts what is said of the child before which a node goes at the end of the text.
+fn push_before(text: &mut String, before: u32) -> Result<(), AllocError>
+    ensures { OnOk result (string_bytes text.new
+        ≡ string_bytes text.old ++ output.before_text before) }
 {
     if before == 0 {
-        String::from_str(alloc, "")
+        Ok(())
     } else {
-        format!(in alloc; " before #{before}")
+        push_numbered(text, " before #", before)
     }
 }
 
-// The text of a change.
-fn change_text(alloc: Global, change: &Change) -> Result<String, AllocError>
-    ensures { IfOk result (λ text. string_bytes text ≡ output.change_text (change_of change.now)) }
+// Puts the text of a change at the end of the text.
+fn push_change(text: &mut String, change: &Change) -> Result<(), AllocError>
+    ensures { OnOk result (string_bytes text.new
+        ≡ string_bytes text.old ++ output.change_text (change_of change.now)) }
 {
     match *change {
         Change::Created { step, node, list } => {
-            format!(in alloc; "{step} created #{node} %{list}")
+            push_numbered(text, "", step)?;
+            push_numbered(text, " created #", node)?;
+            push_numbered(text, " %", list)
         }
         Change::Moved {
             step,
@@ -44,22 +59,19 @@ fn change_text(alloc: Global, change: &Change) -> Result<String, AllocError>
             to,
             before,
         } => {
-            let from = parent_text(alloc, from)?;
-            let before = before_text(alloc, before)?;
-            format!(in alloc; "{step} moved #{node} from {from} to #{to}{before}")
+            push_numbered(text, "", step)?;
+            push_numbered(text, " moved #", node)?;
+            text.push_str(" from ")?;
+            push_parent(text, from)?;
+            push_numbered(text, " to #", to)?;
+            push_before(text, before)
         }
         Change::Removed { step, node, from } => {
-            format!(in alloc; "{step} removed #{node} from #{from}")
+            push_numbered(text, "", step)?;
+            push_numbered(text, " removed #", node)?;
+            push_numbered(text, " from #", from)
         }
     }
-}
-
-/// The line of a change, without its newline.
-pub fn change_line(alloc: Global, change: &Change) -> Result<Text, OutOfMemory>
-    ensures { IfOk result (λ text. text ≡ output.change_text (change_of change.now)) }
-{
-    let text = change_text(alloc, change)?;
-    Text::from_str(alloc, text.as_str())
 }
 
 /// The lines of changes, each with its newline.
@@ -67,13 +79,12 @@ pub fn change_lines(alloc: Global, changes: &[Change]) -> Result<Text, OutOfMemo
     ensures { IfOk result (λ text. text
         ≡ output.lines_of (map output.change_text (map change_of changes.now))) }
 {
-    let mut text = Text::new(alloc);
+    let mut text = String::new(alloc);
     let mut rest = changes;
     'changes: while let [change, others @ ..] = rest {
-        let line = change_line(alloc, change)?;
-        text.append(&line)?;
+        push_change(&mut text, change)?;
         text.push('\n')?;
         rest = others;
     }
-    Ok(text)
+    Text::from_str(alloc, text.as_str())
 }

@@ -11,7 +11,7 @@ mod reports;
 mod texts;
 mod values;
 
-pub use changes::{change_line, change_lines};
+pub use changes::change_lines;
 pub use endings::ended_text;
 pub use reports::Report;
 pub use texts::status_line;

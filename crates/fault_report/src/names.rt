@@ -58,7 +58,7 @@ pub fn kind_name(kind: FileKind) -> &'static str
     }
 }
 
-// The name of a side condition, behind the word `side`.
+// The name of a side condition, after the word `side`.
 fn side_text(name: SideName) -> &'static str
     ensures { result.now ≡ codes "side " ++ output.side_name (side_in name) }
 {

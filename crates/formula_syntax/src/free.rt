@@ -43,7 +43,7 @@ pub fn the_list_has_the_free_variables()
     ensures once { (p : Named) → IsDistinct same_var (free_in_order p) }
 {}
 
-// puts the free variables of the formula below the binders behind those that were found
+// puts the free variables of the formula below the binders after those that were found
 #[cycle(add_free)]
 #[tactic(auto, using(crate::proofs::Gathering::step_rules))]
 fn add_free<'a>(
@@ -91,7 +91,7 @@ fn add_free<'a>(
     }
 }
 
-// the same for two formulas, one behind the other
+// the same for two formulas, one after the other
 #[cycle(add_free)]
 #[tactic(auto, using(crate::proofs::Gathering::step_rules))]
 fn add_both<'a>(
@@ -109,7 +109,7 @@ fn add_both<'a>(
     add_free(alloc, right, over, found)
 }
 
-// puts the variables of the term that no binder binds behind those that were found
+// puts the variables of the term that no binder binds after those that were found
 #[tactic(auto, using(crate::proofs::Gathering::step_rules))]
 fn add_term<'a>(
     alloc: Global,
@@ -132,7 +132,7 @@ fn add_term<'a>(
     }
 }
 
-// puts the variable behind those that were found, if no binder binds it and it isn't there yet
+// puts the variable after those that were found, if no binder binds it and it isn't there yet
 #[tactic(auto, using(crate::proofs::Gathering::variable_rules))]
 fn add_variable<'a>(
     alloc: Global,

@@ -79,7 +79,7 @@ fn fault_in(formula: &Formula, sort: Sort, place: u32) -> Result<u32, IllSorted>
     }
 }
 
-// the same for two formulas, one behind the other
+// the same for two formulas, one after the other
 #[cycle(fault_in)]
 #[tactic(auto, using(crate::proofs::Places::place_rules))]
 fn fault_in_two(

@@ -7,7 +7,7 @@ use indexmap::IndexSet;
 use std::alloc::Global;
 use std::hash::Hash;
 
-/// The same rows, each at its place: those of a set differ, so each is put behind those before it.
+/// The same rows, each at its place: those of a set differ, so each is put after those before it.
 pub(crate) fn copy_rows<R: Copy + Eq + Hash>(
     alloc: Global,
     rows: &IndexSet<R>,

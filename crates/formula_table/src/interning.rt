@@ -23,7 +23,7 @@ impl Table {
     ghost use Rattle.formula_table.specs.Interning.{KeepsAll, StandsFor, Ends};
     ghost use Rattle.formula_table.specs.Interning.{leaf, joining, above, about, comparing};
 
-    /// The number of the formula: the one that it has, or a new one, which it gets behind its
+    /// The number of the formula: the one that it has, or a new one, which it gets after its
     /// parts. Where there is no room for a part that is new, those before it stay.
     pub fn intern(&mut self, formula: &Formula) -> Result<FormulaId, TableFault>
         ensures keeps { KeepsAll self.old self.new }

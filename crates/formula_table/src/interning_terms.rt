@@ -19,13 +19,13 @@ use formula_syntax::Binders;
 enum Binding {
     // There is none.
     Free,
-    // It is behind so many others.
+    // It is after so many others.
     Bound(u32),
-    // It is behind more than can be counted.
+    // It is after more than can be counted.
     Far,
 }
 
-// where the binder stands, behind those that were passed
+// where the binder stands, after those that were passed
 #[tactic(auto, using(crate::proofs::Named::name_rules))]
 fn binding_of(variable: &LogicVar, over: &Binders, passed: u32) -> Binding
     ensures free { result ≡ b.Free

@@ -121,7 +121,7 @@ fn is_parent(place: Place, id: u32) -> bool
     }
 }
 
-// the trees, with the child behind them where it is to be put there
+// the trees, with the child after them where it is to be put there
 #[tactic(auto, using(crate::proofs::Walks::root_at_end))]
 fn completed(
     alloc: Global,

@@ -45,7 +45,7 @@ fn greatest_among(forest: &Forest, before: (u32, u32)) -> (u32, u32)
     greatest
 }
 
-// how many nodes may still come behind the tree: none where it has too many
+// how many nodes may still come after the tree: none where it has too many
 #[cycle(left)]
 #[tactic(auto, using(crate::proofs::Counts::size_in_tree))]
 fn left_by_tree(tree: &Tree, most: usize) -> Option<usize>

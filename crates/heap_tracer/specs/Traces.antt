@@ -1,5 +1,5 @@
--- Needn't be believed: the program's promise doesn't speak of it. What is promised of a run on a heap
--- whose changes are told.
+-- Needn't be believed: the program's promise doesn't speak of it. What is promised of a run on a
+-- heap whose changes are told.
 use Rattle.std.specs.Prelude.{◌≡◌, ℕ, suc, ◌≤◌, List, map}
 use Rattle.model_shapes.specs.Trees.{Trees}
 use Rattle.model_terms.specs.Stores.{ProgVar}

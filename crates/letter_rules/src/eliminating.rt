@@ -32,7 +32,7 @@ use triple_rules::Written;
 struct Numbered {
     // the formula before
     pre: u32,
-    // the formula behind
+    // the formula after
     post: u32,
 }
 

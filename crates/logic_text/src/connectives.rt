@@ -114,7 +114,7 @@ fn joint_of(token: Lexeme) -> Option<Connective>
     joining_of(token)
 }
 
-/// A connective; moves behind it.
+/// A connective; moves past it.
 pub fn joint(tokens: &mut Front) -> Result<Connective, ReadFault>
     ensures { Gives (λ found. (connective_of found, lexemes_in tokens.new)) result
         (leaf leaf_connective (lexemes_in tokens.old)) }

@@ -66,7 +66,7 @@ fn lone(alloc: Global, left: Term, tokens: &Front, target: &mut Formula) -> Resu
     }
 }
 
-// What stands behind a quantifier.
+// What stands after a quantifier.
 #[cycle(part)]
 #[tactic(auto, unfolding(crate::specs::FormulaReaders::quantified_at))]
 fn quantified(
@@ -86,7 +86,7 @@ fn quantified(
     Ok(())
 }
 
-// What stands behind an open bracket and a formula, with a connective.
+// What stands after an open bracket and a formula, with a connective.
 #[cycle(part)]
 #[tactic(auto, unfolding(crate::specs::FormulaReaders::joined_at))]
 fn connected(
@@ -106,7 +106,7 @@ fn connected(
     Ok(())
 }
 
-// What stands behind an open bracket, a logic variable and the word for what it meets.
+// What stands after an open bracket, a logic variable and the word for what it meets.
 #[cycle(part)]
 fn met(
     alloc: Global,
@@ -126,7 +126,7 @@ fn met(
     Ok(())
 }
 
-// What stands behind an open bracket and a formula.
+// What stands after an open bracket and a formula.
 #[cycle(part)]
 fn connected_or_is(
     alloc: Global,
@@ -148,7 +148,7 @@ fn connected_or_is(
     connected(alloc, depth, left, tokens, target)
 }
 
-// What stands behind an open bracket and the word for not.
+// What stands after an open bracket and the word for not.
 #[cycle(part)]
 fn negation(
     alloc: Global,
@@ -165,7 +165,7 @@ fn negation(
     Ok(())
 }
 
-// What stands behind an open bracket.
+// What stands after an open bracket.
 #[cycle(part)]
 #[tactic(auto, unfolding(crate::specs::FormulaReaders::bracket_at))]
 #[inline(always)]
@@ -191,7 +191,7 @@ fn bracket(
     connected_or_is(alloc, depth, left, tokens, target)
 }
 
-// What stands behind the name of a node and the sign.
+// What stands after the name of a node and the sign.
 #[cycle(part)]
 #[tactic(auto, unfolding(crate::specs::FormulaReaders::node_at))]
 fn node(
@@ -214,7 +214,7 @@ fn node(
     Ok(())
 }
 
-// What stands behind the first term of a formula.
+// What stands after the first term of a formula.
 #[cycle(part)]
 #[tactic(auto, unfolding(crate::specs::FormulaReaders::compared_at))]
 #[inline(always)]
@@ -264,7 +264,7 @@ fn leaf_formula<'a>(
     compared(alloc, depth, left, tokens, target)
 }
 
-// What stands behind an open angle.
+// What stands after an open angle.
 #[cycle(part)]
 fn tree(
     alloc: Global,
@@ -281,7 +281,7 @@ fn tree(
     Ok(())
 }
 
-// What stands behind an open square bracket.
+// What stands after an open square bracket.
 #[cycle(part)]
 fn root(
     alloc: Global,
@@ -298,7 +298,7 @@ fn root(
     Ok(())
 }
 
-// What stands behind the word for a length.
+// What stands after the word for a length.
 fn length(
     alloc: Global,
     depth: u32,
@@ -427,7 +427,7 @@ fn part(alloc: Global, depth: u32, tokens: &mut Front) -> Result<Box<Formula>, R
     Ok(found)
 }
 
-/// A formula, nested at most so deep; moves behind it.
+/// A formula, nested at most so deep; moves past it.
 pub fn formula(alloc: Global, depth: u32, tokens: &mut Front) -> Result<Formula, ReadFault>
     ensures { Gives (λ found. (formula_of found, lexemes_in tokens.new)) result
         (formula_at depth (lexemes_in tokens.old)) }

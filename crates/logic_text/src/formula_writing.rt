@@ -93,7 +93,7 @@ fn sign(formula: &Formula) -> &'static str
     }
 }
 
-/// Puts two terms at the end with a sign between them, each token behind a space.
+/// Puts two terms at the end with a sign between them, each token after a space.
 #[tactic(auto, using(model_grammar::proofs::Spaced::spaced_rules))]
 pub fn push_compared(
     alloc: Global,
@@ -161,7 +161,7 @@ fn push_joined(
     Ok(())
 }
 
-// Puts a formula at the end in brackets, behind the variable that is bound in it.
+// Puts a formula at the end in brackets, after the variable that is bound in it.
 #[cycle(formula_writing)]
 #[tactic(auto, using(model_grammar::proofs::Spaced::spaced_rules))]
 fn push_quantified(
@@ -233,7 +233,7 @@ fn push_node(
     Ok(())
 }
 
-/// Puts the tokens of the formula at the end, each behind a space.
+/// Puts the tokens of the formula at the end, each after a space.
 #[cycle(formula_writing)]
 pub fn push_formula(alloc: Global, text: &mut Text, formula: &Formula) -> Result<(), OutOfMemory>
     ensures { OnOk result

@@ -14,7 +14,7 @@ use dom_terms::{OutOfMemory, Text};
 use grove_data::{Forest, Grove, Tree};
 use std::alloc::Global;
 
-// What stands behind the backslash that escapes the character in a literal; none where it stands as
+// What stands after the backslash that escapes the character in a literal; none where it stands as
 // it is.
 fn escape_of(character: char) -> Option<char>
     ensures { MatchOption result

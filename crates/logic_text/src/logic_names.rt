@@ -17,7 +17,7 @@ fn logic_name_of(token: Lexeme) -> Option<&str>
     token.logic_name()
 }
 
-/// A logic name; moves behind it.
+/// A logic name; moves past it.
 #[inline(always)]
 pub fn logic_name(alloc: Global, tokens: &mut Front) -> Result<Text, ReadFault>
     ensures { Gives (λ name. (name, lexemes_in tokens.new)) result

@@ -15,7 +15,7 @@ use std::alloc::Global;
 #[derive(Clone, Copy, Debug, PartialEq, Eq)]
 pub enum RangeFault {
     /// A number isn't from 1 to 4,294,967,295. It is the first one in the order of the text, where
-    /// the number of a list stands behind its children.
+    /// the number of a list stands after its children.
     OutOfRange {
         /// Whether it is the number of a node or of a children list.
         kind: IdKind,

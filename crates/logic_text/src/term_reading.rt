@@ -57,7 +57,7 @@ fn leaf_of(alloc: Global, place: Place, first: Lexeme) -> Result<Option<Term>, O
     }
 }
 
-/// A term of one token that is no reserved word and no symbol; moves behind it. The token is
+/// A term of one token that is no reserved word and no symbol; moves past it. The token is
 /// handed over too.
 #[inline(always)]
 pub fn leaf_term<'a>(
@@ -79,7 +79,7 @@ pub fn leaf_term<'a>(
     }
 }
 
-// The number behind a sign, which isn't 0.
+// The number after a sign, which isn't 0.
 fn negative(number: u64) -> Option<i64>
     ensures { option_map (λ i. literal (int i)) result ≡ negated number }
 {
@@ -89,7 +89,7 @@ fn negative(number: u64) -> Option<i64>
     Some(-(number as i64))
 }
 
-// What stands behind the sign of a negative literal.
+// What stands after the sign of a negative literal.
 fn leaf_negative(tokens: &mut Front) -> Result<Term, ReadFault>
     ensures { Gives (λ found. (term_of found, lexemes_in tokens.new)) result
         (leaf leaf_negative (lexemes_in tokens.old)) }
@@ -193,7 +193,7 @@ fn boxed<'a>(
     Ok(found)
 }
 
-// What stands behind an open brace.
+// What stands after an open brace.
 #[cycle(term)]
 #[tactic(auto, unfolding(crate::specs::TermReaders::operation_at))]
 fn operation<'a>(
@@ -212,7 +212,7 @@ fn operation<'a>(
     Ok(operated(operator, left, right))
 }
 
-/// A term at the place, below which is nested at most so deep; moves behind it. The first token is
+/// A term at the place, below which is nested at most so deep; moves past it. The first token is
 /// handed over too.
 #[cycle(term)]
 #[tactic(auto, unfolding(crate::specs::TermReaders::term_at))]
@@ -243,7 +243,7 @@ pub fn is_word_or_symbol(token: Lexeme) -> bool
     token.kind == TokenKind::Symbol || token.kind == TokenKind::Word
 }
 
-/// A term at the place, nested at most so deep; moves behind it.
+/// A term at the place, nested at most so deep; moves past it.
 #[cycle(term)]
 #[tactic(auto, unfolding(crate::specs::TermReaders::term_at, crate::specs::TermReaders::word_at))]
 pub fn term<'a>(

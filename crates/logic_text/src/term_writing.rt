@@ -10,7 +10,7 @@ use crate::tokens::{push_numeral, push_quoted, push_token};
 use dom_terms::{OutOfMemory, Term, Text};
 use std::alloc::Global;
 
-// Puts an integer at the end, with a space behind its sign.
+// Puts an integer at the end, with a space after its sign.
 fn push_integer(alloc: Global, text: &mut Text, number: i64) -> Result<(), OutOfMemory>
     ensures { OnOk result (text.new ≡ text.old ++ spaced (term_lexemes (literal (int number)))) }
 {
@@ -41,7 +41,7 @@ fn push_braced(
     Ok(())
 }
 
-/// Puts the tokens of the term at the end, each behind a space.
+/// Puts the tokens of the term at the end, each after a space.
 #[cycle(term_writing)]
 pub fn push_term(alloc: Global, text: &mut Text, term: &Term) -> Result<(), OutOfMemory>
     ensures { OnOk result (text.new ≡ text.old ++ spaced (term_lexemes (term_of term.now))) }

@@ -1,4 +1,4 @@
-// One token at the end of a text, behind a space.
+// One token at the end of a text, after a space.
 ghost use Rattle.std.specs.Prelude.{◌≡◌, List, [], ◌∷◌, ◌++◌, OnOk, IfOk};
 ghost use Rattle.model_text.specs.Lexemes.{Lexeme, terminal, number_lexeme, literal_lexeme};
 ghost use Rattle.model_grammar.specs.Writing.{spaced, text_of};
@@ -7,7 +7,7 @@ use crate::grove_writing::{push_literal, push_str};
 use dom_terms::{OutOfMemory, Text};
 use std::alloc::Global;
 
-/// Puts a token with these characters at the end, behind a space.
+/// Puts a token with these characters at the end, after a space.
 pub fn push_token(alloc: Global, text: &mut Text, token: &str) -> Result<(), OutOfMemory>
     ensures { OnOk result (text.new ≡ text.old ++ spaced (terminal token.now ∷ [])) }
 {
@@ -15,7 +15,7 @@ pub fn push_token(alloc: Global, text: &mut Text, token: &str) -> Result<(), Out
     push_str(alloc, text, token)
 }
 
-/// Puts the digits of a number at the end, behind a space.
+/// Puts the digits of a number at the end, after a space.
 pub fn push_numeral(alloc: Global, text: &mut Text, number: u64) -> Result<(), OutOfMemory>
     ensures { OnOk result (text.new ≡ text.old ++ spaced (number_lexeme number ∷ [])) }
 {
@@ -23,7 +23,7 @@ pub fn push_numeral(alloc: Global, text: &mut Text, number: u64) -> Result<(), O
     push_token(alloc, text, digits.as_str())
 }
 
-/// Puts the literal that stands for the other text at the end, behind a space.
+/// Puts the literal that stands for the other text at the end, after a space.
 pub fn push_quoted(alloc: Global, text: &mut Text, other: &Text) -> Result<(), OutOfMemory>
     ensures { OnOk result (text.new ≡ text.old ++ spaced (literal_lexeme other.now ∷ [])) }
 {

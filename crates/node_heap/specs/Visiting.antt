@@ -1,5 +1,5 @@
--- Needn't be believed: the program's promise doesn't speak of it. What is told where a grove is gone
--- over by numbers.
+-- Needn't be believed: the program's promise doesn't speak of it. What is told where a grove is
+-- gone over by numbers.
 use Rattle.std.specs.Prelude.{ℕ, ◌<◌, cond, List, [], ◌∷◌}
 use Rattle.std.proofs.Math.Decide.{ℕ_discrete}
 use Rattle.model_shapes.specs.Values.{Value, null}

@@ -21,7 +21,7 @@ pub struct Record {
     pub parent: Option<usize>,
     /// The sibling before it: a root has none.
     pub previous: Option<usize>,
-    /// The sibling behind it: a root has none.
+    /// The sibling after it: a root has none.
     pub next: Option<usize>,
     /// The first child.
     pub first: Option<usize>,

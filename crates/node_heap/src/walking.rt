@@ -1,4 +1,4 @@
-// Walks over the grove of a heap: each node is opened before those below it, and closed behind
+// Walks over the grove of a heap: each node is opened before those below it, and closed after
 // them.
 ghost use Rattle.std.specs.Prelude.{◌≡◌, ◌≤◌, ◌++◌, map, IfOk, OnOk};
 ghost use Rattle.model_shapes.specs.Sorts.{shape, grove};

@@ -208,7 +208,7 @@ fn push_opening(
     push_str(alloc, text, start)
 }
 
-// puts what stands behind the children of a node at the end
+// puts what stands after the children of a node at the end
 fn push_closing(alloc: Global, text: &mut Text, node: &Record) -> Result<(), OutOfMemory>
     ensures { OnOk result (text.new ≡ text.old
         ++ closing_text node.now.list (is_some node.now.parent)) }

@@ -15,7 +15,7 @@ use std::alloc::Global;
 use text_tokens::Front;
 use token_readers::{Gathers, ReadFault, Reader, expect, separated, skip};
 
-/// Items in brackets, with commas between each two; moves behind them.
+/// Items in brackets, with commas between each two; moves past them.
 #[tactic(auto, unfolding(crate::specs::Lists::bracketed_at))]
 pub fn bracketed<T: Drop, R: Reader<T>, L: Gathers<T>>(
     alloc: Global,
@@ -34,7 +34,7 @@ pub fn bracketed<T: Drop, R: Reader<T>, L: Gathers<T>>(
     Ok(found)
 }
 
-/// The variables in brackets; moves behind them.
+/// The variables in brackets; moves past them.
 pub fn variables(alloc: Global, tokens: &mut Front) -> Result<Vars, ReadFault>
     ensures { Gives (λ found. (map prog_var_of found, lexemes_in tokens.new)) result
         (bracketed_at (leaf leaf_variable) u32.MAX (lexemes_in tokens.old)) }
@@ -68,7 +68,7 @@ impl Reader<Term> for TermReader {
     }
 }
 
-/// The terms in brackets; moves behind them.
+/// The terms in brackets; moves past them.
 pub fn terms(
     alloc: Global,
     place: Place,
@@ -81,7 +81,7 @@ pub fn terms(
     bracketed(alloc, &TermReader { place, depth }, tokens)
 }
 
-/// One or more terms with commas between them; moves behind them.
+/// One or more terms with commas between them; moves past them.
 pub fn listed_terms(
     alloc: Global,
     place: Place,

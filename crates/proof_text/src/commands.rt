@@ -41,7 +41,7 @@ fn asked(query: Query, x: ProgVar, argument: Term) -> Command
     }
 }
 
-// A query, behind its word.
+// A query, after its word.
 #[tactic(auto, unfolding(crate::specs::Commands::one_at))]
 #[inline(always)]
 fn one(
@@ -156,7 +156,7 @@ fn other_command(alloc: Global, depth: u32, tokens: &mut Front) -> Result<Comman
     setting(alloc, depth, x, tokens)
 }
 
-// What stands behind the word `call`.
+// What stands after the word `call`.
 #[tactic(auto, unfolding(crate::specs::Commands::call_at))]
 fn called(alloc: Global, depth: u32, tokens: &mut Front) -> Result<Command, ReadFault>
     ensures { Gives (λ found. (command_of found, lexemes_in tokens.new)) result
@@ -188,7 +188,7 @@ fn commands(alloc: Global, depth: u32, tokens: &mut Front) -> Result<Block, Read
     Err(ReadFault::Memory)
 }
 
-// What stands behind the brace of a block.
+// What stands after the brace of a block.
 #[cycle(command)]
 #[tactic(auto, unfolding(crate::specs::Commands::block_rest))]
 fn rest_of_block(alloc: Global, depth: u32, tokens: &mut Front) -> Result<Block, ReadFault>
@@ -209,7 +209,7 @@ fn block(alloc: Global, depth: u32, tokens: &mut Front) -> Result<Block, ReadFau
     rest_of_block(alloc, depth, tokens)
 }
 
-// What stands behind the word `if`.
+// What stands after the word `if`.
 #[cycle(command)]
 #[tactic(auto, unfolding(crate::specs::Commands::choice_at))]
 fn choice(alloc: Global, depth: u32, tokens: &mut Front) -> Result<Command, ReadFault>
@@ -226,7 +226,7 @@ fn choice(alloc: Global, depth: u32, tokens: &mut Front) -> Result<Command, Read
     Ok(Command::If(test, first, second))
 }
 
-// What stands behind the word `while`.
+// What stands after the word `while`.
 #[cycle(command)]
 #[tactic(auto, unfolding(crate::specs::Commands::loop_at))]
 fn repeated(alloc: Global, depth: u32, tokens: &mut Front) -> Result<Command, ReadFault>
@@ -241,7 +241,7 @@ fn repeated(alloc: Global, depth: u32, tokens: &mut Front) -> Result<Command, Re
     Ok(Command::While(test, body))
 }
 
-// What stands behind the word `local`.
+// What stands after the word `local`.
 #[cycle(command)]
 #[tactic(auto, unfolding(crate::specs::Commands::local_at))]
 fn with_local(alloc: Global, depth: u32, tokens: &mut Front) -> Result<Command, ReadFault>
@@ -255,7 +255,7 @@ fn with_local(alloc: Global, depth: u32, tokens: &mut Front) -> Result<Command, 
     Ok(Command::Local(ProgVar { name, sort }, body))
 }
 
-/// A command, nested at most so deep; moves behind it.
+/// A command, nested at most so deep; moves past it.
 #[cycle(command)]
 #[tactic(auto, unfolding(crate::specs::Commands::command_at))]
 pub fn command(alloc: Global, depth: u32, tokens: &mut Front) -> Result<Command, ReadFault>

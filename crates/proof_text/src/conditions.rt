@@ -26,7 +26,7 @@ fn lone(left: Term, tokens: &Front) -> Result<Cond, ReadFault>
     }
 }
 
-// What stands behind the first term of a condition.
+// What stands after the first term of a condition.
 #[tactic(auto, unfolding(crate::specs::Commands::cond_compared_at))]
 fn compared(alloc: Global, depth: u32, left: Term, tokens: &mut Front) -> Result<Cond, ReadFault>
     ensures { Gives (λ found. (cond_of found, lexemes_in tokens.new)) result
@@ -55,7 +55,7 @@ fn boxed(alloc: Global, depth: u32, tokens: &mut Front) -> Result<Box<Cond>, Rea
     Ok(found)
 }
 
-// What stands behind an open bracket and a condition.
+// What stands after an open bracket and a condition.
 #[cycle(condition)]
 #[tactic(auto, unfolding(crate::specs::Commands::cond_joined_at))]
 fn connected(
@@ -81,7 +81,7 @@ fn connected(
     Err(ReadFault::Text(tokens.count()))
 }
 
-// What stands behind an open bracket.
+// What stands after an open bracket.
 #[cycle(condition)]
 #[tactic(auto, unfolding(crate::specs::Commands::cond_bracket_at))]
 fn bracket(alloc: Global, depth: u32, tokens: &mut Front) -> Result<Cond, ReadFault>
@@ -96,7 +96,7 @@ fn bracket(alloc: Global, depth: u32, tokens: &mut Front) -> Result<Cond, ReadFa
     connected(alloc, depth, left, tokens)
 }
 
-/// A condition, nested at most so deep; moves behind it.
+/// A condition, nested at most so deep; moves past it.
 #[cycle(condition)]
 #[tactic(auto, unfolding(crate::specs::Commands::cond_at))]
 pub fn condition(alloc: Global, depth: u32, tokens: &mut Front) -> Result<Cond, ReadFault>

@@ -43,7 +43,7 @@ fn shape_sort_of(token: Lexeme) -> Option<Sort>
     }
 }
 
-/// A sort of shapes or contexts; moves behind it.
+/// A sort of shapes or contexts; moves past it.
 pub fn shape_sort(tokens: &mut Front) -> Result<Sort, ReadFault>
     ensures { Gives (λ found. (sort_of found, lexemes_in tokens.new)) result
         (leaf leaf_shape_sort (lexemes_in tokens.old)) }
@@ -82,7 +82,7 @@ fn sort_of(token: Lexeme) -> Option<Sort>
     }
 }
 
-/// A sort; moves behind it.
+/// A sort; moves past it.
 pub fn any_sort(tokens: &mut Front) -> Result<Sort, ReadFault>
     ensures { Gives (λ found. (sort_of found, lexemes_in tokens.new)) result
         (leaf leaf_sort (lexemes_in tokens.old)) }
@@ -132,7 +132,7 @@ impl Reader<ProgVar> for DeclarationReader {
     }
 }
 
-/// The declarations in brackets; moves behind them.
+/// The declarations in brackets; moves past them.
 pub fn declarations(alloc: Global, tokens: &mut Front) -> Result<Vars, ReadFault>
     ensures { Gives (λ found. (map prog_var_of found, lexemes_in tokens.new)) result
         (bracketed_at declaration_at u32.MAX (lexemes_in tokens.old)) }

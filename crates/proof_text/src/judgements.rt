@@ -16,7 +16,7 @@ use text_tokens::Front;
 use theory_syntax::{Judgement, Triple};
 use token_readers::{ReadFault, followed_by, skip};
 
-// What stands behind the word `pre`.
+// What stands after the word `pre`.
 #[tactic(auto, unfolding(crate::specs::Theories::triple_at))]
 fn triple(alloc: Global, depth: u32, tokens: &mut Front) -> Result<Judgement, ReadFault>
     ensures { Gives (λ found. (judgement_of found, lexemes_in tokens.new)) result
@@ -50,7 +50,7 @@ fn entailment(alloc: Global, depth: u32, tokens: &mut Front) -> Result<Judgement
     Ok(Judgement::Entails(entailment))
 }
 
-/// A judgement; moves behind it.
+/// A judgement; moves past it.
 #[tactic(auto, unfolding(crate::specs::Theories::judgement_at))]
 pub fn judgement(alloc: Global, depth: u32, tokens: &mut Front) -> Result<Judgement, ReadFault>
     ensures { Gives (λ found. (judgement_of found, lexemes_in tokens.new)) result

@@ -38,7 +38,7 @@ fn of_sort(alloc: Global, names: &[Text], sort: Sort) -> Result<LogicVars, OutOf
     Ok(all)
 }
 
-// What stands behind the word `logic`.
+// What stands after the word `logic`.
 #[tactic(auto, unfolding(crate::specs::Theories::logic_tail))]
 fn line(alloc: Global, tokens: &mut Front) -> Result<LogicVars, ReadFault>
     ensures { Gives (λ found. (map logic_var_of found, lexemes_in tokens.new)) result
@@ -51,7 +51,7 @@ fn line(alloc: Global, tokens: &mut Front) -> Result<LogicVars, ReadFault>
     Ok(all)
 }
 
-// Reads what stands behind the word `logic`.
+// Reads what stands after the word `logic`.
 #[derive(Clone, Copy)]
 struct LineReader;
 
@@ -73,7 +73,7 @@ impl Reader<LogicVars> for LineReader {
     }
 }
 
-/// The lines, as long as one begins; moves behind them.
+/// The lines, as long as one begins; moves past them.
 #[tactic(auto, unfolding(crate::specs::Theories::logic_lines_at))]
 pub fn lines(alloc: Global, tokens: &mut Front) -> Result<List<LogicVars>, ReadFault>
     ensures { Gives (λ found. (map (map logic_var_of) found, lexemes_in tokens.new)) result

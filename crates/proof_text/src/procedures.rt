@@ -116,7 +116,7 @@ fn set_head(
     }
 }
 
-// What is told of the header and of the steps behind it together.
+// What is told of the header and of the steps after it together.
 fn told_of(head: Told, proof: &ReadSteps) -> Told
     ensures settled { result.is_settled ≡ (head.is_settled && proof.now.are_settled) }
     ensures judged { result.is_judged ≡ (head.is_judged && proof.now.are_judged) }
@@ -127,7 +127,7 @@ fn told_of(head: Told, proof: &ReadSteps) -> Told
     }
 }
 
-// What stands behind the header. The variables of the requires, the ensures and the body get their
+// What stands after the header. The variables of the requires, the ensures and the body get their
 // sorts once the body tells which local variables there are, and those of the proof step by step.
 #[tactic(auto, unfolding(crate::specs::SortedTheories::sorted_contents_at))]
 fn contents(
@@ -179,7 +179,7 @@ fn contents(
     })
 }
 
-// What stands behind the word `proc`.
+// What stands after the word `proc`.
 #[tactic(auto, unfolding(crate::specs::SortedTheories::sorted_procedure_tail))]
 fn procedure(
     alloc: Global,
@@ -224,7 +224,7 @@ pub struct ReadProcedures {
     pub are_judged: bool,
 }
 
-// The procedures behind the first, as long as one begins.
+// The procedures after the first, as long as one begins.
 fn more_procedures(
     alloc: Global,
     first: ReadProcedure,
@@ -267,7 +267,7 @@ fn more_procedures(
     Err(ReadFault::Memory)
 }
 
-/// One procedure or more, with the sorts of what they and the file declare; moves behind them.
+/// One procedure or more, with the sorts of what they and the file declare; moves past them.
 #[tactic(auto, unfolding(crate::specs::SortedTheories::sorted_procedures_at))]
 pub fn procedures(
     alloc: Global,

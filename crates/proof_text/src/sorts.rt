@@ -35,7 +35,7 @@ fn value_sort_of(token: Lexeme) -> Option<ValueSort>
     }
 }
 
-/// A sort of values; moves behind it.
+/// A sort of values; moves past it.
 pub fn value_sort(tokens: &mut Front) -> Result<ValueSort, ReadFault>
     ensures { Gives (λ found. (value_sort_of found, lexemes_in tokens.new)) result
         (leaf leaf_value_sort (lexemes_in tokens.old)) }
@@ -72,7 +72,7 @@ fn data_sort_of(token: Lexeme) -> Option<DataSort>
     }
 }
 
-/// A sort of data; moves behind it.
+/// A sort of data; moves past it.
 pub fn data_sort(tokens: &mut Front) -> Result<DataSort, ReadFault>
     ensures { Gives (λ found. (data_sort_of found, lexemes_in tokens.new)) result
         (leaf leaf_data_sort (lexemes_in tokens.old)) }
@@ -89,7 +89,7 @@ pub fn data_sort(tokens: &mut Front) -> Result<DataSort, ReadFault>
     }
 }
 
-/// A variable as it is used, before it has its sort; moves behind it.
+/// A variable as it is used, before it has its sort; moves past it.
 #[inline(always)]
 pub fn variable(alloc: Global, tokens: &mut Front) -> Result<ProgVar, ReadFault>
     ensures { Gives (λ found. (prog_var_of found, lexemes_in tokens.new)) result

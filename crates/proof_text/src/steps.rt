@@ -55,7 +55,7 @@ fn premises(alloc: Global, tokens: &mut Front) -> Result<Numbers, ReadFault>
     bracketed(alloc, &NumberReader, tokens)
 }
 
-// The arguments of a rule, behind the word `with`.
+// The arguments of a rule, after the word `with`.
 #[tactic(auto, unfolding(crate::specs::Theories::arguments_at))]
 fn arguments(alloc: Global, depth: u32, tokens: &mut Front) -> Result<Terms, ReadFault>
     ensures { Gives (λ found. (map term_of found, lexemes_in tokens.new)) result
@@ -93,7 +93,7 @@ fn reason(alloc: Global, depth: u32, tokens: &mut Front) -> Result<Reason, ReadF
     Ok(reason)
 }
 
-// What stands behind the word `step`, which is on the line.
+// What stands after the word `step`, which is on the line.
 #[tactic(auto, unfolding(crate::specs::Theories::step_tail))]
 fn step(alloc: Global, depth: u32, line: u32, tokens: &mut Front) -> Result<Step, ReadFault>
     ensures { Gives (λ found. (step_of found, lexemes_in tokens.new)) result
@@ -161,7 +161,7 @@ pub struct ReadSteps {
     pub are_judged: bool,
 }
 
-/// The steps of a proof, as long as one begins, with the sorts of what is declared; moves behind
+/// The steps of a proof, as long as one begins, with the sorts of what is declared; moves past
 /// them.
 pub fn steps(
     alloc: Global,

@@ -34,7 +34,7 @@ fn positive(bytes: &[u8]) -> Option<u32>
     }
 }
 
-/// The number of a node or a list that the bytes write behind its mark, or none.
+/// The number of a node or a list that the bytes write after its mark, or none.
 pub fn marked(bytes: &[u8], mark: u8) -> Option<u32>
     ensures { (named : ℕ → Value) → option_map named result ≡ model.marked mark named bytes.now }
 {
@@ -44,7 +44,7 @@ pub fn marked(bytes: &[u8], mark: u8) -> Option<u32>
     }
 }
 
-// The integer below 0 whose digits stand behind its sign, or none.
+// The integer below 0 whose digits stand after its sign, or none.
 fn negative(digits: &[u8]) -> Option<i64>
     ensures { option_map int result
         ≡ model.negative_of (decimal_of standard_limits.integer digits.now) }

@@ -190,7 +190,7 @@ fn traced(words: RunWords) -> Request
     }
 }
 
-// The name of the file behind `check` or `fill`.
+// The name of the file after `check` or `fill`.
 fn file_name(alloc: Global, words: &[String]) -> Result<Text, WordFault>
     ensures named { IfOk result (λ file. map string_bytes words.now ≡ file ∷ []) }
     ensures none { IsErrOf result WordFault.BadWords → (form : List ℕ → model.Request)
@@ -202,7 +202,7 @@ fn file_name(alloc: Global, words: &[String]) -> Result<Text, WordFault>
     Ok(Text::from_str(alloc, file.as_str())?)
 }
 
-// The words behind `check`.
+// The words after `check`.
 fn read_check(alloc: Global, words: &[String]) -> Result<Request, WordFault>
     ensures reading { Reads result (file_of model.check (map string_bytes words.now)) }
     ensures counts { IfOk result Counts }
@@ -211,7 +211,7 @@ fn read_check(alloc: Global, words: &[String]) -> Result<Request, WordFault>
     Ok(Request::Check { file })
 }
 
-// The words behind `fill`.
+// The words after `fill`.
 fn read_fill(alloc: Global, words: &[String]) -> Result<Request, WordFault>
     ensures reading { Reads result (file_of model.fill (map string_bytes words.now)) }
     ensures counts { IfOk result Counts }
@@ -220,7 +220,7 @@ fn read_fill(alloc: Global, words: &[String]) -> Result<Request, WordFault>
     Ok(Request::Fill { file })
 }
 
-// The words behind `wp`.
+// The words after `wp`.
 fn read_wp(alloc: Global, words: &[String]) -> Result<Request, WordFault>
     ensures reading { Reads result (wp_of (map string_bytes words.now)) }
     ensures counts { IfOk result Counts }
@@ -233,7 +233,7 @@ fn read_wp(alloc: Global, words: &[String]) -> Result<Request, WordFault>
     Ok(Request::Wp { file, procedure })
 }
 
-// The words behind `run`.
+// The words after `run`.
 fn read_run(alloc: Global, words: &[String]) -> Result<Request, WordFault>
     ensures reading { Reads result (run_of only_outcome (map string_bytes words.now)) }
     ensures counts { IfOk result Counts }
@@ -241,7 +241,7 @@ fn read_run(alloc: Global, words: &[String]) -> Result<Request, WordFault>
     Ok(plain(RunWords::read(alloc, words)?))
 }
 
-// The words behind `trace`.
+// The words after `trace`.
 fn read_trace(alloc: Global, words: &[String]) -> Result<Request, WordFault>
     ensures reading { Reads result (run_of with_changes (map string_bytes words.now)) }
     ensures counts { IfOk result Counts }
@@ -257,7 +257,7 @@ fn read_watch(alloc: Global, words: &[String]) -> Result<Request, WordFault>
     Ok(watched(RunWords::read(alloc, words)?))
 }
 
-// The number behind `make` or `trial`, or none.
+// The number after `make` or `trial`, or none.
 fn count(words: &[String]) -> Option<u32>
     ensures reading { (form : ℕ → model.Request)
         → option_map form result ≡ count_of form (map string_bytes words.now) }
@@ -272,7 +272,7 @@ fn count(words: &[String]) -> Option<u32>
     }
 }
 
-// The words behind `make`.
+// The words after `make`.
 fn read_make(words: &[String]) -> Result<Request, WordFault>
     ensures reading { Reads result (count_of model.make (map string_bytes words.now)) }
     ensures counts { IfOk result Counts }
@@ -283,7 +283,7 @@ fn read_make(words: &[String]) -> Result<Request, WordFault>
     Ok(Request::Make { count })
 }
 
-// The words behind `trial`.
+// The words after `trial`.
 fn read_trial(words: &[String]) -> Result<Request, WordFault>
     ensures reading { Reads result (count_of model.trial (map string_bytes words.now)) }
     ensures counts { IfOk result Counts }

@@ -20,7 +20,7 @@ pub struct AsciiFront<'a> {
     pub(crate) kind: Option<TokenKind>,
     /// How many brackets may be open.
     pub(crate) most: u32,
-    /// How many are open behind the first token.
+    /// How many are open after the first token.
     pub(crate) open: u32,
     ghost settled: { IsSettled bytes.now from length line kind },
     ghost few: { «open» ≤ most },

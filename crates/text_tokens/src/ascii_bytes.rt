@@ -87,7 +87,7 @@ pub(crate) fn is_space_at(bytes: &[u8], place: usize) -> bool
     place < bytes.len() && bytes[place] == b' '
 }
 
-// The place behind the space at the place, if one stands there. It ends no line.
+// The place after the space at the place, if one stands there. It ends no line.
 #[inline(always)]
 pub(crate) fn behind_space(bytes: &[u8], place: usize) -> usize
     requires { place ≤ length bytes.now }

@@ -25,7 +25,7 @@ fn is_literal_within(own: &[u8]) -> bool
     own.len() <= TEXT_BYTES || is_written_within(between_quotes(own))
 }
 
-// How many brackets are open behind a token with these bytes, where so many are open before it, or
+// How many brackets are open after a token with these bytes, where so many are open before it, or
 // the limit that it passes.
 #[inline(always)]
 pub(crate) fn open_behind_own(
@@ -62,7 +62,7 @@ pub(crate) fn open_behind_own(
 }
 
 // Where the walk goes on from the place: how many bytes it passes, and how many brackets are open
-// behind them. None comes where no token begins, and the limit where the token there passes one.
+// after them. None comes where no token begins, and the limit where the token there passes one.
 #[inline(always)]
 fn step_at(
     bytes: &[u8],

@@ -78,7 +78,7 @@ impl<'a> AsciiFront<'a> {
         }
     }
 
-    // The tokens behind the first.
+    // The tokens after the first.
     #[inline(always)]
     fn behind(self) -> AsciiFront<'a>
         ensures { left_at result ≡ drop 1 (left_at self.entry) }
@@ -101,7 +101,7 @@ impl<'a> AsciiFront<'a> {
     }
 
     // The same where the next token is one that its first byte tells, passes no limit, and stands
-    // right behind the first or behind a space, as most do.
+    // right after the first or after a space, as most do.
     #[inline(always)]
     fn near_behind(self) -> Option<AsciiFront<'a>>
         ensures { IfSome result (λ front. left_at front ≡ drop 1 (left_at self.entry)) }
@@ -135,7 +135,7 @@ impl<'a> AsciiFront<'a> {
         *self = self.behind();
     }
 
-    /// Moves on to the tokens behind the first.
+    /// Moves on to the tokens after the first.
     #[inline(always)]
     pub fn advance(&mut self)
         ensures { left_at self.new ≡ drop 1 (left_at self.old) }

@@ -15,7 +15,7 @@ use crate::ascii_limits::open_behind_own;
 use crate::pieces::{Piece, Start, start_of};
 use crate::tokens::TokenKind;
 
-// How many brackets are open behind one more, if so many may be open.
+// How many brackets are open after one more, if so many may be open.
 #[inline(always)]
 fn opened(before: u32, most: u32) -> Option<u32>
     ensures { IfSome result (λ behind. (behind ≡ before + 1) × (behind ≤ most)) }
@@ -58,7 +58,7 @@ fn near_symbol(
     }
 }
 
-// The token at the place, with its length and how many brackets are open behind it, where its first
+// The token at the place, with its length and how many brackets are open after it, where its first
 // byte tells its kind, and it passes no limit.
 #[inline(always)]
 pub(crate) fn near_token(

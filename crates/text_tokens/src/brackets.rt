@@ -1,4 +1,4 @@
-// How many brackets are open behind a symbol.
+// How many brackets are open after a symbol.
 ghost use Rattle.std.specs.Prelude.{◌≡◌, ◌<◌};
 ghost use Rattle.model_text.specs.Lexemes.{terminal};
 ghost use Rattle.model_text.specs.Nesting as model;
@@ -21,7 +21,7 @@ fn closes(text: &str) -> bool
     is_same(text, ")") || is_same(text, "]") || is_same(text, "}") || is_same(text, ">")
 }
 
-/// How many brackets are open behind the symbol, where so many are open before it.
+/// How many brackets are open after the symbol, where so many are open before it.
 #[inline(always)]
 pub fn open_behind_symbol(before: u64, text: &str) -> u64
     requires { before < 4_294_967_296 }

@@ -57,7 +57,7 @@ impl<'a> Left<'a> {
         }
     }
 
-    // Moves on to the tokens behind the first.
+    // Moves on to the tokens after the first.
     #[tactic(auto, unfolding(crate::specs::Lexemes::lexemes_left))]
     #[inline(always)]
     pub(crate) fn advance(&mut self)
@@ -140,7 +140,7 @@ impl<'a> Front<'a> {
         }
     }
 
-    /// Moves on to the tokens behind the first.
+    /// Moves on to the tokens after the first.
     #[tactic(auto, unfolding(crate::specs::Lexemes::lexemes_in), using(crate::proofs::FrontLemmas::seen_drop))]
     #[inline(always)]
     pub fn advance(&mut self)

@@ -17,7 +17,7 @@ use dom_terms::limits::TEXT_BYTES;
 use dom_terms::{LimitKind, OutOfMemory};
 use std::alloc::Global;
 
-// How many brackets are open behind the token, where so many are open before it.
+// How many brackets are open after the token, where so many are open before it.
 #[tactic(auto, using(crate::proofs::BracketLemmas::brackets))]
 #[inline(always)]
 fn open_behind(before: u64, token: Lexeme) -> u64

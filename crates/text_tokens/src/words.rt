@@ -44,7 +44,7 @@ trait Test {
         ensures { result ≡ passes character };
 }
 
-/// The test of the characters of a word behind its first.
+/// The test of the characters of a word after its first.
 struct InWord;
 
 impl Test for InWord {

@@ -214,7 +214,7 @@ pub fn push_each<T: Lines>(alloc: Global, text: &mut Text, items: &[T]) -> Resul
     Ok(())
 }
 
-// Puts the line of a formula behind a word at the end.
+// Puts the line of a formula after a word at the end.
 #[tactic(auto, using(model_grammar::proofs::Spaced::spaced_rules))]
 fn push_condition_line(
     alloc: Global,

@@ -91,7 +91,7 @@ pub fn push_value_sort(alloc: Global, text: &mut Text, sort: ValueSort) -> Resul
     }
 }
 
-// Puts a variable and the sign behind which stands what it is set to at the end.
+// Puts a variable and the sign after which stands what it is set to at the end.
 #[tactic(auto, using(model_grammar::proofs::Spaced::spaced_rules))]
 fn push_target(alloc: Global, text: &mut Text, x: &ProgVar) -> Result<(), OutOfMemory>
     ensures { OnOk result
@@ -267,7 +267,7 @@ fn push_block(alloc: Global, text: &mut Text, block: &Block) -> Result<(), OutOf
     Ok(())
 }
 
-/// Puts the tokens of the command at the end, each behind a space.
+/// Puts the tokens of the command at the end, each after a space.
 #[cycle(command_writing)]
 pub fn push_command(alloc: Global, text: &mut Text, command: &Command) -> Result<(), OutOfMemory>
     ensures { OnOk result

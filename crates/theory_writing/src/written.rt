@@ -16,7 +16,7 @@ pub trait Writer<T>: Sized {
     // the lexemes of the tokens of an item
     ghost lexemes: { T → List Lexeme };
 
-    /// Puts the tokens of the item at the end, each behind a space.
+    /// Puts the tokens of the item at the end, each after a space.
     fn push(&self, alloc: Global, text: &mut Text, item: &T) -> Result<(), OutOfMemory>
         ensures { OnOk result (text.new ≡ text.old ++ spaced (lexemes item.now)) };
 }
@@ -50,7 +50,7 @@ impl Writer<Term> for TermWriter {
     }
 }
 
-// Puts the items at the end, each behind a mark, from the second on behind a comma.
+// Puts the items at the end, each after a mark, from the second on after a comma.
 fn push_marked<T, W: Writer<T>>(
     alloc: Global,
     text: &mut Text,

@@ -94,7 +94,7 @@ pub fn number(tokens: &mut Front) -> Result<u32, ReadFault>
     }
 }
 
-/// The line of the word `step`, where it comes first, and moves behind it.
+/// The line of the word `step`, where it comes first, and moves past it.
 pub fn step_line(tokens: &mut Front) -> Option<u32>
     ensures { MatchOption result (NoStep (lexemes_in tokens.old) (lexemes_in tokens.new))
         (λ line. first leaf_step (lexemes_in tokens.old) ≡ Some (line, lexemes_in tokens.new)) }

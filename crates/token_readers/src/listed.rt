@@ -23,7 +23,7 @@ pub trait Reader<T> {
     // how it is read from lexemes
     ghost reading: { Self → Read Seen };
 
-    /// The item; moves behind it.
+    /// The item; moves past it.
     fn read(&self, alloc: Global, tokens: &mut Front) -> Result<T, ReadFault>
         ensures { Gives (λ item. (seen item, lexemes_in tokens.new)) result
             (reading self.now (lexemes_in tokens.old)) };
@@ -98,7 +98,7 @@ pub fn separated<T: Drop, R: Reader<T>, L: Gathers<T>>(
     Err(ReadFault::Memory)
 }
 
-/// Those found before, and items as long as the word comes, each behind it.
+/// Those found before, and items as long as the word comes, each after it.
 pub fn repeated<T: Drop, R: Reader<T>, L: Gathers<T>>(
     alloc: Global,
     reader: &R,

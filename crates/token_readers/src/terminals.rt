@@ -15,7 +15,7 @@ pub fn is_this(token: Lexeme, text: &str) -> bool
     token.is_terminal(text)
 }
 
-/// Moves behind the reserved word or symbol, where it comes first, and tells whether it does.
+/// Moves past the reserved word or symbol, where it comes first, and tells whether it does.
 #[inline(always)]
 pub fn skip(tokens: &mut Front, text: &str) -> bool
     ensures { MatchBool result
@@ -31,7 +31,7 @@ pub fn skip(tokens: &mut Front, text: &str) -> bool
     }
 }
 
-/// Moves behind the reserved word or symbol, which has to come first.
+/// Moves past the reserved word or symbol, which has to come first.
 #[inline(always)]
 pub fn expect(tokens: &mut Front, text: &str) -> Result<(), ReadFault>
     ensures { Gives (λ _. lexemes_in tokens.new) result
@@ -44,7 +44,7 @@ pub fn expect(tokens: &mut Front, text: &str) -> Result<(), ReadFault>
     }
 }
 
-/// What was read, where this reserved word or symbol stands behind it; moves behind that. Where
+/// What was read, where this reserved word or symbol stands after it; moves past that. Where
 /// another does, what was read is let go here, and not in the caller, where each of its shapes
 /// would be gone through in the proof.
 #[inline(always)]

@@ -1,4 +1,4 @@
-// The rules for choice and loops: one premise for each block, behind the test of the condition.
+// The rules for choice and loops: one premise for each block, after the test of the condition.
 ghost use Rattle.std.specs.Prelude.{◌≡◌, [], ◌∷◌, true, false};
 ghost use Rattle.model_files.specs.Sizes.{IsSmall};
 ghost use Rattle.model_formulas.specs.Nameless.{nameless};

@@ -28,7 +28,7 @@ use formula_syntax::{AnyVar, Formula, Pair};
 use std::alloc::Global;
 use theory_syntax::{Command, Procedure, Triple};
 
-// The pairs, and behind them the variables, each with the term at its place.
+// The pairs, and after them the variables, each with the term at its place.
 fn with_pairs(
     alloc: Global,
     mut pairs: List<Pair>,

@@ -22,7 +22,7 @@ use formula_syntax::Formula;
 use std::alloc::Global;
 use theory_syntax::{Command, Judgement};
 
-// The formula behind the command, where the judgement is its triple from the formula before.
+// The formula after the command, where the judgement is its triple from the formula before.
 fn after<'a>(
     alloc: Global,
     judgement: &'a Judgement,

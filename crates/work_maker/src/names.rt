@@ -12,7 +12,7 @@ fn characters(alloc: Global, letters: &str, number: u32) -> Result<String, Alloc
     format!(in alloc; "{letters}{number}")
 }
 
-/// The letters with the number behind them, as `p12`.
+/// The letters with the number after them, as `p12`.
 pub fn numbered(alloc: Global, letters: &str, number: u32) -> Result<Text, OutOfMemory>
     ensures { IfOk result (λ text. text ≡ letters.now ++ decimal number) }
 {

@@ -15,7 +15,7 @@ use dom_terms::{List, LogicVar, LogicVars, OutOfMemory, ProgVar, Sort, Text};
 use std::alloc::{AllocError, Global};
 use theory_syntax::{Block, Command};
 
-// Puts the sorts behind those that are there.
+// Puts the sorts after those that are there.
 fn push_all(sorts: &mut List<Sort>, more: &[Sort]) -> Result<(), OutOfMemory>
     ensures { OnOk result (sorts.new ≡ sorts.old ++ more.now) }
 {
@@ -33,7 +33,7 @@ fn push_sorts(sorts: &mut List<Sort>, more: &[Sort]) -> Result<(), OutOfMemory>
     push_all(sorts, more)
 }
 
-// Puts the sort of the variable and the others behind those that are there.
+// Puts the sort of the variable and the others after those that are there.
 fn push_value(sorts: &mut List<Sort>, x: &ProgVar, more: &[Sort]) -> Result<(), OutOfMemory>
     ensures { OnOk result (map sort_of sorts.new
         ≡ map sort_of sorts.old ++ (value (value_sort_of x.now.sort) ∷ map sort_of more.now)) }
@@ -42,7 +42,7 @@ fn push_value(sorts: &mut List<Sort>, x: &ProgVar, more: &[Sort]) -> Result<(), 
     push_all(sorts, more)
 }
 
-/// Puts the sorts of the variables that the command brings behind those that are there.
+/// Puts the sorts of the variables that the command brings after those that are there.
 #[cycle(add_sorts)]
 pub(crate) fn add_sorts(command: &Command, sorts: &mut List<Sort>) -> Result<(), OutOfMemory>
     ensures { OnOk result (map sort_of sorts.new
@@ -111,7 +111,7 @@ fn sort_at(sorts: &[Sort], place: usize) -> Option<Sort>
     sorts.get(place).copied()
 }
 
-// Puts a variable of the sort and with the name of the number behind those that are there, if the
+// Puts a variable of the sort and with the name of the number after those that are there, if the
 // name isn't declared.
 fn push_new(
     alloc: Global,

@@ -40,7 +40,7 @@ fn first_in_block(block: &Block) -> Option<&Command>
     None
 }
 
-/// The number behind that of the last command in the command, itself the one with this number, or
+/// The number after that of the last command in the command, itself the one with this number, or
 /// else the number of the first that isn't straight-line.
 #[cycle(place_after)]
 pub(crate) fn place_after(command: &Command, place: u32) -> Result<u32, u32>

@@ -329,7 +329,7 @@ pub(crate) const REMOVED: Row<'static> = Exists(
     ),
 );
 
-// INSERTION: the names behind those of appendChild
+// INSERTION: the names after those of appendChild
 const INSERT_BEFORE: Row<'static> = App(
     DataSort::Tree,
     &Var(8, CONTEXT),

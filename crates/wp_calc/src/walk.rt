@@ -37,7 +37,7 @@ impl<'a> Supply<'a> {
     }
 }
 
-// The variables behind the first ones.
+// The variables after the first ones.
 #[tactic(auto, using(crate::proofs::NameLaws::drop_rules))]
 fn behind(variables: &[LogicVar], count: usize) -> &[LogicVar]
     ensures { result.now ≡ drop count variables.now }

@@ -60,7 +60,8 @@ returns-in-Ok-Run-clause-heard g c =
 
 pub returns-in-Ok-Trace-clause-heard : goal.returns-in-Ok-Trace-clause-heard
 returns-in-Ok-Trace-clause-heard g c =
-    rw (rw c.in-Ok-Trace.field-0-is at c.in-Ok-Trace.ensures.reading) c.run-in-Ok-Trace.ensures.heard
+    rw (rw c.in-Ok-Trace.field-0-is at c.in-Ok-Trace.ensures.reading)
+    c.run-in-Ok-Trace.ensures.heard
 
 pub returns-in-Ok-Watch-clause-answer : goal.returns-in-Ok-Watch-clause-answer
 returns-in-Ok-Watch-clause-answer g c =

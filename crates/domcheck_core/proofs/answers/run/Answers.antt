@@ -28,14 +28,16 @@ returns-in-Answered-clause-answer g c = λ voices.
 
 pub returns-in-Called-clause-heard : goal.returns-in-Called-clause-heard
 returns-in-Called-clause-heard g c =
-    called_read (form_of c.args.form) (g.L.Library.book c.args.library.now) c.args.file.now c.args.procedure.now
+    called_read (form_of c.args.form) (g.L.Library.book c.args.library.now) c.args.file.now
+    c.args.procedure.now
     c.args.arguments.now c.args.document.now c.args.fuel (end_of c.run_book-reply.result) _ _
     c.in-Called.theory c.in-Called.call (rw c.in-Called.is at c.in_ok-theory.ensures.opened) _
     (c.in_ok-theory.ensures.kept c.args.document.now) c.run_book-reply.ensures.heard
 
 pub returns-in-Answered-clause-heard : goal.returns-in-Answered-clause-heard
 returns-in-Answered-clause-heard g c =
-    answered_read (form_of c.args.form) (g.L.Library.book c.args.library.now) c.args.file.now c.args.procedure.now
+    answered_read (form_of c.args.form) (g.L.Library.book c.args.library.now) c.args.file.now
+    c.args.procedure.now
     c.args.arguments.now c.args.document.now c.args.fuel _ c.in-Answered.reply
     (rw c.in-Answered.is at c.in_ok-theory.ensures.opened)
 

@@ -20,7 +20,8 @@ returns-clause-answer g c = λ p e document same.
     let values = map value_seen c.args.call.values in
     let results : map prog_var_of c.as_slice.result.now ≡ (procedure_of p).results =
     ap (map prog_var_of) c.as_slice.ensures ∙ ap (λ z. (procedure_of z).results) here in
-    let run = λ (within : ℕ). outcome standard_limits (procedures_of theory) (procedure_of p).results
+    let run = λ (within : ℕ). outcome standard_limits (procedures_of theory)
+    (procedure_of p).results
     within 0 (start (procedure_of p) values document) in
     let comes = outcome_on theory (procedure_of p) values c.args.fuel document in
     let told = changes_on theory (procedure_of p) values document in
@@ -40,7 +41,8 @@ returns-clause-heard g c = λ p e document same passes.
     let values = map value_seen c.args.call.values in
     let results : map prog_var_of c.as_slice.result.now ≡ (procedure_of p).results =
     ap (map prog_var_of) c.as_slice.ensures ∙ ap (λ z. (procedure_of z).results) here in
-    let run = λ (within : ℕ). outcome standard_limits (procedures_of theory) (procedure_of p).results
+    let run = λ (within : ℕ). outcome standard_limits (procedures_of theory)
+    (procedure_of p).results
     within 0 (start (procedure_of p) values document) in
     let traces = c.trace_heap-traced.ensures.changes p e document same in
     let came = came_out run c.args.fuel c.trace_heap-traced.result.outcome

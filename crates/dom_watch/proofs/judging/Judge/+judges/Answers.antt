@@ -19,7 +19,8 @@ judges-returns-in-true t c =
     ≡ conjunction (formula_of c.deref.result.now) (formula_of c.deref-in-true.result.now) = cc in
     and_on c.args.self.now.rows.now (store_of c.args.self.now.store.now) c.args.bindings.now
     (formula_of c.deref.result.now) (formula_of c.deref-in-true.result.now)
-    (formula_of c.args.formula.now) c.args.trees.now c.in_ok-judges-in-And.field-0 c.judges-in-true.result is
+    (formula_of c.args.formula.now) c.args.trees.now c.in_ok-judges-in-And.field-0
+    c.judges-in-true.result is
     c.in-true.is c.in_ok-judges-in-And.ensures c.judges-in-true.ensures
 
 pub judges-returns-in-false : goal.judges-returns-in-false
@@ -46,20 +47,24 @@ pub judges-returns-in-false-2 : goal.judges-returns-in-false-2
 judges-returns-in-false-2 t c =
     let a = ap formula_of c.in-Or.is in
     let is : formula_of c.args.formula.now
-    ≡ disjunction (formula_of c.deref-in-Or.result.now) (formula_of c.deref-in-false-2.result.now) = cc in
+    ≡ disjunction (formula_of c.deref-in-Or.result.now)
+    (formula_of c.deref-in-false-2.result.now) = cc in
     or_on c.args.self.now.rows.now (store_of c.args.self.now.store.now) c.args.bindings.now
     (formula_of c.deref-in-Or.result.now) (formula_of c.deref-in-false-2.result.now)
-    (formula_of c.args.formula.now) c.args.trees.now c.in_ok-judges-in-Or.field-0 c.judges-in-false-2.result is
+    (formula_of c.args.formula.now) c.args.trees.now c.in_ok-judges-in-Or.field-0
+    c.judges-in-false-2.result is
     c.in-false-2.is c.in_ok-judges-in-Or.ensures c.judges-in-false-2.ensures
 
 pub judges-returns-in-true-3 : goal.judges-returns-in-true-3
 judges-returns-in-true-3 t c =
     let a = ap formula_of c.in-Imp.is in
     let is : formula_of c.args.formula.now
-    ≡ implication (formula_of c.deref-in-Imp.result.now) (formula_of c.deref-in-true-3.result.now) = cc in
+    ≡ implication (formula_of c.deref-in-Imp.result.now)
+    (formula_of c.deref-in-true-3.result.now) = cc in
     implies_on c.args.self.now.rows.now (store_of c.args.self.now.store.now) c.args.bindings.now
     (formula_of c.deref-in-Imp.result.now) (formula_of c.deref-in-true-3.result.now)
-    (formula_of c.args.formula.now) c.args.trees.now c.in_ok-judges-in-Imp.field-0 c.judges-in-true-3.result is
+    (formula_of c.args.formula.now) c.args.trees.now c.in_ok-judges-in-Imp.field-0
+    c.judges-in-true-3.result is
     c.in-true-3.is c.in_ok-judges-in-Imp.ensures c.judges-in-true-3.ensures
 
 pub judges-returns-in-false-3 : goal.judges-returns-in-false-3
@@ -80,7 +85,8 @@ judges-judges-requires-in-true-4 t c =
       (
         search rules,
         kids_shown c.args.self.now.rows.now c.row-item.result
-            c.requires.shown.0 (subst (λ rs. Shows c.args.self.now.rows.now rs c.requires.shown.0) row
+            c.requires.shown.0 (subst (λ rs. Shows c.args.self.now.rows.now rs c.requires.shown.0)
+            row
             c.requires.shown.1),
       ),
     )
@@ -101,7 +107,8 @@ judges-returns-in-true-4 t c =
     let is : formula_of c.args.formula.now ≡ node_formula (term_of c.in-Node.name)
     (term_of c.in-Node.number) (formula_of c.deref-in-true-4.result.now) (term_of c.in-Node.list) =
     cc in
-    subst (λ rs. Tells c.args.self.now.rows.now (store_of c.args.self.now.store.now) c.args.bindings.now
+    subst (λ rs. Tells c.args.self.now.rows.now (store_of c.args.self.now.store.now)
+    c.args.bindings.now
     (formula_of c.args.formula.now) rs c.judges-in-true-4.result) (sym row)
     (node_on c.args.self.now.rows.now (store_of c.args.self.now.store.now) c.args.bindings.now
     (term_of c.in-Node.name) (term_of c.in-Node.number) (term_of c.in-Node.list)
@@ -115,7 +122,8 @@ judges-returns-in-Plus t c =
     let is : formula_of c.args.formula.now ≡ grove_sum (formula_of c.deref-in-Plus.result.now)
     (formula_of c.deref-in-Plus-2.result.now) = cc in
     let r : model.is_root (formula_of c.deref-in-Plus.result.now) ≡ true = cc in
-    plus_on c.args.self.now.rows.now (store_of c.args.self.now.store.now) c.args.bindings.now c.args.trees.now
+    plus_on c.args.self.now.rows.now (store_of c.args.self.now.store.now) c.args.bindings.now
+    c.args.trees.now
     c.judges_root.result (formula_of c.deref-in-Plus.result.now)
     (formula_of c.deref-in-Plus-2.result.now) (formula_of c.args.formula.now) is r
     c.judges_root.ensures
@@ -126,14 +134,16 @@ judges-returns-in-Plus-2 t c =
     let is : formula_of c.args.formula.now ≡ grove_sum (formula_of c.deref-in-Plus-2-3.result.now)
     (formula_of c.deref-in-Plus-2-2.result.now) = cc in
     let r : model.is_root (formula_of c.deref-in-Plus-2-3.result.now) ≡ false = cc in
-    plus_off c.args.self.now.rows.now (store_of c.args.self.now.store.now) c.args.bindings.now c.args.trees.now
+    plus_off c.args.self.now.rows.now (store_of c.args.self.now.store.now) c.args.bindings.now
+    c.args.trees.now
     c.judges_root-in-Plus-2.result (formula_of c.deref-in-Plus-2-3.result.now)
     (formula_of c.deref-in-Plus-2-2.result.now) (formula_of c.args.formula.now) is r
     c.judges_root-in-Plus-2.ensures
 
 pub judges-returns-in-Len : goal.judges-returns-in-Len
 judges-returns-in-Len t c =
-    length_on c.args.self.now.rows.now (store_of c.args.self.now.store.now) c.args.bindings.now c.args.trees.now
+    length_on c.args.self.now.rows.now (store_of c.args.self.now.store.now) c.args.bindings.now
+    c.args.trees.now
     c.is_length.result (term_of c.in-Len.length) (formula_of c.args.formula.now)
     (ap formula_of c.in-Len.is) c.is_length.ensures
 
@@ -143,14 +153,16 @@ judges-returns-in-len1-trees t c =
     ⊎_elim
     (λ e. let is : formula_of c.args.formula.now
     ≡ one_tree (formula_of c.deref-in-len1-trees.result.now) = let a = ap formula_of e in cc in
-    subst (λ m. Tells c.args.self.now.rows.now (store_of c.args.self.now.store.now) c.args.bindings.now m
+    subst (λ m. Tells c.args.self.now.rows.now (store_of c.args.self.now.store.now)
+    c.args.bindings.now m
     c.args.trees.now c.judges-in-len1-trees.result) (sym is)
     (tree_on c.args.self.now.rows.now (store_of c.args.self.now.store.now) c.args.bindings.now
     (formula_of c.deref-in-len1-trees.result.now) c.args.trees.now c.judges-in-len1-trees.result
     one c.judges-in-len1-trees.ensures))
     (λ e. let is : formula_of c.args.formula.now
     ≡ one_root (formula_of c.deref-in-len1-trees.result.now) = let a = ap formula_of e in cc in
-    subst (λ m. Tells c.args.self.now.rows.now (store_of c.args.self.now.store.now) c.args.bindings.now m
+    subst (λ m. Tells c.args.self.now.rows.now (store_of c.args.self.now.store.now)
+    c.args.bindings.now m
     c.args.trees.now c.judges-in-len1-trees.result) (sym is)
     (one_root_on c.args.self.now.rows.now (store_of c.args.self.now.store.now) c.args.bindings.now
     (formula_of c.deref-in-len1-trees.result.now) c.args.trees.now c.judges-in-len1-trees.result
@@ -250,7 +262,8 @@ judges_root-judges-requires-then-branch t c = (
     c.requires.others,
     (
       all_but c.loop-place.place c.requires.shown.0,
-      subst (λ rs. Shows c.args.self.now.rows.now rs (all_but c.loop-place.place c.requires.shown.0))
+      subst (λ rs. Shows c.args.self.now.rows.now rs
+          (all_but c.loop-place.place c.requires.shown.0))
           (sym (c.deref.ensures.value ∙ c.in_ok-leave_out.ensures))
           (shown_others c.args.self.now.rows.now c.args.trees.now c.requires.shown.0
           c.loop-place.place c.loop-place-test.true c.requires.shown.1),

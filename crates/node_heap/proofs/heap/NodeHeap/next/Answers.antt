@@ -25,7 +25,8 @@ it c = found c.self.inside.records c.self.inside.nodes.items c.self.inside.lists
 there : (c : In-Some) (k : ℕ) (r : Record) → get c.self.inside.records c.in-Some.key ≡ Some r
     → r.next ≡ Some k → Points c.self.inside.records c.self.inside.nodes.items
     (grove_of c.self.inside.records c.self.inside.nodes.items)
-    (after c.args.node (row (rows_of (grove_of c.self.inside.records c.self.inside.nodes.items)) (it c).entry.parent)) k
+    (after c.args.node (row (rows_of (grove_of c.self.inside.records c.self.inside.nodes.items))
+    (it c).entry.parent)) k
 there c k r a p =
     let f = it c in
     let same : f.it ≡ r = let x = f.at in cc in
@@ -64,7 +65,9 @@ returns-in-None-next c =
     (grove_of c.self.inside.records c.self.inside.nodes.items) c.self.invariant.links
     None c.args.node c.in-Some.key f
     c.args.self.now.grove (ap (λ (v : HeapView). v.grove) c.self.view_is)
-    (sym (from_none (key_in c.self.inside.nodes.items) (after c.args.node (row (rows_of (grove_of c.self.inside.records c.self.inside.nodes.items)) f.entry.parent))
+    (sym (from_none (key_in c.self.inside.nodes.items)
+    (after c.args.node (row (rows_of (grove_of c.self.inside.records c.self.inside.nodes.items))
+    f.entry.parent))
     (sym f.fits.next ∙ ap (λ (r : Record). r.next) same ∙ c.in-None-next.is)))
 
 pub returns-in-None : goal.returns-in-None
